@@ -1,0 +1,4 @@
+pub mod Comparisons
+pub mod KeyOrder
+pub mod Patterns
+pub mod Widths

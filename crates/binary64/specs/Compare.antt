@@ -1,0 +1,41 @@
+-- Comparisons of doubles as document 01 uses them: minimum and maximum, nearness, size. Definitions only.
+use mathlib.Core.Bool.{Bool, true, false, _||_, cond}
+use Prim.Native.Nat.{_^_}
+use lib.Ieee.{Float, nan, inf, fin, binary64, isNan, lt, le, sub, round}
+
+-- "the minimum and maximum that pass over NaN; of two equal numbers they keep the first" (document 01, the head)
+unfoldable pub minimum : Float → Float → Float
+minimum a b = cond (lt b a || isNan a) b a
+
+unfoldable pub maximum : Float → Float → Float
+maximum a b = cond (lt a b || isNan a) b a
+
+-- not a NaN and no infinity (document 01, "Nothing, or dropped")
+unfoldable pub finite : Float → Bool
+finite nan = false
+finite (inf s) = false
+finite (fin s m e) = true
+
+-- a number without its sign
+unfoldable pub magnitude : Float → Float
+magnitude nan = nan
+magnitude (inf s) = inf false
+magnitude (fin s m e) = fin false m e
+
+-- 1e-10, the double nearest to it
+unfoldable pub tolerance : Float
+unfolding round
+tolerance = round binary64 false 1 (10 ^ 10)
+
+-- "differ by less than 1e-10" (document 01, "Unchanged", "Overlay wanted"): one rounded difference
+unfoldable pub near : Float → Float → Bool
+near a b = lt (magnitude (sub binary64 a b)) tolerance
+
+-- 1e150, the double nearest to it
+unfoldable pub limit : Float
+unfolding round
+limit = round binary64 false (10 ^ 150) 1
+
+-- "magnitude 1e150 or more" (document 01, "Overlay wanted")
+unfoldable pub huge : Float → Bool
+huge x = le limit (magnitude x)

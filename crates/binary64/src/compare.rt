@@ -1,0 +1,56 @@
+// Comparisons of doubles: the minimum and maximum of Rust's `f64::min` and `f64::max`, nearness within 1e-10, finiteness and size.
+ghost use mathlib.Core.Path.{_≡_};
+ghost use Rattle.binary64.specs.Compare as S;
+
+const TOLERANCE: f64 = 1e-10;
+
+const LIMIT: f64 = 1e150;
+
+// The smaller of two: passes over a NaN, and of two equal numbers keeps the first.
+pub fn minimum(a: f64, b: f64) -> f64
+    ensures { λ r. ⌜ r ≡ S.minimum a b ⌝ }
+{
+    if b < a {
+        return b;
+    }
+    if a != a {
+        return b;
+    }
+    a
+}
+
+// The larger of two, with the same rules.
+pub fn maximum(a: f64, b: f64) -> f64
+    ensures { λ r. ⌜ r ≡ S.maximum a b ⌝ }
+{
+    if a < b {
+        return b;
+    }
+    if a != a {
+        return b;
+    }
+    a
+}
+
+// Neither a NaN nor an infinity.
+pub fn is_finite(x: f64) -> bool
+    ensures { λ r. ⌜ r ≡ S.finite x ⌝ }
+{
+    let infinity = 1.0 / 0.0;
+    x < infinity && -infinity < x
+}
+
+// The two differ by less than 1e-10. An infinity is not near itself.
+pub fn is_near(a: f64, b: f64) -> bool
+    ensures { λ r. ⌜ r ≡ S.near a b ⌝ }
+{
+    let d = a - b;
+    d < TOLERANCE && -TOLERANCE < d
+}
+
+// The magnitude is 1e150 or more.
+pub fn is_huge(x: f64) -> bool
+    ensures { λ r. ⌜ r ≡ S.huge x ⌝ }
+{
+    LIMIT <= x || x <= -LIMIT
+}
