@@ -9,9 +9,10 @@ use lib.Dec.{T, ltb, eqb}
 use lib.IntN.{ℤ, pos, negsuc}
 use lib.Ieee.{Float, nan, inf, fin, binary64, isNan, ofBits, up, down, neg, lt, le, eq, ne}
 use lib.Ieee.Compare.{differs-from-itself}
+use lib.Ieee.Scale.{finite}
 use lib.Ieee.Fits.{up-pos, down-pos}
 use borrow.Author.Tests.{lt-ltb, eq-eqb, ne-eqb}
-use Rattle.binary64.specs.Compare.{finite, magnitude, tolerance, limit}
+use Rattle.binary64.specs.Compare.{magnitude, tolerance, limit}
 
 -- a number differs from itself exactly if it is a NaN
 pub ne-self : (x : Float) → ne x x ≡ isNan x
@@ -29,7 +30,7 @@ ne-self (fin s m e) = not-true (ne (fin s m e) (fin s m e)) (λ t.
     not-true false h = refl
 
 pub finite-test : (x : Float) → lt x (inf false) && lt (inf true) x ≡ finite x
-unfolding finite lt
+unfolding lt
 finite-test nan = refl
 finite-test (inf true) = refl
 finite-test (inf false) = refl

@@ -1,4 +1,11 @@
+pub mod Arithmetic
 pub mod Comparisons
+pub mod Cut
+pub mod Fill
 pub mod KeyOrder
+pub mod Lines
+pub mod Order
 pub mod Patterns
+pub mod Rounding
+pub mod Value
 pub mod Widths

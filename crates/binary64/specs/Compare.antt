@@ -1,4 +1,5 @@
 -- Comparisons of doubles as document 01 uses them: minimum and maximum, nearness, size. Definitions only.
+-- That a number is neither NaN nor infinite is `finite` of `lib.Ieee.Scale`.
 use mathlib.Core.Bool.{Bool, true, false, _||_, cond}
 use Prim.Native.Nat.{_^_}
 use lib.Ieee.{Float, nan, inf, fin, binary64, isNan, lt, le, sub, round}
@@ -9,12 +10,6 @@ minimum a b = cond (lt b a || isNan a) b a
 
 unfoldable pub maximum : Float → Float → Float
 maximum a b = cond (lt a b || isNan a) b a
-
--- not a NaN and no infinity (document 01, "Nothing, or dropped")
-unfoldable pub finite : Float → Bool
-finite nan = false
-finite (inf s) = false
-finite (fin s m e) = true
 
 -- a number without its sign
 unfoldable pub magnitude : Float → Float

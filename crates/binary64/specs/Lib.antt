@@ -1,3 +1,5 @@
 pub mod Compare
 pub mod Bytes
 pub mod TotalOrder
+pub mod Slices
+pub mod Scaled

@@ -1,5 +1,6 @@
 // Comparisons of doubles: the minimum and maximum of Rust's `f64::min` and `f64::max`, nearness within 1e-10, finiteness and size.
 ghost use mathlib.Core.Path.{_≡_};
+ghost use lib.Ieee.Scale.{finite};
 ghost use Rattle.binary64.specs.Compare as S;
 
 const TOLERANCE: f64 = 1e-10;
@@ -34,7 +35,7 @@ pub fn maximum(a: f64, b: f64) -> f64
 
 // Neither a NaN nor an infinity.
 pub fn is_finite(x: f64) -> bool
-    ensures { λ r. ⌜ r ≡ S.finite x ⌝ }
+    ensures { λ r. ⌜ r ≡ finite x ⌝ }
 {
     let infinity = 1.0 / 0.0;
     x < infinity && -infinity < x
