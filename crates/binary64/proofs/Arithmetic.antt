@@ -2,18 +2,17 @@
 -- no nearer to zero, on its side, is from 0 to 1; and a product with a factor from 0 to 1 goes no further from zero than the other factor. Assumes nothing.
 use mathlib.Core.Path.{_≡_, refl, sym, ap, ap₂, _∙_}
 use mathlib.Core.Logic.{_⊎_, inl, inr}
-use mathlib.Core.Bool.{Bool, true, false, not, _&&_, cond}
+use mathlib.Core.Bool.{Bool, true, false, not, cond}
 use Prim.Native.Nat.{ℕ, _+_, _-_, _*_, _^_, _≤_, _<_}
-use native.Mathlib.Nat.{le-trans, le-of-eq, le-of-lt, lt-of-le-of-lt, lt-irrefl, mul-comm, mul-sub, mul-le-mul-right, le-of-mul-le-mul-right, mul-pos}
+use native.Mathlib.Nat.{le-trans, le-of-eq, le-of-lt, lt-of-le-of-lt, mul-comm, mul-sub, mul-le-mul-right, le-of-mul-le-mul-right, mul-pos}
 use native.Mathlib.Omega.{arith}
-use lib.IntN.{ℤ}
 use lib.Dec.{T, ltb, eqb, ltb→lt, nltb→le, eqb→eq, not-T}
 use lib.Pow.{pow-pos}
-use lib.Ieee.{Float, nan, inf, fin, Format, emax, low, unlike, up, down, round, sum, neg, add, sub, mul, div, fits}
+use lib.Ieee.{Float, nan, inf, fin, Format, low, unlike, up, down, round, sum, neg, add, sub, mul, div}
 use lib.Ieee.Bits.{cond-no}
 use lib.Ieee.Fits.{down-pos, neg-fits}
-use lib.Ieee.Positive.{num, den, den-pos, first-pos}
-use lib.Ieee.Scale.{grid, overflow, finite, round-same}
+use lib.Ieee.Positive.{num, den, first-pos}
+use lib.Ieee.Scale.{grid, overflow, round-same}
 use Rattle.binary64.specs.Scaled.{mag, plus, minus}
 use Rattle.binary64.proofs.Order.{above, under}
 use Rattle.binary64.proofs.Value.{Number, Parts, Held, distance, held-zero, mag-whole}
@@ -63,7 +62,7 @@ module _ (f : Format) (X Y a b C : ℕ) (c : 0 < C) (p : X * 2 ^ low f ≡ a * C
       sub-mul : (x y l : ℕ) → (x - y) * l ≡ x * l - y * l
       sub-mul x y l = mul-comm (x - y) l ∙ mul-sub l x y ∙ ap₂ _-_ (mul-comm l x) (mul-comm l y)
 
-pub sum-rounded : (f : Format) (s : Bool) (X : ℕ) (t : Bool) (Y a b C : ℕ) → 0 < C → X * 2 ^ low f ≡ a * C → Y * 2 ^ low f ≡ b * C
+sum-rounded : (f : Format) (s : Bool) (X : ℕ) (t : Bool) (Y a b C : ℕ) → 0 < C → X * 2 ^ low f ≡ a * C → Y * 2 ^ low f ≡ b * C
     → rnd f (distance (above s a + above t b) (under s a + under t b)) < overflow f → Rounded f (sum f s X t Y C) (above s a + above t b) (under s a + under t b)
 unfolding sum
 sum-rounded f false X false Y a b C c p q o = round-sum f false (X + Y) C (a + b) (a + b) (0 + 0) c (together f X Y a b C c p q) (omega arith) (omega arith) o

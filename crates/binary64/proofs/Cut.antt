@@ -1,17 +1,17 @@
 -- One cut: `interpolate` leaves no range that both ends lie in by more than 2 ^ (k + 1) units, where the ends and the line are below 2 ^ (prec + k) units in size.
 -- For a double and k = 1030: below 512, at most 1 / 2 ^ 43. Of the line it asks only that it lies between the ends. Assumes nothing.
-use mathlib.Core.Path.{_≡_, sym, ap, _∙_}
+use mathlib.Core.Path.{_≡_, ap, _∙_}
 use mathlib.Core.Logic.{_⊎_, inl, inr}
 use Prim.Native.Nat.{ℕ, suc, _+_, _-_, _^_, _≤_, _<_}
-use native.Mathlib.Nat.{le-trans, le-of-eq, le-of-lt, lt-of-le-of-lt, eq-zero-or-pos, two-pow-succ, add-suc}
+use native.Mathlib.Nat.{le-trans, le-of-eq, le-of-lt, eq-zero-or-pos, two-pow-succ, add-suc}
 use native.Mathlib.Omega.{arith}
 use lib.Pow.{pow-mono}
 use lib.Ieee.{Float, Format, prec, emax, low, add, sub, mul, div}
 use lib.Ieee.Scale.{overflow}
 use Rattle.binary64.specs.Scaled.{mag, plus, minus, Le, Lt, interpolate}
-use Rattle.binary64.proofs.Value.{Number, Parts, distance, mag-whole, mag-parts}
+use Rattle.binary64.proofs.Value.{Number, distance, mag-whole, mag-parts}
 use Rattle.binary64.proofs.Rounding.{rnd, rnd-zero, rnd-mono, rnd-small, rnd-pos, Off, rnd-off}
-use Rattle.binary64.proofs.Arithmetic.{Rounded, add-rounded, sub-rounded, AtMost, Ratio, Inside, div-ratio, mul-shrinks}
+use Rattle.binary64.proofs.Arithmetic.{Rounded, add-rounded, sub-rounded, AtMost, Ratio, Inside, PartOf, div-ratio, mul-shrinks}
 
 -- a number of the format, below 2 ^ (prec + k) units in size
 pub record Small (f : Format) (k : ℕ) (x : Float) : Type 0 where
@@ -38,7 +38,7 @@ difference-lt {f} {k} hx hy =
 sub-small : {f : Format} {k : ℕ} {x y : Float} → Room f k → Small f k x → Small f k y → Rounded f (sub f x y) (plus f x + minus f y) (minus f x + plus f y)
 sub-small {f} r hx hy = sub-rounded (hx .number) (hy .number) (rnd-small f (le-of-lt (difference-lt hx hy)) r)
 
--- ---- the line lies between the ends, and these differ
+-- ---- the line lies between the ends, from the lower to the higher or the other way, and the ends differ
 abbrev pub Upward : Format → Float → Float → Float → Type 0
 Upward f a c b = Le f a c × Le f c b × Lt f a b
 
@@ -48,8 +48,10 @@ Between f a c b = Upward f a c b ⊎ Upward f b c a
 rnd-of-zero : (f : Format) (n : ℕ) → n ≡ 0 → rnd f n ≡ 0
 rnd-of-zero f n e = ap (rnd f) e ∙ rnd-zero f
 
-inside-of-rounded : (f : Format) (p q r s px nx py ny : ℕ) → px ≡ rnd f (p - q) → nx ≡ rnd f (q - p) → py ≡ rnd f (r - s) → ny ≡ rnd f (s - r) → py < overflow f → q ≤ p → s < r → p + s ≤ r + q → Inside px nx py ny
-inside-of-rounded f p q r s px nx py ny a b c d o u v w =
+-- p - q lies from 0 to r - s, and so do the two when rounded
+inside-of-rounded : {px nx py ny : ℕ} (f : Format) (p q r s : ℕ) → px ≡ rnd f (p - q) → nx ≡ rnd f (q - p) → py ≡ rnd f (r - s) → ny ≡ rnd f (s - r)
+    → py < overflow f → q ≤ p → s < r → p + s ≤ r + q → Inside px nx py ny
+inside-of-rounded f p q r s a b c d o u v w =
     let small : rnd f (r - s) < overflow f = rw c at o in (
       b ∙ rnd-of-zero f (q - p) (omega arith),
       d ∙ rnd-of-zero f (s - r) (omega arith),
@@ -73,9 +75,13 @@ ratio {f} {k} {c} {va} {vb} r hc ha hb w = div-ratio (x .number) (y .number) (go
         let b = mag-whole (y .number) .1 .small in
         omega arith
 
-    go : Between f va c vb → Inside (plus f (sub f c va)) (minus f (sub f c va)) (plus f (sub f vb va)) (minus f (sub f vb va)) ⊎ Inside (minus f (sub f c va)) (plus f (sub f c va)) (minus f (sub f vb va)) (plus f (sub f vb va))
-    go (inl b) = inl (inside-of-rounded f (plus f c + minus f va) (minus f c + plus f va) (plus f vb + minus f va) (minus f vb + plus f va) (plus f (sub f c va)) (minus f (sub f c va)) (plus f (sub f vb va)) (minus f (sub f vb va)) (x .plus-is) (x .minus-is) (y .plus-is) (y .minus-is) (small .0) (omega arith) (omega arith) (omega arith))
-    go (inr b) = inr (inside-of-rounded f (minus f c + plus f va) (plus f c + minus f va) (minus f vb + plus f va) (plus f vb + minus f va) (minus f (sub f c va)) (plus f (sub f c va)) (minus f (sub f vb va)) (plus f (sub f vb va)) (x .minus-is) (x .plus-is) (y .minus-is) (y .plus-is) (small .1) (omega arith) (omega arith) (omega arith))
+    go : Between f va c vb → PartOf f (sub f c va) (sub f vb va)
+    go (inl b) =
+        inl (inside-of-rounded f (plus f c + minus f va) (minus f c + plus f va) (plus f vb + minus f va) (minus f vb + plus f va) (x .plus-is) (x .minus-is) (y .plus-is) (y .minus-is) (small .0)
+        (omega arith) (omega arith) (omega arith))
+    go (inr b) =
+        inr (inside-of-rounded f (minus f c + plus f va) (plus f c + minus f va) (minus f vb + plus f va) (plus f vb + minus f va) (x .minus-is) (x .plus-is) (y .minus-is) (y .plus-is) (small .1)
+        (omega arith) (omega arith) (omega arith))
 
 -- ---- ranges of whole numbers, from lp - ln to hp - hn
 pub record Range : Type 0 where

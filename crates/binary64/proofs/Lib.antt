@@ -1,4 +1,4 @@
-pub mod Arithmetic
+mod Arithmetic
 pub mod Comparisons
 pub mod Cut
 pub mod Fill
@@ -6,6 +6,6 @@ pub mod KeyOrder
 pub mod Lines
 pub mod Order
 pub mod Patterns
-pub mod Rounding
+mod Rounding
 pub mod Value
 pub mod Widths

@@ -1,16 +1,16 @@
 -- One cut at a line, the line as a parameter: `low` says which side it keeps (specs/Scaled.antt, `within`), c where it stands, k how large the numbers may be.
 -- What is kept and the crossing lie in the fixed coordinate exactly on the line's side, and in the free one in the old range, wider by 2 ^ (k + 1) units. Assumes nothing.
-use mathlib.Core.Path.{_≡_, sym}
-use mathlib.Core.Logic.{_⊎_, inl, inr}
+use mathlib.Core.Path.{_≡_}
+use mathlib.Core.Logic.{inl, inr}
 use mathlib.Core.Bool.{Bool, true, false, not}
 use Prim.Native.Nat.{ℕ, suc, _+_, _^_, _≤_, _<_}
 use native.Mathlib.Nat.{le-refl, le-of-lt, lt-of-le-of-lt}
 use native.Mathlib.Omega.{arith}
 use lib.Dec.{T}
-use lib.Ieee.{Float, Format, prec, le}
+use lib.Ieee.{Float, Format, prec}
 use Rattle.binary64.specs.Scaled.{mag, plus, minus, Le, Lt, within, interpolate}
 use Rattle.binary64.proofs.Value.{Number, mag-parts, Le-of-le, Lt-of-not-le}
-use Rattle.binary64.proofs.Cut.{Small, Room, Upward, Between, Range, In, widen, interpolate-in}
+use Rattle.binary64.proofs.Cut.{Small, Room, Between, Range, In, widen, interpolate-in}
 
 -- ---- one end in and the other out puts the line between them
 in-out : {f : Format} {c va vb : Float} (low : Bool) → Number f c → Number f va → Number f vb → T (within low c va) → T (not (within low c vb)) → Between f va c vb

@@ -1,13 +1,13 @@
 -- The test `le` on every float, infinities, huge numbers and NaN too: no format, nothing rounded.
 -- It is an order of all that is not NaN, and of two finite numbers it is the order of their fractions. Assumes nothing.
 use mathlib.Core.Path.{_≡_, sym}
-use mathlib.Core.Logic.{_⊎_, inl, inr}
+use mathlib.Core.Logic.{_↔_, _⊎_, inl, inr}
 use mathlib.Core.Bool.{Bool, true, false, not, _&&_, _||_, cond}
 use Prim.Native.Nat.{ℕ, _+_, _*_, _≤_, _<_, zero-le}
 use native.Mathlib.Nat.{le-refl, le-of-eq, le-of-lt, eq-or-lt-of-le, mul-le-mul-right, le-of-mul-le-mul-right}
 use native.Mathlib.Omega.{arith}
 use lib.Dec.{T, ltb, eqb, ltb→lt, lt→ltb, eqb→eq}
-use lib.Ieee.{Float, nan, inf, fin, below, level, isNan, le}
+use lib.Ieee.{Float, nan, inf, fin, up, down, below, level, isNan, le}
 use lib.Ieee.Fits.{and-l, and-r, and-i, eq→eqb}
 use lib.Ieee.Positive.{num, den, den-pos}
 use lib.Ieee.Scale.{finite}
@@ -75,21 +75,13 @@ minusNum x = under (sign x) (num x)
 abbrev pub LeFraction : Float → Float → Type 0
 LeFraction x y = plusNum x * den y + minusNum y * den x ≤ plusNum y * den x + minusNum x * den y
 
-pub fractions-of-le : (x y : Float) → T (finite x) → T (finite y) → T (le x y) → LeFraction x y
+pub le-is-fractions : (x y : Float) → T (finite x) → T (finite y) → T (le x y) ↔ LeFraction x y
 unfolding le
-fractions-of-le nan y p q h = absurd p
-fractions-of-le (inf s) y p q h = absurd p
-fractions-of-le (fin s m e) nan p q h = absurd q
-fractions-of-le (fin s m e) (inf t) p q h = absurd q
-fractions-of-le (fin s m e) (fin t n d) p q h = ord-of-test s (num (fin s m e)) (den (fin s m e)) t (num (fin t n d)) (den (fin t n d)) h
-
-pub le-of-fractions : (x y : Float) → T (finite x) → T (finite y) → LeFraction x y → T (le x y)
-unfolding le
-le-of-fractions nan y p q h = absurd p
-le-of-fractions (inf s) y p q h = absurd p
-le-of-fractions (fin s m e) nan p q h = absurd q
-le-of-fractions (fin s m e) (inf t) p q h = absurd q
-le-of-fractions (fin s m e) (fin t n d) p q h = test-of-ord s (num (fin s m e)) (den (fin s m e)) t (num (fin t n d)) (den (fin t n d)) h
+le-is-fractions nan y p q = absurd p
+le-is-fractions (inf s) y p q = absurd p
+le-is-fractions (fin s m e) nan p q = absurd q
+le-is-fractions (fin s m e) (inf t) p q = absurd q
+le-is-fractions (fin s m e) (fin t n d) p q = (ord-of-test s (m * up e) (down e) t (n * up d) (down d), test-of-ord s (m * up e) (down e) t (n * up d) (down d))
 
 -- ---- the order
 pub le-not-nan : (x y : Float) → T (le x y) → T (not (isNan x)) × T (not (isNan y))
@@ -107,7 +99,7 @@ unfolding le isNan
 le-self nan h = h
 le-self (inf true) h = tt
 le-self (inf false) h = tt
-le-self (fin s m e) h = le-of-fractions (fin s m e) (fin s m e) tt tt (le-refl (plusNum (fin s m e) * den (fin s m e) + minusNum (fin s m e) * den (fin s m e)))
+le-self (fin s m e) h = le-is-fractions (fin s m e) (fin s m e) tt tt .1 (le-refl (plusNum (fin s m e) * den (fin s m e) + minusNum (fin s m e) * den (fin s m e)))
 
 -- what is compared and found in order is at most itself
 pub le-self-of-le : (x y : Float) → T (le x y) → T (le x x) × T (le y y)
@@ -144,8 +136,8 @@ le-trans (fin s m e) (fin t n d) nan h k = absurd k
 le-trans (fin s m e) (fin t n d) (inf true) h k = absurd k
 le-trans (fin s m e) (fin t n d) (inf false) h k = tt
 le-trans (fin s m e) (fin t n d) (fin r o g) h k =
-    le-of-fractions (fin s m e) (fin r o g) tt tt
-    (fraction-trans (fin s m e) (fin t n d) (fin r o g) (fractions-of-le (fin s m e) (fin t n d) tt tt h) (fractions-of-le (fin t n d) (fin r o g) tt tt k))
+    le-is-fractions (fin s m e) (fin r o g) tt tt .1
+    (fraction-trans (fin s m e) (fin t n d) (fin r o g) (le-is-fractions (fin s m e) (fin t n d) tt tt .0 h) (le-is-fractions (fin t n d) (fin r o g) tt tt .0 k))
 
 -- what lies between finite numbers is finite
 pub finite-between : (l x h : Float) → T (finite l) → T (finite h) → T (le l x) → T (le x h) → T (finite x)

@@ -1,22 +1,22 @@
 -- A fraction rounded to a format, in units: `grid f a c` is a / c rounded, `rnd f n` is n units rounded. Rounding leaves what the format holds, keeps the order,
 -- and below 2 ^ (prec + k + 1) units it is at most 2 ^ k units off. Assumes nothing.
-use mathlib.Core.Path.{_≡_, refl, sym, ap, _∙_}
-use mathlib.Core.Bool.{Bool, true, false, not}
-use Prim.Native.Nat.{ℕ, suc, _+_, _-_, _*_, _/_, _%_, _^_, _≤_, _<_, compare, Ordering, Ordering·lt, Ordering·eq, Ordering·gt}
-use native.Mathlib.Nat.{le-trans, le-of-eq, lt-of-le-of-lt, mod-lt, one-mul, zero-mul, mul-comm, mul-assoc, mul-right-comm, mul-le-mul-right, mul-le-mul-left, mul-lt-mul-of-pos-right, le-of-mul-le-mul-right, mul-pos, div-add-mod', div-lt-iff-lt-mul, two-pow-succ, add-suc}
+use mathlib.Core.Path.{_≡_, sym, ap, _∙_}
+use mathlib.Core.Bool.{Bool, false, not}
+use Prim.Native.Nat.{ℕ, suc, _+_, _*_, _/_, _%_, _^_, _≤_, _<_, compare, Ordering, Ordering·lt, Ordering·eq, Ordering·gt}
+use native.Mathlib.Nat.{le-trans, le-of-eq, lt-of-le-of-lt, mod-lt, one-mul, zero-mul, mul-le-mul-right, mul-le-mul-left, mul-lt-mul-of-pos-right, le-of-mul-le-mul-right, mul-pos, div-add-mod', div-lt-iff-lt-mul, two-pow-succ}
 use native.Mathlib.Omega.{arith}
 use lib.Dec.{T, isLe, isEq, leb→le, nleb→lt, eqb→eq}
 use lib.Pow.{pow-pos, pow-mono, pow-lt}
-use lib.Ieee.{Float, nan, inf, fin, Format, prec, emax, low, size, nearest, round}
+use lib.Ieee.{Float, nan, inf, fin, Format, prec, emax, low, size, nearest, round, le}
 use lib.Ieee.Digits.{size-le}
 use lib.Ieee.Exact.{HasValue, units-val, round-exact}
 use lib.Ieee.Fits.{two, two-le-pos, round-is, round-fits}
 use lib.Ieee.Nearest.{closest}
 use lib.Ieee.Order.{drop, kept, round-mono}
 use lib.Ieee.Scale.{grid, overflow, finite, round-under}
-use Rattle.binary64.specs.Scaled.{plus, minus, Le}
+use Rattle.binary64.specs.Scaled.{Le}
 use Rattle.binary64.proofs.Order.{above, under, finite-between}
-use Rattle.binary64.proofs.Value.{Number, Parts, Held, held-zero, parts-of-value, Le-of-le}
+use Rattle.binary64.proofs.Value.{Parts, Held, held-zero, parts-of-value, Le-of-le}
 
 pub rnd : Format → ℕ → ℕ
 rnd f n = grid f n (2 ^ low f)
@@ -38,7 +38,7 @@ finite-of-value (inf t) s a c h = absurd h
 finite-of-value (fin t m e) s a c h = tt
 
 -- ---- what the format holds stays
-pub rnd-held : {f : Format} {w : ℕ} → Held f w → rnd f w ≡ w
+rnd-held : {f : Format} {w : ℕ} → Held f w → rnd f w ≡ w
 unfolding rnd
 rnd-held {f} {w} h =
     let l = 2 ^ low f in
@@ -61,7 +61,7 @@ grid-mono f a b c d B D h o =
     let x = round f false a b in
     let y = round f false c d in
     let py = round-parts f false c d o in
-    let l : T (lib.Ieee.le x y) = round-mono f a b c d B D h in
+    let l : T (le x y) = round-mono f a b c d B D h in
     let x-finite : T (finite x) = finite-between (round f false 0 1) x y (zero-finite f) (py .number .is-finite) (round-mono f 0 1 a b (pow-pos 0) B (omega arith)) l in
     let px = round-parts f false a b (round-under f a b x-finite) in
     let g : Le f x y = Le-of-le (px .number) (py .number) l in

@@ -3,7 +3,7 @@
 use mathlib.Core.Path.{_≡_, refl, sym, ap, ap₂, _∙_}
 use mathlib.Core.Bool.{Bool, true, false, not, _&&_}
 use Prim.Native.Nat.{ℕ, zero, suc, _+_, _-_, _*_, _/_, _%_, _^_, _≤_, _<_}
-use native.Mathlib.Nat.{le-of-suc-le-suc, le-of-eq, lt-of-lt-of-le, lt-of-le-of-lt, lt-of-not-le, not-le-of-lt, zero-mul, mul-one, mul-assoc, mul-comm, mul-right-comm, mul-le-mul-right, le-of-mul-le-mul-right, lt-of-mul-lt-mul-right, mul-lt-mul-of-pos-right, mul-pos, mul-div-cancel}
+use native.Mathlib.Nat.{le-of-suc-le-suc, le-of-eq, lt-of-lt-of-le, lt-of-not-le, not-le-of-lt, zero-mul, mul-one, mul-assoc, mul-le-mul-right, le-of-mul-le-mul-right, lt-of-mul-lt-mul-right, mul-lt-mul-of-pos-right, mul-pos, mul-div-cancel}
 use native.Mathlib.Omega.{arith}
 use lib.IntN.{ℤ, pos, negsuc}
 use lib.Dec.{T, leb, ltb, eqb, leb→le, ltb→lt, T-not}
@@ -15,7 +15,7 @@ use lib.Ieee.Fits.{down-pos, and-l, and-r}
 use lib.Ieee.Positive.{num, den, den-pos}
 use lib.Ieee.Scale.{overflow, finite}
 use Rattle.binary64.specs.Scaled.{sign, mag, plus, minus, Le, Lt}
-use Rattle.binary64.proofs.Order.{above, under, plusNum, minusNum, LeFraction, fractions-of-le, le-of-fractions}
+use Rattle.binary64.proofs.Order.{above, under, plusNum, minusNum, le-is-fractions}
 
 -- a finite number of the format
 pub record Number (f : Format) (x : Float) : Type 0 where
@@ -82,15 +82,12 @@ mag-is f s m e w h = ap (λ (x : ℕ). x / down e) h ∙ mul-div-cancel w (down-
 
 -- so a number's size is whole, and held
 pub mag-whole : {f : Format} {x : Float} → Number f x → (num x * 2 ^ low f ≡ mag f x * den x) × Held f (mag f x)
-mag-whole {f} {x} h = go x (h .is-finite) (h .in-format)
-  where
-    go : (x : Float) → T (finite x) → T (fits f x) → (num x * 2 ^ low f ≡ mag f x * den x) × Held f (mag f x)
-    go nan p q = absurd p
-    go (inf s) p q = absurd p
-    go (fin s m e) p q =
-        let w = whole f s m e q in
-        let is : mag f (fin s m e) ≡ w .0 = mag-is f s m e (w .0) (w .1) in
-        (rw is (w .1), rw is (w .2))
+mag-whole {x = nan} h = absurd (h .is-finite)
+mag-whole {x = inf s} h = absurd (h .is-finite)
+mag-whole {f} {x = fin s m e} h =
+    let w = whole f s m e (h .in-format) in
+    let is : mag f (fin s m e) ≡ w .0 = mag-is f s m e (w .0) (w .1) in
+    (rw is (w .1), rw is (w .2))
 
 -- ---- the two parts
 -- one of them is the size, and the other is 0
@@ -128,7 +125,7 @@ scaled {f} {x} {y} hx hy =
 
 pub Le-of-le : {f : Format} {x y : Float} → Number f x → Number f y → T (le x y) → Le f x y
 Le-of-le {f} {x} {y} hx hy h =
-    let g = mul-le-mul-right (2 ^ low f) (fractions-of-le x y (hx .is-finite) (hy .is-finite) h) in
+    let g = mul-le-mul-right (2 ^ low f) (le-is-fractions x y (hx .is-finite) (hy .is-finite) .0 h) in
     let a = scaled hx hy in
     let b = scaled hy hx in
     le-of-mul-le-mul-right {k = den x * den y} (omega arith) (mul-pos (den-pos x) (den-pos y))
@@ -138,7 +135,7 @@ le-of-Le {f} {x} {y} hx hy h =
     let g : (plus f x + minus f y) * (den x * den y) ≤ (plus f y + minus f x) * (den x * den y) = mul-le-mul-right (den x * den y) h in
     let a = scaled hx hy in
     let b = scaled hy hx in
-    le-of-fractions x y (hx .is-finite) (hy .is-finite) (le-of-mul-le-mul-right {k = 2 ^ low f} (omega arith) (pow-pos (low f)))
+    le-is-fractions x y (hx .is-finite) (hy .is-finite) .1 (le-of-mul-le-mul-right {k = 2 ^ low f} (omega arith) (pow-pos (low f)))
 
 pub Lt-of-not-le : {f : Format} {x y : Float} → Number f x → Number f y → T (not (le x y)) → Lt f y x
 Lt-of-not-le {f} {x} {y} hx hy t = lt-of-not-le (λ (g : Le f x y). T-not (le x y) t (le-of-Le hx hy g))

@@ -6,7 +6,7 @@ use Prim.Native.Nat.{ℕ, zero, suc, _+_, _*_, _-_, _<_, _≤_}
 use native.Mathlib.Numerals.{add-one}
 use native.Mathlib.Omega.{arith}
 use lib.ListN.{length, getD, take, drop, length-append, take-append-drop}
-use lib.Seq.{sets, sets-eq, getD-take, length-take-le, take-at}
+use lib.Seq.{sets, sets-eq, take-take, getD-take, length-take-le, take-at}
 use lib.Ieee.{Float, nan}
 use Rattle.tile.specs.declared.Coord.{Coord}
 use Rattle.tile.specs.Ring.{coords, flat, coordAt, same, last, closed, close, Written}
@@ -41,6 +41,9 @@ length-coords n s e = omega (arith, length-flat (coords s), ap length (flat-coor
 
 -- ---- the ring of n coordinates at the front of a slice
 
+two-more : (i : ℕ) → 2 * suc i ≡ suc (suc (2 * i))
+two-more i = omega arith
+
 module _ (s : List Float) (n : ℕ) (fits : 2 * n ≤ length s) where
   front-length : length (take (2 * n) s) ≡ 2 * n
   front-length = length-take-le (2 * n) s fits
@@ -50,6 +53,17 @@ module _ (s : List Float) (n : ℕ) (fits : 2 * n ≤ length s) where
 
   pub flat-front : flat (coords (take (2 * n) s)) ≡ take (2 * n) s
   flat-front = flat-coords n (take (2 * n) s) front-length
+
+pub coords-take : (k : ℕ) (s : List Float) → coords (take (2 * k) s) ≡ take k (coords s)
+unfolding coords
+coords-take zero s = refl
+coords-take (suc k) [] = rw (two-more k)
+coords-take (suc k) (x ∷ []) = rw (two-more k)
+coords-take (suc k) (x ∷ y ∷ s) = rw (two-more k, coords-take k s)
+
+-- a shorter front is the front of a longer one
+pub front-front : (s : List Float) (k n : ℕ) → k ≤ n → coords (take (2 * k) s) ≡ take k (coords (take (2 * n) s))
+front-front s k n h = sym (ap coords (take-take (2 * k) (2 * n) s (omega arith))) ∙ coords-take k (take (2 * n) s)
 
 -- the front of a slice that starts with the numbers of a ring is that ring
 pub coords-front : (l : List Coord) (rest s : List Float) (n : ℕ) → n ≡ length l → s ≡ flat l ++ rest → coords (take (2 * n) s) ≡ l
@@ -63,9 +77,6 @@ coords-at i [] z h = absurd (omega arith)
 coords-at i (x ∷ []) z h = absurd (omega arith)
 coords-at zero (x ∷ y ∷ s) z h = refl
 coords-at (suc i) (x ∷ y ∷ s) z h = coords-at i s z (omega arith) ∙ simp (two-more, add-one)
-  where
-    two-more : (i : ℕ) → 2 * suc i ≡ suc (suc (2 * i))
-    two-more i = omega arith
 
 pub front-at : (s : List Float) (n i : ℕ) (z : Coord) → 2 * n ≤ length s → i < n → getD (coords (take (2 * n) s)) i z ≡ coordAt s i
 front-at s n i z h l =
@@ -75,7 +86,7 @@ front-at s n i z h l =
 
 -- ---- closing
 
-last-at : (p : Coord) (r : List Coord) (z : Coord) → last p r ≡ getD (p ∷ r) (length r) z
+pub last-at : (p : Coord) (r : List Coord) (z : Coord) → last p r ≡ getD (p ∷ r) (length r) z
 unfolding last
 last-at p [] z = refl
 last-at p (q ∷ r) z = last-at q r z

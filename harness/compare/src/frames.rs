@@ -1,0 +1,82 @@
+//! Frames: the oracle's bytes against the second reading's.
+
+use std::panic::catch_unwind;
+
+use generator::{Kind, Specimen};
+use reading::Reading;
+
+use crate::campaign::{self, Campaign, Checked};
+use crate::hex;
+use crate::shrink::shrink;
+
+pub fn kinds() -> Vec<(&'static str, Kind)> {
+    Kind::ALL.iter().map(|&kind| (kind.name(), kind)).collect()
+}
+
+/// `count` frames of each kind.
+pub fn compare(seed: u64, count: u64) -> Campaign {
+    campaign::run("frames", seed, count, &kinds(), |kind, index| check(&generator::frame(kind, seed, index)))
+}
+
+fn check(specimen: &Specimen) -> Checked {
+    let answers = Answers::to(specimen);
+    if !answers.differ() {
+        return Ok(label(&answers.reading));
+    }
+    let smallest = shrink(specimen.clone(), |specimen| Answers::to(specimen).differ());
+    let Answers { oracle, reading } = Answers::to(&smallest);
+    Err(format!(
+        "room {}, frame {}, oracle {}, reading {}",
+        smallest.room,
+        hex(&smallest.frame),
+        oracle.map_or_else(|| "panicked".to_string(), |answer| shown(&answer)),
+        shown(&reading),
+    ))
+}
+
+type Answer = Result<Vec<u8>, u8>;
+
+struct Answers {
+    /// None where the Rust panicked, or where its parts put together differ from its whole run.
+    oracle: Option<Answer>,
+    reading: Answer,
+}
+
+impl Answers {
+    fn to(Specimen { frame, room }: &Specimen) -> Answers {
+        Answers {
+            oracle: catch_unwind(|| oracle::answer(frame, *room)).ok(),
+            reading: Reading::RIGHT.answer(frame, *room),
+        }
+    }
+
+    fn differ(&self) -> bool {
+        self.oracle.as_ref() != Some(&self.reading)
+    }
+}
+
+fn shown(answer: &Answer) -> String {
+    answer.as_ref().map_or_else(|refusal| format!("refusal {refusal}"), |bytes| hex(bytes))
+}
+
+/// An answer in a word; a list is named after its first part.
+fn label(answer: &Answer) -> &'static str {
+    match answer {
+        Err(refusal) => refusal_label(*refusal),
+        Ok(bytes) => match bytes[0] {
+            0 => "nothing",
+            1 => "dropped",
+            2 => "unchanged",
+            _ => match bytes[7] {
+                2 => "part unchanged",
+                4 => "cut",
+                _ => "overlay",
+            },
+        },
+    }
+}
+
+pub fn refusal_label(refusal: u8) -> &'static str {
+    const LABELS: [&str; 13] = ["10", "11", "12", "13", "14", "15", "16", "17", "18", "19", "20", "21", "22"];
+    LABELS[usize::from(refusal) - 10]
+}

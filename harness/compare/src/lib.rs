@@ -1,0 +1,14 @@
+//! Compares the oracle with the second reading on what the generator makes, and shows that a mistaken reading is found.
+
+pub mod calls;
+pub mod campaign;
+pub mod command;
+pub mod frames;
+pub mod lines;
+pub mod mistakes;
+mod shrink;
+
+/// Bytes as lower-case hexadecimal digits.
+pub fn hex(bytes: &[u8]) -> String {
+    bytes.iter().map(|byte| format!("{byte:02x}")).collect()
+}

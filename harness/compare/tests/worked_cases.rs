@@ -1,0 +1,116 @@
+//! Document 01's worked cases on bounds 0, 0, 10, 10 with buffer 0, against the Rust and the second reading.
+
+use formats::calls::RingCall;
+use formats::frame::{Frame, MULTIPOLYGON, POLYGON};
+use formats::Coord;
+use reading::Reading;
+
+const ROOM: usize = 60_000;
+
+const NOTHING: &[u8] = &[0, 0, 0, 0, 0];
+const DROPPED: &[u8] = &[1, 1, 0, 0, 0];
+const UNCHANGED: &[u8] = &[2, 0, 0, 0, 0];
+
+/// The one listed part is part 0, an overlay.
+fn overlay(reason: u8) -> Vec<u8> {
+    vec![3, 0, 0, 1, 0, 0, 0, 5, reason]
+}
+
+/// The one listed part is part 0, cut to this ring.
+fn cut(ring: &[Coord]) -> Vec<u8> {
+    let mut bytes = vec![3, 0, 0, 1, 0, 0, 0, 4, 0, 1, 0];
+    bytes.extend((ring.len() as u16).to_le_bytes());
+    for (x, y) in ring {
+        bytes.extend(x.to_le_bytes());
+        bytes.extend(y.to_le_bytes());
+    }
+    bytes
+}
+
+fn assert_answer(kind: u8, flags: u8, ring: &[Coord], expected: &[u8]) {
+    let frame =
+        Frame { kind, flags, bounds: [0.0, 0.0, 10.0, 10.0], buffer: 0.0, parts: vec![vec![ring.to_vec()]] }.encode();
+    assert_eq!(oracle::answer(&frame, ROOM).as_deref(), Ok(expected), "the Rust, flags {flags}, {ring:?}");
+    assert_eq!(Reading::RIGHT.answer(&frame, ROOM).as_deref(), Ok(expected), "the reading, flags {flags}, {ring:?}");
+}
+
+fn assert_polygon(flags: &[u8], ring: &[Coord], expected: &[u8]) {
+    flags.iter().for_each(|&flags| assert_answer(POLYGON, flags, ring, expected));
+}
+
+const EVERY_FLAG: &[u8] = &[0, 1, 2, 3];
+
+#[test]
+fn square_inside() {
+    assert_polygon(EVERY_FLAG, &[(2., 2.), (8., 2.), (8., 8.), (2., 8.), (2., 2.)], UNCHANGED);
+}
+
+#[test]
+fn square_across_the_east_bound() {
+    let ring = [(5., 5.), (15., 5.), (15., 8.), (5., 8.), (5., 5.)];
+    assert_polygon(&[3], &ring, &cut(&[(5., 5.), (10., 5.), (10., 8.), (5., 8.), (5., 5.)]));
+    assert_polygon(&[0, 1, 2], &ring, &overlay(4));
+}
+
+#[test]
+fn bow_tie_inside() {
+    let ring = [(2., 2.), (8., 8.), (8., 2.), (2., 8.), (2., 2.)];
+    assert_polygon(&[0], &ring, &overlay(1));
+    assert_polygon(&[1], &ring, UNCHANGED);
+    assert_answer(MULTIPOLYGON, 0, &ring, UNCHANGED);
+}
+
+#[test]
+fn exteriors_with_issues() {
+    assert_polygon(EVERY_FLAG, &[(2., 2.), (8., 2.), (2., 2.)], &overlay(1));
+    assert_polygon(EVERY_FLAG, &[(2., 2.), (2., 2.), (8., 2.), (8., 8.), (2., 2.)], &overlay(1));
+    assert_polygon(EVERY_FLAG, &[(2., 2.), (8., 2.), (8., 8.), (2., 2.), (2., 2.)], UNCHANGED);
+}
+
+#[test]
+fn square_that_touches_the_east_bound() {
+    assert_polygon(EVERY_FLAG, &[(10., 2.), (20., 2.), (20., 8.), (10., 8.), (10., 2.)], &overlay(2));
+}
+
+#[test]
+fn magnitudes_of_1e150() {
+    assert_polygon(EVERY_FLAG, &[(2., 2.), (1e150, 2.), (2., 2.)], DROPPED);
+    assert_polygon(EVERY_FLAG, &[(2., 2.), (9e149, 2.), (2., 2.)], &overlay(1));
+}
+
+#[test]
+fn triangle_apart() {
+    assert_polygon(EVERY_FLAG, &[(20., 20.), (30., 20.), (30., 30.), (20., 20.)], NOTHING);
+    assert_polygon(EVERY_FLAG, &[(20., 20.), (30., f64::NAN), (30., 30.), (20., 20.)], DROPPED);
+}
+
+#[test]
+fn overflowing_differences_close_twice() {
+    let ring = [(8., 8.), (1e308, 1e308), (-1.7e308, -1.7e308), (8., 8.)];
+    let nan = (f64::from_bits(0x7ff8_0000_0000_0000), 0.);
+    assert_polygon(&[3], &ring, &cut(&[nan, (0., 0.), (8., 8.), (10., 10.), nan, nan, nan]));
+}
+
+#[test]
+fn ring_cutter_gives_none() {
+    let lent = vec![1.0; 64];
+    let call = RingCall {
+        ring: vec![1., 1., 2., 2., 1., 1., 1., 1.],
+        bounds: [0.0, 0.0, 10.0, 10.0],
+        scratch_a: lent.clone(),
+        scratch_b: lent.clone(),
+        out: lent,
+    };
+    assert_eq!(oracle::ring_call(&call), Ok(Vec::new()));
+    assert_eq!(compare::calls::ring_call(&Reading::RIGHT, &call), Ok(Vec::new()));
+}
+
+#[test]
+fn program_on_three_lines() {
+    let zeros = |bytes: usize| "00".repeat(bytes);
+    let first = ["06", "00", &zeros(16), &"0000000000002440".repeat(2), &zeros(8), "0000"].concat();
+    let input = format!("{first}\n03\n0g");
+    let printed = b"0000000000\n0b00000000\n0a00000000\n";
+    assert_eq!(oracle::lines(input.as_bytes()), printed);
+    assert_eq!(Reading::RIGHT.lines(input.as_bytes()), printed);
+}

@@ -1,0 +1,44 @@
+//! Document 01's added formats as the oracle reads them: frames, ring calls and slice calls, their refusals, and what a
+//! call leaves in the slices lent to it. The second reading shares none of this.
+
+pub mod calls;
+pub mod frame;
+pub mod room;
+
+/// One x, y pair.
+pub type Coord = (f64, f64);
+
+pub type Ring = Vec<Coord>;
+
+/// A polygon's rings, exterior first.
+pub type Part = Vec<Ring>;
+
+/// West, south, east, north.
+pub type Bounds = [f64; 4];
+
+/// The number of a refusal, 10 to 22.
+pub type Refusal = u8;
+
+/// A ring as x, y numbers.
+pub fn flat(ring: &[Coord]) -> Vec<f64> {
+    ring.iter().flat_map(|&(x, y)| [x, y]).collect()
+}
+
+/// x, y numbers as a ring; an odd last number is left off.
+pub fn pairs(numbers: &[f64]) -> Ring {
+    numbers.chunks_exact(2).map(|pair| (pair[0], pair[1])).collect()
+}
+
+/// The number of coordinates of a ring once it is closed as `Polygon::new` closes it.
+pub fn closed_length(ring: &[Coord]) -> usize {
+    ring.len() + usize::from(ring.first() != ring.last())
+}
+
+/// Bit for bit, but any NaN for any NaN.
+pub fn same_number(a: f64, b: f64) -> bool {
+    a.to_bits() == b.to_bits() || (a.is_nan() && b.is_nan())
+}
+
+pub fn same_numbers(a: &[f64], b: &[f64]) -> bool {
+    a.len() == b.len() && a.iter().zip(b).all(|(&a, &b)| same_number(a, b))
+}

@@ -1,0 +1,136 @@
+//! Frames of every kind, with the room lent for the answer.
+
+use formats::frame::{Frame, LONGEST, MOST_PARTS, MULTIPOLYGON, POLYGON};
+use formats::Part;
+
+use crate::damage::damage;
+use crate::limits::at_a_limit;
+use crate::rng::Rng;
+use crate::scene::{lone_coordinate, Scene, Style};
+
+#[derive(Clone, Copy, Debug, PartialEq, Eq)]
+pub enum Kind {
+    /// Whole frames drawn in one style.
+    Drawn(Style),
+    /// Many small parts: empty rings, single coordinates, NaN coordinates, triangles.
+    Parts,
+    /// Frames of the other kinds with bytes changed, cut off or added.
+    Damaged,
+    /// Every limit of a frame from both sides.
+    Limits,
+}
+
+impl Kind {
+    pub const ALL: [Kind; 10] = [
+        Kind::Drawn(Style::Grid),
+        Kind::Drawn(Style::Outlines),
+        Kind::Drawn(Style::Near),
+        Kind::Drawn(Style::Huge),
+        Kind::Drawn(Style::Bits),
+        Kind::Drawn(Style::Tiles),
+        Kind::Drawn(Style::Long),
+        Kind::Parts,
+        Kind::Damaged,
+        Kind::Limits,
+    ];
+
+    pub fn name(self) -> &'static str {
+        match self {
+            Kind::Drawn(Style::Grid) => "grid",
+            Kind::Drawn(Style::Outlines) => "outlines",
+            Kind::Drawn(Style::Near) => "near",
+            Kind::Drawn(Style::Huge) => "huge",
+            Kind::Drawn(Style::Bits) => "bits",
+            Kind::Drawn(Style::Tiles) => "tiles",
+            Kind::Drawn(Style::Long) => "long",
+            Kind::Parts => "parts",
+            Kind::Damaged => "damaged",
+            Kind::Limits => "limits",
+        }
+    }
+
+    fn stream(self) -> u64 {
+        Kind::ALL.iter().position(|&kind| kind == self).expect("every kind is listed") as u64
+    }
+}
+
+/// A frame's bytes, and the bytes of output lent for its answer.
+#[derive(Clone, Debug)]
+pub struct Specimen {
+    pub frame: Vec<u8>,
+    pub room: usize,
+}
+
+/// More room than any frame asks for.
+pub const AMPLE: usize = 60_000;
+
+pub fn frame(kind: Kind, seed: u64, index: u64) -> Specimen {
+    let rng = &mut Rng::new(seed, kind.stream(), index);
+    match kind {
+        Kind::Drawn(style) => with_room(drawn(style, rng), rng),
+        Kind::Parts => with_room(many_parts(rng), rng),
+        Kind::Damaged => {
+            let whole = if rng.once_in(4) { many_parts(rng) } else { drawn(rng.pick(&Style::ALL), rng) };
+            Specimen { frame: damage(whole.encode(), rng), room: AMPLE }
+        }
+        Kind::Limits => Specimen { frame: at_a_limit(rng), room: AMPLE },
+    }
+}
+
+pub fn drawn(style: Style, rng: &mut Rng) -> Frame {
+    let scene = Scene::new(style, rng);
+    let kind = rng.pick(&[POLYGON, MULTIPOLYGON]);
+    let most = if style == Style::Long { 2 } else { 4 };
+    let parts = if kind == POLYGON { 1 } else { rng.below(most + 1) };
+    let parts = within_a_frame((0..parts).map(|_| scene.part(rng)));
+    Frame { kind, flags: rng.below(4) as u8, bounds: scene.bounds, buffer: scene.buffer, parts }
+}
+
+fn many_parts(rng: &mut Rng) -> Frame {
+    let scene = Scene::new(Style::Grid, rng);
+    let count = rng.pick(&[5, 20, 60, MOST_PARTS - 1, MOST_PARTS]);
+    let with_bits = rng.once_in(3);
+    let parts = within_a_frame((0..count).map(|_| small_part(&scene, with_bits, count, rng)));
+    Frame { kind: MULTIPOLYGON, flags: rng.below(4) as u8, bounds: scene.bounds, buffer: scene.buffer, parts }
+}
+
+fn small_part(scene: &Scene, with_bits: bool, count: usize, rng: &mut Rng) -> Part {
+    match rng.below(6) {
+        0 => scene.part(rng),
+        1 if count < 100 => vec![scene.ring(rng)],
+        2 if with_bits => vec![vec![lone_coordinate(rng)]],
+        3 => vec![Vec::new(), Vec::new()],
+        _ => vec![Vec::new()],
+    }
+}
+
+/// The parts from the front that fit a frame; the first always does, cut short if need be.
+fn within_a_frame(parts: impl Iterator<Item = Part>) -> Vec<Part> {
+    let mut left = LONGEST - 44;
+    let mut fitting: Vec<Part> = Vec::new();
+    for mut part in parts {
+        let size = |part: &Part| 2 + part.iter().map(|ring| 2 + 16 * ring.len()).sum::<usize>();
+        while size(&part) > left && part.len() > 1 {
+            part.pop();
+        }
+        if size(&part) > left {
+            break;
+        }
+        left -= size(&part);
+        fitting.push(part);
+    }
+    fitting
+}
+
+/// Mostly ample room; else the room the frame asks for from both sides, or hardly any.
+fn with_room(frame: Frame, rng: &mut Rng) -> Specimen {
+    let asked = frame.room();
+    let room = match rng.below(16) {
+        0 => asked,
+        1 => asked - 1,
+        2 => rng.below(asked),
+        3 => rng.pick(&[0, 4, 5, 6]),
+        _ => AMPLE,
+    };
+    Specimen { frame: frame.encode(), room }
+}

@@ -1,0 +1,19 @@
+//! The seeded generator: frames, program input, ring calls, slice calls and bounds. The same seed, kind and index give the
+//! same specimen always, so a difference is found again from three numbers.
+
+mod bounds;
+mod calls;
+mod damage;
+mod frames;
+mod limits;
+mod lines;
+mod numbers;
+mod outlines;
+mod rng;
+mod scene;
+
+pub use bounds::bounds;
+pub use calls::{ring_call, slice_call};
+pub use frames::{frame, Kind, Specimen};
+pub use lines::lines;
+pub use scene::Style;

@@ -1,0 +1,220 @@
+//! The answer to a call: the fates of the parts, laid beside the one run on the whole. Whatever the two say differently
+//! stops the harness: then the fates were asked wrongly, and nothing compared with them would count.
+
+use formats::{flat, same_numbers, Ring};
+use geo::{Geometry, MultiPolygon, Polygon};
+use i_overlay::record::OverlayCall;
+use tylertoo::clip::opened as clip;
+use tylertoo::tile::TileBounds;
+
+use crate::convert::rings_of;
+use crate::fate::{fate_of_part, fate_of_polygon, Fate};
+use crate::run::{overlay_call_of, run, Hints, Run};
+
+pub enum Answer {
+    Nothing { guard_count: u16 },
+    Dropped,
+    Unchanged,
+    Listed { guard_count: u16, parts: Vec<ListedPart> },
+}
+
+pub struct ListedPart {
+    pub index: u16,
+    pub listed: Listed,
+}
+
+pub enum Listed {
+    Unchanged,
+    Cut(Vec<Ring>),
+    Overlay(u8),
+}
+
+pub fn answer(geometry: &Geometry<f64>, bounds: &TileBounds, buffer: f64, hints: Hints) -> Answer {
+    let run = run(geometry, bounds, buffer, hints);
+    let buffered = TileBounds::new(
+        bounds.lng_min - buffer,
+        bounds.lat_min - buffer,
+        bounds.lng_max + buffer,
+        bounds.lat_max + buffer,
+    );
+    match geometry {
+        Geometry::Polygon(polygon) => polygon_answer(polygon, &buffered, hints, run),
+        Geometry::MultiPolygon(parts) => multipolygon_answer(parts, &buffered, hints, run),
+        other => unreachable!("{other:?} is left out of the port"),
+    }
+}
+
+fn polygon_answer(polygon: &Polygon<f64>, buffered: &TileBounds, hints: Hints, run: Run) -> Answer {
+    let fate = fate_of_polygon(polygon, buffered, hints);
+    let whole = match fate {
+        Fate::LeftOut => Some(Answer::Nothing { guard_count: 0 }),
+        Fate::Dropped => Some(Answer::Dropped),
+        Fate::Unchanged => Some(Answer::Unchanged),
+        Fate::Cut(_) | Fate::Overlay(_) => None,
+    };
+    let listed = put_together(std::slice::from_ref(polygon), vec![fate], buffered, run);
+    whole.unwrap_or(listed)
+}
+
+fn multipolygon_answer(multipolygon: &MultiPolygon<f64>, buffered: &TileBounds, hints: Hints, run: Run) -> Answer {
+    let parts = &multipolygon.0;
+    let every_part = |fate: fn() -> Fate| parts.iter().map(|_| fate()).collect();
+    let (whole, fates): (Option<Answer>, Vec<Fate>) = match clip::multipolygon_rect_all_rings(multipolygon) {
+        None => (Some(Answer::Nothing { guard_count: 0 }), every_part(|| Fate::LeftOut)),
+        Some((_, false, _)) => {
+            // Counted once for all parts.
+            let mut fates: Vec<Fate> = every_part(|| Fate::LeftOut);
+            fates[0] = Fate::Dropped;
+            (Some(Answer::Dropped), fates)
+        }
+        Some((rect, true, _)) if !clip::intersects_bounds(&rect, buffered) => {
+            (Some(Answer::Nothing { guard_count: 0 }), every_part(|| Fate::LeftOut))
+        }
+        Some((rect, true, _)) if clip::is_fully_inside(&rect, buffered) => {
+            (Some(Answer::Unchanged), every_part(|| Fate::Unchanged))
+        }
+        Some(_) => (None, parts.iter().map(|part| fate_of_part(part, buffered, hints)).collect()),
+    };
+    let listed = put_together(parts, fates, buffered, run);
+    whole.unwrap_or(listed)
+}
+
+/// Lists the run's polygons under the parts that they came from; every polygon, overlay call and guard count of the run
+/// must be accounted for.
+fn put_together(parts: &[Polygon<f64>], fates: Vec<Fate>, buffered: &TileBounds, run: Run) -> Answer {
+    let mut polygons = run.polygons.iter();
+    let mut next = || polygons.next().expect("the whole run has a polygon for each part listed");
+    let mut overlay_calls = run.overlay_calls.iter().enumerate();
+    let mut guard_count = 0;
+    let mut listed_parts = Vec::new();
+    for (index, (part, fate)) in parts.iter().zip(fates).enumerate() {
+        let listed = match fate {
+            Fate::LeftOut => continue,
+            Fate::Dropped => {
+                guard_count += 1;
+                continue;
+            }
+            Fate::Unchanged => {
+                assert_same(next(), part);
+                Listed::Unchanged
+            }
+            Fate::Cut(cut) => {
+                let polygon = next();
+                assert_same(polygon, &cut);
+                Listed::Cut(rings_of(polygon))
+            }
+            Fate::Overlay(reason) => {
+                let (number, call) = overlay_calls.next().expect("the whole run asked for this overlay");
+                assert_eq!(overlay_call_of(next()), Some(number), "overlay pieces are out of order");
+                assert_call(call, part, buffered);
+                Listed::Overlay(reason)
+            }
+        };
+        listed_parts.push(ListedPart { index: index as u16, listed });
+    }
+    assert!(polygons.next().is_none(), "the whole run has polygons that no part accounts for");
+    assert!(overlay_calls.next().is_none(), "the whole run asked for overlays that no part accounts for");
+    assert_eq!(run.guard_count, u64::from(guard_count), "the whole run counted other drops");
+    if listed_parts.is_empty() {
+        Answer::Nothing { guard_count }
+    } else {
+        Answer::Listed { guard_count, parts: listed_parts }
+    }
+}
+
+fn assert_same(of_whole: &Polygon<f64>, of_part: &Polygon<f64>) {
+    assert!(same_rings(&rings_of(of_whole), &rings_of(of_part)), "{of_whole:?} of the whole run is not {of_part:?}");
+}
+
+/// The overlay was asked about the whole part and the buffered bounds.
+fn assert_call(call: &OverlayCall, part: &Polygon<f64>, buffered: &TileBounds) {
+    let TileBounds { lng_min: west, lat_min: south, lng_max: east, lat_max: north } = *buffered;
+    let clip_box = vec![(west, south), (east, south), (east, north), (west, north), (west, south)];
+    let rings_of_shapes = |shapes: &[Vec<Vec<[f64; 2]>>]| -> Vec<Ring> {
+        shapes.iter().flatten().map(|contour| contour.iter().map(|&[x, y]| (x, y)).collect()).collect()
+    };
+    assert!(same_rings(&rings_of_shapes(&call.subject), &rings_of(part)), "an overlay was asked about another subject");
+    assert!(same_rings(&rings_of_shapes(&call.clip), &[clip_box]), "an overlay was asked about another clip box");
+}
+
+fn same_rings(a: &[Ring], b: &[Ring]) -> bool {
+    a.len() == b.len() && a.iter().zip(b).all(|(a, b)| same_numbers(&flat(a), &flat(b)))
+}
+
+impl Answer {
+    pub fn encode(&self) -> Vec<u8> {
+        match self {
+            Answer::Nothing { guard_count } => head(0, *guard_count, 0),
+            Answer::Dropped => head(1, 1, 0),
+            Answer::Unchanged => head(2, 0, 0),
+            Answer::Listed { guard_count, parts } => {
+                let mut bytes = head(3, *guard_count, parts.len() as u16);
+                parts.iter().for_each(|part| part.encode(&mut bytes));
+                bytes
+            }
+        }
+    }
+}
+
+fn head(answer: u8, guard_count: u16, listed: u16) -> Vec<u8> {
+    let mut bytes = vec![answer];
+    bytes.extend(guard_count.to_le_bytes());
+    bytes.extend(listed.to_le_bytes());
+    bytes
+}
+
+impl ListedPart {
+    fn encode(&self, bytes: &mut Vec<u8>) {
+        bytes.extend(self.index.to_le_bytes());
+        match &self.listed {
+            Listed::Unchanged => bytes.extend([2, 0]),
+            Listed::Overlay(reason) => bytes.extend([5, *reason]),
+            Listed::Cut(rings) => {
+                bytes.extend([4, 0]);
+                bytes.extend((rings.len() as u16).to_le_bytes());
+                rings.iter().for_each(|ring| encode_ring(ring, bytes));
+            }
+        }
+    }
+}
+
+fn encode_ring(ring: &Ring, bytes: &mut Vec<u8>) {
+    bytes.extend((ring.len() as u16).to_le_bytes());
+    for number in flat(ring) {
+        let written = if number.is_nan() { 0x7ff8_0000_0000_0000 } else { number.to_bits() };
+        bytes.extend(written.to_le_bytes());
+    }
+}
+
+#[cfg(test)]
+mod tests {
+    use super::*;
+    use crate::convert::polygon_of;
+
+    const BOUNDS: TileBounds = TileBounds { lng_min: 0.0, lat_min: 0.0, lng_max: 10.0, lat_max: 10.0 };
+    const HINTS: Hints = Hints { assume_simple: false, skip_boundary_fallback: false };
+
+    /// The run on a square half outside, which the Rust overlays, with a fate made up for it.
+    fn put_together_with(fate: Fate) {
+        let square = polygon_of(&[vec![(5.0, 5.0), (15.0, 5.0), (15.0, 8.0), (5.0, 8.0)]]);
+        let run = run(&Geometry::Polygon(square.clone()), &BOUNDS, 0.0, HINTS);
+        put_together(&[square], vec![fate], &BOUNDS, run);
+    }
+
+    #[test]
+    fn the_right_fate_passes() {
+        put_together_with(Fate::Overlay(4));
+    }
+
+    #[test]
+    #[should_panic(expected = "of the whole run is not")]
+    fn another_polygon_is_noticed() {
+        put_together_with(Fate::Unchanged);
+    }
+
+    #[test]
+    #[should_panic(expected = "polygons that no part accounts for")]
+    fn a_polygon_too_many_is_noticed() {
+        put_together_with(Fate::LeftOut);
+    }
+}

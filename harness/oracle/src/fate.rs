@@ -1,0 +1,89 @@
+//! What becomes of one part, asked of the Rust's own predicates: the Rust gives no part numbers and no reasons.
+
+use geo::{Coord, Geometry, LineString, Polygon};
+use tylertoo::clip::opened as clip;
+use tylertoo::ioverlay_clip::opened::polygon_representable;
+use tylertoo::sutherland_hodgman::clip_polygon_sh;
+use tylertoo::tile::TileBounds;
+
+use crate::run::Hints;
+
+pub enum Fate {
+    LeftOut,
+    Dropped,
+    Unchanged,
+    Cut(Polygon<f64>),
+    Overlay(u8),
+}
+
+const INPUT_ISSUE: u8 = 1;
+const CUT_ISSUE: u8 = 2;
+const FIRST_BRIDGE: u8 = 3;
+
+/// A part of a multipolygon that is neither inside nor dropped as a whole; inside, issues are not looked at.
+pub fn fate_of_part(part: &Polygon<f64>, buffered: &TileBounds, hints: Hints) -> Fate {
+    match clip::polygon_rect_all_rings(part) {
+        Some((rect, true)) if clip::is_fully_inside(&rect, buffered) => Fate::Unchanged,
+        _ => fate_of_polygon(part, buffered, hints),
+    }
+}
+
+pub fn fate_of_polygon(polygon: &Polygon<f64>, buffered: &TileBounds, hints: Hints) -> Fate {
+    let Some((rect, finite)) = clip::polygon_rect_all_rings(polygon) else {
+        return Fate::LeftOut;
+    };
+    if !finite {
+        return Fate::Dropped;
+    }
+    if !clip::intersects_bounds(&rect, buffered) {
+        return Fate::LeftOut;
+    }
+    if clip::has_structural_issues(polygon, hints.assume_simple) {
+        return overlay(polygon, INPUT_ISSUE);
+    }
+    if clip::is_fully_inside(&rect, buffered) {
+        return Fate::Unchanged;
+    }
+    let Some(Geometry::Polygon(cut)) = clip_polygon_sh(polygon, buffered) else {
+        return Fate::LeftOut;
+    };
+    match reason_against(&cut, buffered, hints) {
+        Some(reason) => overlay(polygon, reason),
+        None => Fate::Cut(cut),
+    }
+}
+
+fn overlay(polygon: &Polygon<f64>, reason: u8) -> Fate {
+    if polygon_representable(polygon) {
+        Fate::Overlay(reason)
+    } else {
+        Fate::Dropped
+    }
+}
+
+/// Why a cut is not good enough, if it isn't.
+fn reason_against(cut: &Polygon<f64>, buffered: &TileBounds, hints: Hints) -> Option<u8> {
+    if clip::has_structural_issues(cut, hints.assume_simple) {
+        return Some(CUT_ISSUE);
+    }
+    if hints.assume_simple && hints.skip_boundary_fallback {
+        return None;
+    }
+    cut.exterior().0.windows(2).find_map(|ends| bridge_reason(ends[0], ends[1], buffered))
+}
+
+/// The first of Left, Right, Bottom and Top that the edge runs along, asked of the Rust's test one edge and one line at a
+/// time: an edge alone is a ring there and back, and a line at NaN is near nothing.
+fn bridge_reason(start: Coord<f64>, end: Coord<f64>, buffered: &TileBounds) -> Option<u8> {
+    let edge = Polygon::new(LineString::new(vec![start, end]), Vec::new());
+    let nowhere = TileBounds::new(f64::NAN, f64::NAN, f64::NAN, f64::NAN);
+    let lines = [
+        TileBounds { lng_min: buffered.lng_min, ..nowhere },
+        TileBounds { lng_max: buffered.lng_max, ..nowhere },
+        TileBounds { lat_min: buffered.lat_min, ..nowhere },
+        TileBounds { lat_max: buffered.lat_max, ..nowhere },
+    ];
+    (FIRST_BRIDGE..)
+        .zip(lines)
+        .find_map(|(reason, line)| clip::has_boundary_connecting_edges(&edge, &line).then_some(reason))
+}

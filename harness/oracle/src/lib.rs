@@ -1,0 +1,89 @@
+//! The oracle: what the unchanged Rust answers to document 01's calls. Result, coordinates, guard count and overlay calls
+//! come from one run of `clip_geometry_simple` on the whole geometry; only part numbers and reasons, which the Rust doesn't
+//! give, are asked of its predicates part by part.
+
+mod answer;
+mod convert;
+mod fate;
+mod lines;
+mod run;
+
+use formats::calls::{RingCall, SliceAnswer, SliceCall};
+use formats::frame::{Frame, POLYGON};
+use formats::{flat, pairs, Coord, Refusal};
+use geo::{Geometry, MultiPolygon};
+use tylertoo::clip::opened as clip;
+use tylertoo::sutherland_hodgman::opened::clip_ring;
+
+use answer::{Answer, Listed};
+use convert::{bounds_of, coords_of, polygon_of, ring_of};
+use run::Hints;
+
+pub use lines::lines;
+pub use tylertoo::tile::TileBounds;
+
+/// The frame call with `room` bytes of output.
+pub fn answer(frame: &[u8], room: usize) -> Result<Vec<u8>, Refusal> {
+    let frame = Frame::decode(frame)?;
+    if room < frame.room() {
+        return Err(22);
+    }
+    let polygons: Vec<_> = frame.parts.iter().map(|part| polygon_of(part)).collect();
+    let geometry = if frame.kind == POLYGON {
+        Geometry::Polygon(polygons.into_iter().next().expect("a kind 3 frame has one part"))
+    } else {
+        Geometry::MultiPolygon(MultiPolygon::new(polygons))
+    };
+    let hints = Hints { assume_simple: frame.flags & 1 != 0, skip_boundary_fallback: frame.flags & 2 != 0 };
+    Ok(answer::answer(&geometry, &bounds_of(frame.bounds), frame.buffer, hints).encode())
+}
+
+/// The numbers that a ring call writes: `clip_ring` on the ring as it is lent.
+pub fn ring_call(call: &RingCall) -> Result<Vec<f64>, Refusal> {
+    match call.refusal() {
+        Some(refusal) => Err(refusal),
+        None => {
+            let cut = clip_ring(&coords_of(&pairs(&call.ring)), &bounds_of(call.bounds));
+            Ok(flat(&ring_of(&cut)))
+        }
+    }
+}
+
+pub fn slice_call(call: &SliceCall) -> Result<SliceAnswer, Refusal> {
+    let rings = call.rings()?;
+    if let Some(refusal) = call.refusal(&rings) {
+        return Err(refusal);
+    }
+    let hints = Hints { assume_simple: call.assume_simple, skip_boundary_fallback: call.skip_boundary_fallback };
+    let geometry = Geometry::Polygon(polygon_of(&rings));
+    Ok(match answer::answer(&geometry, &bounds_of(call.bounds), call.buffer, hints) {
+        Answer::Nothing { .. } => SliceAnswer::Nothing,
+        Answer::Dropped => SliceAnswer::Dropped,
+        Answer::Unchanged => SliceAnswer::Unchanged,
+        Answer::Listed { mut parts, .. } => match parts.pop().expect("a polygon is listed as one part").listed {
+            Listed::Unchanged => SliceAnswer::Unchanged,
+            Listed::Cut(rings) => SliceAnswer::Cut(rings),
+            Listed::Overlay(reason) => SliceAnswer::Overlay(reason),
+        },
+    })
+}
+
+/// Whether two edges of the ring cross, by the scan or the sweep as the ring's length has it.
+pub fn has_self_intersecting_edges(ring: &[Coord]) -> bool {
+    clip::has_self_intersecting_edges(&coords_of(ring))
+}
+
+/// Whether a polygon with this exterior, closed, has an issue.
+pub fn has_structural_issues(ring: &[Coord], assume_simple: bool) -> bool {
+    clip::has_structural_issues(&polygon_of(&[ring.to_vec()]), assume_simple)
+}
+
+/// The pairs of edges that scan or sweep visit, each as its two edges' ends.
+pub fn visited_edge_pairs(ring: &[Coord]) -> Vec<[Coord; 4]> {
+    let mut visited = Vec::new();
+    clip::any_edge_pair(&coords_of(ring), |a, b| {
+        visited.push([a.start, a.end, b.start, b.end].map(|end| (end.x, end.y)));
+        false
+    });
+    visited
+}

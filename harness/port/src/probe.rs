@@ -1,0 +1,61 @@
+//! Safe calls of the functions that crate `probe` exports. A slice crosses as a pointer and a length, in that order.
+
+use formats::Bounds;
+
+mod exported {
+    extern "C" {
+        pub fn probe_empty(out: *mut f64, out_len: usize);
+        pub fn probe_is_valid(bounds: *const f64, len: usize) -> bool;
+        pub fn probe_width(bounds: *const f64, len: usize) -> f64;
+        pub fn probe_height(bounds: *const f64, len: usize) -> f64;
+        pub fn probe_buffered(bounds: *const f64, len: usize, buffer: f64, out: *mut f64, out_len: usize);
+        pub fn probe_expand(a: *const f64, a_len: usize, b: *const f64, b_len: usize, out: *mut f64, out_len: usize);
+        pub fn probe_intersect(a: *const f64, a_len: usize, b: *const f64, b_len: usize, out: *mut f64, out_len: usize);
+    }
+}
+
+/// Four numbers lent for an answer; one left unwritten would show as NaN.
+const UNWRITTEN: Bounds = [f64::NAN; 4];
+
+pub fn empty() -> Bounds {
+    let mut out = UNWRITTEN;
+    // SAFETY: pointer and length are those of an array that outlives the call; so in every call below.
+    unsafe { exported::probe_empty(out.as_mut_ptr(), out.len()) };
+    out
+}
+
+pub fn is_valid(bounds: &Bounds) -> bool {
+    // SAFETY: as in `empty`.
+    unsafe { exported::probe_is_valid(bounds.as_ptr(), bounds.len()) }
+}
+
+pub fn width(bounds: &Bounds) -> f64 {
+    // SAFETY: as in `empty`.
+    unsafe { exported::probe_width(bounds.as_ptr(), bounds.len()) }
+}
+
+pub fn height(bounds: &Bounds) -> f64 {
+    // SAFETY: as in `empty`.
+    unsafe { exported::probe_height(bounds.as_ptr(), bounds.len()) }
+}
+
+pub fn buffered(bounds: &Bounds, buffer: f64) -> Bounds {
+    let mut out = UNWRITTEN;
+    // SAFETY: as in `empty`.
+    unsafe { exported::probe_buffered(bounds.as_ptr(), bounds.len(), buffer, out.as_mut_ptr(), out.len()) };
+    out
+}
+
+pub fn expand(a: &Bounds, b: &Bounds) -> Bounds {
+    let mut out = UNWRITTEN;
+    // SAFETY: as in `empty`.
+    unsafe { exported::probe_expand(a.as_ptr(), a.len(), b.as_ptr(), b.len(), out.as_mut_ptr(), out.len()) };
+    out
+}
+
+pub fn intersect(a: &Bounds, b: &Bounds) -> Bounds {
+    let mut out = UNWRITTEN;
+    // SAFETY: as in `empty`.
+    unsafe { exported::probe_intersect(a.as_ptr(), a.len(), b.as_ptr(), b.len(), out.as_mut_ptr(), out.len()) };
+    out
+}

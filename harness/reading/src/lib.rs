@@ -1,0 +1,35 @@
+//! A second reading of document 01, written from its text alone: it shares no code with the oracle. It can make one
+//! deliberate mistake, so that the generator can be shown to find it.
+
+mod calls;
+mod cut;
+mod frame;
+mod issues;
+mod mistake;
+mod multipolygon;
+mod polygon;
+mod program;
+mod ring;
+
+pub use calls::{RingRoom, SliceRoom, Slices};
+pub use mistake::{Mistake, Place};
+pub use polygon::{Flags, Routed};
+pub use ring::Vertex;
+
+/// Reads document 01, rightly or with one mistake.
+#[derive(Clone, Copy, Debug)]
+pub struct Reading {
+    mistake: Option<Mistake>,
+}
+
+impl Reading {
+    pub const RIGHT: Reading = Reading { mistake: None };
+
+    pub fn with(mistake: Mistake) -> Reading {
+        Reading { mistake: Some(mistake) }
+    }
+
+    fn makes(&self, mistake: Mistake) -> bool {
+        self.mistake == Some(mistake)
+    }
+}

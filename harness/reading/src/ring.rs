@@ -1,0 +1,67 @@
+//! Vertices, closing and B.
+
+use crate::{Mistake, Reading};
+
+#[derive(Clone, Copy, Debug)]
+pub struct Vertex {
+    pub x: f64,
+    pub y: f64,
+}
+
+impl Vertex {
+    /// Compared in floats: -0.0 equals 0.0, NaN equals nothing.
+    pub fn equals(self, other: Vertex) -> bool {
+        self.x == other.x && self.y == other.y
+    }
+
+    pub fn is_finite(self) -> bool {
+        self.x.is_finite() && self.y.is_finite()
+    }
+}
+
+/// x, y numbers as vertices.
+pub fn vertices(numbers: &[f64]) -> Vec<Vertex> {
+    numbers.chunks(2).map(|pair| Vertex { x: pair[0], y: pair[1] }).collect()
+}
+
+/// Document 01's B of n.
+pub fn b(n: usize) -> usize {
+    let half_growth = |n: usize| n + n / 2;
+    match n {
+        0 => 0,
+        _ => half_growth(half_growth(half_growth(half_growth(n)))) + 2,
+    }
+}
+
+impl Reading {
+    /// Appends the first coordinate to a non-empty ring whose last doesn't equal it.
+    pub fn close(&self, ring: &mut Vec<Vertex>) {
+        let (Some(&first), Some(&last)) = (ring.first(), ring.last()) else {
+            return;
+        };
+        let equal = if self.makes(Mistake::ZeroSignsKeepOpen) {
+            first.x.to_bits() == last.x.to_bits() && first.y.to_bits() == last.y.to_bits()
+        } else {
+            first.equals(last)
+        };
+        if !equal {
+            ring.push(first);
+        }
+    }
+
+    pub fn closed(&self, rings: &[Vec<Vertex>]) -> Vec<Vec<Vertex>> {
+        let mut rings = rings.to_vec();
+        rings.iter_mut().for_each(|ring| self.close(ring));
+        rings
+    }
+
+    /// The length of a lent ring that room and limits go by: after closing.
+    pub fn length_for_room(&self, lent: &[Vertex]) -> usize {
+        if self.makes(Mistake::RoomUnclosed) || (self.makes(Mistake::NanSingleStaysOne) && lent.len() == 1) {
+            return lent.len();
+        }
+        let mut ring = lent.to_vec();
+        self.close(&mut ring);
+        ring.len()
+    }
+}
