@@ -2,9 +2,13 @@
 ghost use mathlib.Core.Path.{_≡_};
 ghost use Prim.Native.Nat.{ℕ};
 ghost use lib.Ieee.{nan};
-ghost use lib.ListN.{getD, set};
+ghost use lib.ListN.{length, getD, set};
 ghost use Rattle.tile.specs.Bounds as B;
+ghost use Rattle.sutherland_hodgman.specs.Call as C;
 ghost use Rattle.probe.specs.Numbers as S;
+use sutherland_hodgman::call::Check;
+use sutherland_hodgman::call::check_ring;
+use sutherland_hodgman::call::clip_lent;
 use tile::TileBounds;
 
 fn number_at(s: &[f64], i: usize) -> f64
@@ -91,4 +95,22 @@ pub extern "C" fn probe_buffered(b: &[f64], buffer: f64, out: &mut [f64])
     ensures { λ _. ⌜ now (out .exit) ≡ S.stored (now (out .entry)) (B.buffered (S.boundsAt (now (b .entry))) buffer) ⌝ }
 {
     store(out, bounds_at(b).buffered(buffer));
+}
+
+// The ring call without its clearing of the scratch slices, to be timed by itself; 0 where the call would be refused.
+#[no_mangle]
+pub extern "C" fn probe_clip_lent(
+    ring: &[f64],
+    bounds: &[f64],
+    a: &mut [f64],
+    b: &mut [f64],
+    out: &mut [f64],
+) -> usize
+    ensures { λ r. ⌜ (C.checked (length (now (ring .entry))) (length (now (a .entry))) (length (now (b .entry))) (length (now (out .entry))) ≡ Check.Passes
+        → C.ClippedTo (now (ring .entry)) (S.boundsAt (now (bounds .entry))) (now (out .entry)) r (now (out .exit))) ⌝ }
+{
+    match check_ring(ring.len(), a.len(), b.len(), out.len()) {
+        Check::Fails(_) => 0,
+        Check::Passes => clip_lent(ring, bounds_at(bounds), a, b, out),
+    }
 }

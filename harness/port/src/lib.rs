@@ -1,4 +1,7 @@
-//! The port, called through its static library, against the oracle.
+//! The port, called through its static libraries, against the oracle.
 
 pub mod bounds;
-mod probe;
+pub mod calls;
+pub mod probe;
+pub mod promise;
+pub mod rings;

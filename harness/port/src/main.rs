@@ -4,12 +4,13 @@ use std::process::exit;
 
 use compare::command::Command;
 
-const USAGE: &str = "usage: port bounds [--seed S] [--count N]";
+const USAGE: &str = "usage: port bounds|rings [--seed S] [--count N]";
 
 fn main() {
     let Command { what, seed, count } = Command::read(USAGE);
     let campaign = match what.as_str() {
         "bounds" => port::bounds::compare(seed, count),
+        "rings" => port::rings::compare(seed, count),
         _ => {
             eprintln!("{USAGE}");
             exit(2);

@@ -1,0 +1,115 @@
+-- The ring call: what the checks leave, and what copying in, cutting and copying out make of the lent slices. Assumes nothing.
+use mathlib.Core.Path.{_≡_, refl, sym, _∙_, ap}
+use mathlib.Core.Logic.{_⊎_, inl, inr}
+use mathlib.Core.Bool.{Bool, true, false, _||_, true≢false}
+use mathlib.Core.List.{List, [], _∷_, _++_}
+use Prim.Native.Nat.{ℕ, zero, suc, _+_, _*_, _/_, _%_, _≤_, _<_}
+use native.Mathlib.Nat.{le-trans}
+use native.Mathlib.Omega.{arith}
+use lib.Dec.{ltb, eqb}
+use lib.Ieee.{Float}
+use lib.ListN.{length, take, drop}
+use lib.Seq.{take-length, take-at}
+use borrow.Author.Tests.{ltb-false, eqb-false, lt-ltb, le-ltb, eq-eqb, ne-eqb}
+use Rattle.binary64.specs.Slices.{zeros}
+use Rattle.tile.specs.declared.Coord.{Coord}
+use Rattle.tile.specs.declared.TileBounds.{TileBounds}
+use Rattle.tile.specs.Ring.{coords, flat}
+use Rattle.tile.proofs.Rings.{length-flat, length-coords, coords-front}
+use Rattle.sutherland_hodgman.specs.declared.call.Refusal.{Refusal}
+use Rattle.sutherland_hodgman.specs.declared.call.Refusal.the-variants.{Lengths, Coordinates, Scratch, Output}
+use Rattle.sutherland_hodgman.specs.declared.call.Check.{Check}
+use Rattle.sutherland_hodgman.specs.declared.call.Check.the-variants.{Fails, Passes}
+use Rattle.sutherland_hodgman.specs.declared.call.RingAnswer.the-variants.{Refused, Clipped}
+use Rattle.sutherland_hodgman.specs.Growth.{halfGrowth, fourHalfGrowths, B, mostCoordinates}
+use Rattle.sutherland_hodgman.specs.Clip.{clipRing}
+use Rattle.sutherland_hodgman.specs.Promise.{Promise}
+use Rattle.sutherland_hodgman.specs.Cutter.{Cut}
+use Rattle.sutherland_hodgman.proofs.Growth.{le-four, room-pass, clipRing-grows}
+use Rattle.sutherland_hodgman.specs.Call.{refuse, checked, answered, ringAnswer, Cuttable, Done, ClippedTo, scratchAfter}
+
+-- ---- what passes the checks has room
+
+not-refused : (t : Bool) (r : Refusal) (c : Check) → refuse t r c ≡ Passes → (t ≡ false) × (c ≡ Passes)
+not-refused true r c e = absurd (let z : _≡_ {A = ℕ} 0 1 = cc in omega arith)
+not-refused false r c e = (refl, e)
+
+neither : (s t : Bool) → s || t ≡ false → (s ≡ false) × (t ≡ false)
+neither true t e = absurd (true≢false e)
+neither false t e = (refl, e)
+
+pub passes-cuttable : (numbers a b out : ℕ) → checked numbers a b out ≡ Passes → Cuttable numbers a b out
+unfolding checked
+passes-cuttable numbers a b out e =
+    let room = 2 * B (numbers / 2) in
+    let q1 = not-refused (eqb (numbers % 2) 1) Lengths _ e in
+    let q2 = not-refused (ltb mostCoordinates (numbers / 2)) Coordinates _ (q1 .1) in
+    let q3 = not-refused (ltb a room || ltb b room) Scratch _ (q2 .1) in
+    let q4 = not-refused (ltb out room) Output _ (q3 .1) in
+    let s = neither (ltb a room) (ltb b room) (q3 .0) in
+    let odd = eqb-false (numbers % 2) 1 (q1 .0) in
+    record {
+      even = omega (arith, odd);
+      few = ltb-false mostCoordinates (numbers / 2) (q2 .0);
+      first = ltb-false a room (s .0);
+      second = ltb-false b room (s .1);
+      output = ltb-false out room (q4 .0);
+    }
+
+-- the ring itself has room
+pub cuttable-ring : {numbers a b out : ℕ} → Cuttable numbers a b out → numbers ≤ b
+cuttable-ring {numbers} {b = b} c = let g = room-pass (numbers / 2) b (numbers / 2) (c .second) (le-four (numbers / 2)) in omega (arith, c .even)
+
+-- ---- a cut ring has room in the output
+
+pub promise-room : (b : TileBounds) (r q : List Coord) → Promise b r q → length q ≤ B (length r)
+unfolding B fourHalfGrowths halfGrowth
+promise-room b [] q p = go (length q) (p .vertices) (p .growth)
+  where
+    go : (n : ℕ) → (n ≡ 0) ⊎ (3 ≤ n) → n ≤ suc (fourHalfGrowths 0) → n ≤ 0
+    go n (inl e) g = omega arith
+    go n (inr l) g = absurd (omega arith)
+promise-room b (p ∷ r) q h = let g = h .growth in omega arith
+
+-- ---- copied in, cut, copied out
+
+module _ (ring : List Float) (bounds : TileBounds) (numbers : 2 * (length ring / 2) ≡ length ring) where
+  ring-length : length (coords ring) ≡ length ring / 2
+  ring-length = length-coords (length ring / 2) ring (sym numbers)
+
+  pub copied-in : (b b′ : List Float) → b′ ≡ take (length ring) ring ++ drop (length ring) b → coords (take (2 * (length ring / 2)) b′) ≡ coords ring
+  copied-in b b′ e = rw (e, take-length ring, numbers, take-at ring (drop (length ring) b) (length ring) refl)
+
+  pub cut-room : (r : ℕ) (after : List Float) → Cut bounds (coords ring) r after → r ≤ B (length ring / 2)
+  cut-room r after c = let g : length (clipRing bounds (coords ring)) ≤ B (length ring / 2) = rw ring-length at (promise-room bounds (coords ring) (clipRing bounds (coords ring)) (c .promise)) in omega (arith, c .count)
+
+  pub cut-clipped : (out out′ cut : List Float) (r : ℕ) → Cut bounds (coords ring) r cut → out′ ≡ take (2 * r) cut ++ drop (2 * r) out → ClippedTo ring bounds out r out′
+  cut-clipped out out′ cut r c ho = record { count = c .count; numbers = ho ∙ rw (c .numbers); promise = c .promise }
+
+pub clipped-done : (ring : List Float) (bounds : TileBounds) (a b out a′ b′ out′ : List Float) (r : ℕ) → ClippedTo ring bounds out r out′
+    → a′ ≡ scratchAfter (Clipped r) a → b′ ≡ scratchAfter (Clipped r) b → Done ring bounds a b out (Clipped r) a′ b′ out′
+clipped-done ring bounds a b out a′ b′ out′ r c ha hb = record {
+  first = ha;
+  second = hb;
+  output = c .numbers;
+  promise = λ m e. let q : r ≡ m = cc in rw (coords-front (clipRing bounds (coords ring)) (drop (2 * r) out) out′ m (sym q ∙ c .count) (c .numbers)) (c .promise);
+}
+
+-- a scratch slice is cleared, and has kept its length
+pub cleared : (m n : ℕ) (l : List Float) → l ≡ zeros m → m ≡ n → l ≡ zeros n
+cleared m n l h e = h ∙ rw e
+
+pub refused-done : (ring : List Float) (bounds : TileBounds) (a b out : List Float) (r : Refusal) → Done ring bounds a b out (Refused r) a b out
+refused-done ring bounds a b out r = record { first = refl; second = refl; output = refl; promise = λ m e. absurd (let z : _≡_ {A = ℕ} 0 1 = cc in omega arith) }
+
+-- a ring call answers few coordinates
+pub answer-few : (ring : List Float) (bounds : TileBounds) (a b out n : ℕ) → ringAnswer ring bounds a b out ≡ Clipped n → n ≤ 8 * mostCoordinates
+unfolding ringAnswer fourHalfGrowths halfGrowth
+answer-few ring bounds a b out n e = go (checked (length ring) a b out) (passes-cuttable (length ring) a b out) e
+  where
+    go : (c : Check) → (c ≡ Passes → Cuttable (length ring) a b out) → answered c (length (clipRing bounds (coords ring))) ≡ Clipped n → n ≤ 8 * mostCoordinates
+    go (Fails r) h q = absurd (let z : _≡_ {A = ℕ} 0 1 = cc in omega arith)
+    go Passes h q =
+        let k = h refl in
+        let m : length (clipRing bounds (coords ring)) ≡ n = cc in
+        omega (arith, k .few, length-coords (length ring / 2) ring (sym (k .even)), clipRing-grows bounds (coords ring))

@@ -1,0 +1,7 @@
+pub mod Calls
+pub mod Growth
+pub mod LeavingOff
+pub mod Promises
+pub mod Stages
+pub mod Turns
+pub mod Walking

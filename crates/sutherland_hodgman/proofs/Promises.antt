@@ -1,0 +1,210 @@
+-- Demand 3: with south at most north every latitude of a cut ring lies from south to north, whatever the floats; and where all numbers are at most 256 in magnitude,
+-- every longitude is finite and at most 2 ^ 1032 units (1 / 2 ^ 42) below west or above east. Assumes nothing.
+use mathlib.Core.Path.{_≡_, refl}
+use mathlib.Core.Logic.{_⊎_, inl, inr}
+use mathlib.Core.Bool.{Bool, true, false, cond}
+use mathlib.Core.List.{List, [], _∷_}
+use Prim.Native.Nat.{ℕ, suc, _+_, _*_, _^_, _≤_}
+use native.Mathlib.Nat.{le-trans}
+use native.Mathlib.Omega.{arith}
+use lib.IntN.{pos}
+use lib.Dec.{T, leb, leb→le, lit≤, lit<}
+use lib.ListN.{length, getD, take}
+use lib.Ieee.{Float, nan, fin, binary64, fits, le}
+use lib.Ieee.Fits.{and-l, and-r}
+use Rattle.binary64.specs.Scaled.{mag, plus, minus, interpolate}
+use Rattle.binary64.proofs.Order.{le-self-of-le, finite-between}
+use Rattle.binary64.proofs.Value.{Number, Le-of-le}
+use Rattle.binary64.proofs.Cut.{Range, In, widen}
+use Rattle.binary64.proofs.Lines.{cutAt, Reach, mag-le-reach, reach-cutAt, reach-widen, reach-mono, Cuttable, kept, crossed}
+use Rattle.tile.specs.declared.Coord.{Coord}
+use Rattle.tile.specs.declared.TileBounds.{TileBounds}
+use Rattle.tile.specs.declared.Edge.{Edge}
+use Rattle.tile.specs.declared.Edge.the-variants.{Left, Right, Bottom, Top}
+use Rattle.tile.specs.Ring.{coords, closed, close}
+use Rattle.tile.proofs.Rings.{coords-take, count-closed, count-open}
+use Rattle.sutherland_hodgman.specs.Lines.{fixed, free, place, bound, isLow, inside, crossing}
+use Rattle.sutherland_hodgman.specs.Clip.{pass, passes, finish, clipRing}
+use Rattle.sutherland_hodgman.specs.Promise.{Every, Latitude, modest, ModestBounds, ModestCoord, Longitude, Promise}
+use Rattle.sutherland_hodgman.proofs.Growth.{clipRing-grows}
+use Rattle.sutherland_hodgman.proofs.Turns.{Turns, every-take, every-finish, every-map, every-both, every-of-all, passed}
+
+-- ---- latitudes
+module _ (b : TileBounds) (h : T (le (b .«lat_min») (b .«lat_max»))) where
+  abbrev Any : Coord → Type 0
+  Any p = Unit {0}
+
+  abbrev Above : Coord → Type 0
+  Above p = T (le (b .«lat_min») (p .y))
+
+  bottom : Turns Any Above Bottom b
+  unfolding inside crossing
+  bottom = record { keeps = λ p _ i. i; crosses = λ s e i _ _ _ _. le-self-of-le (b .«lat_min») (b .«lat_max») h .0 }
+
+  top : Turns Above (Latitude b) Top b
+  unfolding inside crossing
+  top = record { keeps = λ p a i. (a, i); crosses = λ s e i _ _ _ _. (h, le-self-of-le (b .«lat_min») (b .«lat_max») h .1) }
+
+  latitudes : (r : List Coord) → Every (Latitude b) (clipRing b r)
+  unfolding clipRing passes
+  latitudes r =
+      let r2 = pass Right b (pass Left b r) in
+      let r3 = pass Bottom b r2 in
+      every-finish (Latitude b) (pass Top b r3) (passed Above (Latitude b) Top b top r3 (passed Any Above Bottom b bottom r2 (every-of-all Any r2 (λ p. tt))))
+
+-- ---- modest numbers, from -256 to 256
+abbrev Modest : Float → Type 0
+Modest x = T (fits binary64 x) × T (modest x)
+
+abbrev least : Float
+least = fin true 1 (pos 8)
+
+abbrev greatest : Float
+greatest = fin false 1 (pos 8)
+
+-- 256, in units
+abbrev most : ℕ
+most = 2 ^ 1082
+
+abbrev whole : Range
+whole = record { lp = 0; ln = most; hp = most; hn = 0 }
+
+modest-in : (x : Float) → Modest x → In binary64 whole x
+unfolding fits plus minus
+modest-in x h =
+    let l = and-l (le least x) (le x greatest) (h .1) in
+    let g = and-r (le least x) (le x greatest) (h .1) in
+    let n : Number binary64 x = record { is-finite = finite-between least x greatest tt tt l g; in-format = h .0 } in
+    record { number = n; not-below = Le-of-le (record { is-finite = tt; in-format = tt }) n l; not-above = Le-of-le n (record { is-finite = tt; in-format = tt }) g }
+
+-- ---- one pass over a ring whose vertices lie in v in the coordinate that the line fixes, and in u in the other
+abbrev Lies : Edge → Range → Range → Coord → Type 0
+Lies l v u p = In binary64 v (fixed l p) × In binary64 u (free l p)
+
+-- one overrun, in units, and what nothing lies beyond: 256 and two of them
+abbrev step : ℕ
+step = 2 ^ 1031
+
+abbrev far : ℕ
+far = most + step + step
+
+abbrev Cut : Edge → TileBounds → Range → Range → Type 0
+Cut l b v u = Cuttable binary64 1030 far (bound l b) v u
+
+abbrev Passed : Edge → TileBounds → Range → Range → Coord → Type 0
+Passed l b v u = Lies l (cutAt binary64 (isLow l) (bound l b) v) (widen step u)
+
+turns : (l : Edge) (b : TileBounds) (v u : Range) → Cut l b v u → Turns (Lies l v u) (Passed l b v u) l b
+unfolding inside crossing
+turns l b v u h = record {
+  keeps = λ p a i. let k = kept (isLow l) h (a .0) (a .1) i in (k .fixed, k .free);
+  crosses = λ s e i hs he p q. let k = crossed (isLow l) i h (hs .0) (he .0) (hs .1) (he .1) p q in placed l (interpolate binary64 (bound l b) (fixed l s) (fixed l e) (free l s) (free l e)) (k .fixed) (k .free);
+}
+  where
+    placed : (l : Edge) (y : Float) {v u : Range} → In binary64 v (bound l b) → In binary64 u y → Lies l v u (place l (bound l b) y)
+    placed Left y h k = (h, k)
+    placed Right y h k = (h, k)
+    placed Bottom y h k = (h, k)
+    placed Top y h k = (h, k)
+
+whole-reach : Reach most whole
+whole-reach = record { low-end = lit≤ tt; high-end = lit≤ tt }
+
+modest-reach : (x : Float) → Modest x → mag binary64 x ≤ most
+modest-reach x h = mag-le-reach whole-reach (modest-in x h)
+
+cut : (l : Edge) (b : TileBounds) {v u : Range} → Modest (bound l b) → Reach far v → Reach far u → Cut l b v u
+cut l b m v u = record { room = lit< tt; reach = lit< tt; line = modest-in (bound l b) m .number; line-le = le-trans (modest-reach (bound l b) m) (lit≤ tt); fixed = v; free = u }
+
+-- ---- the four passes
+-- what they leave of a longitude, in the words of the demand
+end : (b : TileBounds) (p : Coord) → In binary64 (widen step (widen step (cutAt binary64 false (b .«lng_max») (cutAt binary64 true (b .«lng_min») whole)))) (p .x) → Longitude b p
+end b p h =
+    let f = binary64 in (
+      h .number .is-finite,
+      low (plus f (b .«lng_min»)) (minus f (p .x)) (plus f (p .x)) (minus f (b .«lng_min»)) step (h .not-below),
+      high (plus f (p .x)) (minus f (b .«lng_max»)) (plus f (b .«lng_max»)) (minus f (p .x)) step (h .not-above),
+    )
+  where
+    low : (p n q m e : ℕ) → p + n ≤ q + (m + e + e) → p + n ≤ q + m + (e + e)
+    low p n q m e h = omega arith
+
+    high : (p n q m e : ℕ) → p + n ≤ q + e + e + m → p + n ≤ q + m + (e + e)
+    high p n q m e h = omega arith
+
+abbrev Fine : Coord → Type 0
+Fine p = Modest (p .x) × Modest (p .y)
+
+longitudes : (b : TileBounds) (r : List Coord) → Modest (b .«lng_min») → Modest (b .«lat_min») → Modest (b .«lng_max») → Modest (b .«lat_max») → Every Fine r → Every (Longitude b) (clipRing b r)
+unfolding clipRing passes
+longitudes b r hw hs he hn hr =
+    let f = binary64 in
+    let x1 : Range = cutAt f true (b .«lng_min») whole in
+    let y1 : Range = widen step whole in
+    let x2 : Range = cutAt f false (b .«lng_max») x1 in
+    let y2 : Range = widen step y1 in
+    let y3 : Range = cutAt f true (b .«lat_min») y2 in
+    let x3 : Range = widen step x2 in
+    let y4 : Range = cutAt f false (b .«lat_max») y3 in
+    let x4 : Range = widen step x3 in
+    let rx1 : Reach most x1 = reach-cutAt f true (b .«lng_min») (modest-reach (b .«lng_min») hw) whole-reach in
+    let ry1 : Reach (most + step) y1 = reach-widen step whole-reach in
+    let rx2 : Reach most x2 = reach-cutAt f false (b .«lng_max») (modest-reach (b .«lng_max») he) rx1 in
+    let ry2 : Reach far y2 = reach-widen step ry1 in
+    let ry3 : Reach far y3 = reach-cutAt f true (b .«lat_min») (le-trans (modest-reach (b .«lat_min») hs) (lit≤ tt)) ry2 in
+    let rx3 : Reach (most + step) x3 = reach-widen step rx2 in
+    let c1 : Cut Left b whole whole = cut Left b hw (reach-mono (lit≤ tt) whole-reach) (reach-mono (lit≤ tt) whole-reach) in
+    let c2 : Cut Right b x1 y1 = cut Right b he (reach-mono (lit≤ tt) rx1) (reach-mono (lit≤ tt) ry1) in
+    let c3 : Cut Bottom b y2 x2 = cut Bottom b hs ry2 (reach-mono (lit≤ tt) rx2) in
+    let c4 : Cut Top b y3 x3 = cut Top b hn ry3 (reach-mono (lit≤ tt) rx3) in
+    let r1 = pass Left b r in
+    let r2 = pass Right b r1 in
+    let r3 = pass Bottom b r2 in
+    let r4 = pass Top b r3 in
+    let h0 : Every (Lies Left whole whole) r = every-map Fine (Lies Left whole whole) r (λ p h. (modest-in (p .x) (h .0), modest-in (p .y) (h .1))) hr in
+    let h1 : Every (Lies Right x1 y1) r1 = passed (Lies Left whole whole) (Lies Left x1 y1) Left b (turns Left b whole whole c1) r h0 in
+    let h2 : Every (Lies Right x2 y2) r2 = passed (Lies Right x1 y1) (Lies Right x2 y2) Right b (turns Right b x1 y1 c2) r1 h1 in
+    let h2' : Every (Lies Bottom y2 x2) r2 = every-map (Lies Right x2 y2) (Lies Bottom y2 x2) r2 (λ p h. (h .1, h .0)) h2 in
+    let h3 : Every (Lies Top y3 x3) r3 = passed (Lies Bottom y2 x2) (Lies Bottom y3 x3) Bottom b (turns Bottom b y2 x2 c3) r2 h2' in
+    let h4 : Every (Lies Top y4 x4) r4 = passed (Lies Top y3 x3) (Lies Top y4 x4) Top b (turns Top b y3 x3 c4) r3 h3 in
+    every-map (Lies Top y4 x4) (Longitude b) (finish r4) (λ p h. end b p (h .1)) (every-finish (Lies Top y4 x4) r4 h4)
+
+-- ---- no vertices, or at least three
+vertices : (r : List Coord) → (length (finish r) ≡ 0) ⊎ (3 ≤ length (finish r))
+unfolding finish
+vertices r = go (leb 3 (length r)) (leb→le 3 (length r))
+  where
+    closing : (c : Bool) → closed r ≡ c → length r ≤ length (close r)
+    closing true e = omega (arith, count-closed r e)
+    closing false e = omega (arith, count-open r e)
+
+    go : (three : Bool) → (T three → 3 ≤ length r) → (length (cond three (close r) []) ≡ 0) ⊎ (3 ≤ length (cond three (close r) []))
+    go true h = inr (le-trans (h tt) (closing (closed r) refl))
+    go false h = inl refl
+
+-- ---- the demand, whole: what it asks of is held by doubles
+abbrev pub HeldBounds : TileBounds → Type 0
+HeldBounds b = T (fits binary64 (b .«lng_min»)) × T (fits binary64 (b .«lat_min»)) × T (fits binary64 (b .«lng_max»)) × T (fits binary64 (b .«lat_max»))
+
+abbrev pub HeldCoord : Coord → Type 0
+HeldCoord p = T (fits binary64 (p .x)) × T (fits binary64 (p .y))
+
+-- the numbers of a slice are doubles, and so are those of the ring at its front
+pub held-front : (s : List Float) (n : ℕ) → ((i : ℕ) → T (fits binary64 (getD s i nan))) → Every HeldCoord (coords (take (2 * n) s))
+unfolding coords
+held-front s n h = rw (coords-take n s) (every-take HeldCoord n (coords s) (held s h))
+  where
+    held : (s : List Float) → ((i : ℕ) → T (fits binary64 (getD s i nan))) → Every HeldCoord (coords s)
+    held [] h = tt
+    held (x ∷ []) h = tt
+    held (x ∷ y ∷ s) h = ((h 0, h 1), held s (λ i. h (suc (suc i))))
+
+pub promise : (b : TileBounds) (r : List Coord) → HeldBounds b → Every HeldCoord r → Promise b r (clipRing b r)
+unfolding clipRing
+promise b r hb hr = record {
+  latitudes = λ h. latitudes b h r;
+  vertices = vertices (passes b r);
+  growth = clipRing-grows b r;
+  longitudes = λ _ _ mb mr. longitudes b r (hb .0, mb .0) (hb .1, mb .1) (hb .2, mb .2) (hb .3, mb .3)
+      (every-map (λ p. HeldCoord p × ModestCoord p) Fine r (λ p h. ((h .0 .0, h .1 .0), (h .0 .1, h .1 .1))) (every-both HeldCoord ModestCoord r hr mr));
+}

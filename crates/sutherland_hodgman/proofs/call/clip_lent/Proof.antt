@@ -1,0 +1,64 @@
+-- `clip_lent` meets its contract: copied in, cut, copied out. Assumes nothing.
+use Prim.Native.Nat.{ℕ, _*_, _/_, _≤_}
+use native.Mathlib.Nat.{le-refl}
+use native.Mathlib.Omega.{arith}
+use denote.Ref.{now}
+use lib.ListN.{length}
+use Rattle.tile.specs.Ring.{coords}
+use Rattle.sutherland_hodgman.specs.Cutter.{Cut}
+use Rattle.sutherland_hodgman.proofs.Growth.{B-le}
+use Rattle.sutherland_hodgman.proofs.Calls.{cuttable-ring, copied-in, cut-room, cut-clipped}
+use borrow.Author.Needs.{needs}
+use Rattle.sutherland_hodgman.proofs.call.clip_lent.Statement.{statement}
+use Rattle.sutherland_hodgman.proofs.call.clip_lent.Tie as tie
+
+copy-requires : tie.Need-copy-requires
+copy-requires c κs = let a = c .before .before .before .before .before in (le-refl _, cuttable-ring (a .pre))
+
+clip-ring-requires : tie.Need-clip-ring-requires
+clip-ring-requires c κs = search needs
+
+mul-copy : tie.Need-mul-copy
+mul-copy c =
+    let a = c .before .before .before .before .before .before .before .before .before .before .before .before .before .before .before .before .before in
+    let s = now (a .args .ring) in
+    let k : Cut (a .args .bounds) (coords s) (c .before .before .before .before .before .before .clip-ring .result) _ = rw (copied-in s (a .args .bounds) (a .pre .even) _ _ (c .before .before .before .before .before .before .before .before .before .before .before .copy .ensures)) at (c .before .before .before .before .before .before .clip-ring .ensures) in
+    omega (arith, cut-room s (a .args .bounds) (a .pre .even) _ _ k, B-le (length s / 2) (a .pre .few))
+
+copy-requires-2 : tie.Need-copy-requires-2
+copy-requires-2 c κs =
+    let a = c .before .before .before .before .before .before .before .before .before .before .before .before .before .before .before .before .before in
+    let s = now (a .args .ring) in
+    let k : Cut (a .args .bounds) (coords s) (c .before .before .before .before .before .before .clip-ring .result) _ = rw (copied-in s (a .args .bounds) (a .pre .even) _ _ (c .before .before .before .before .before .before .before .before .before .before .before .copy .ensures)) at (c .before .before .before .before .before .before .clip-ring .ensures) in
+    let g = cut-room s (a .args .bounds) (a .pre .even) _ _ k in
+    let p = a .pre in
+    (omega arith, omega arith)
+
+same-length : tie.Need-same-length
+same-length c = search needs
+
+same-length-2 : tie.Need-same-length-2
+same-length-2 c = search needs
+
+same-length-3 : tie.Need-same-length-3
+same-length-3 c = search needs
+
+returns : tie.Need-returns
+returns c =
+    let a = c .before .before .before .before .before .before .before .before .before .before .before .before .before .before .before .before .before .before .before .before in
+    let s = now (a .args .ring) in
+    let k : Cut (a .args .bounds) (coords s) (c .before .before .before .before .before .before .before .before .before .clip-ring .result) _ = rw (copied-in s (a .args .bounds) (a .pre .even) _ _ (c .before .before .before .before .before .before .before .before .before .before .before .before .before .before .copy .ensures)) at (c .before .before .before .before .before .before .before .before .before .clip-ring .ensures) in
+    cut-clipped s (a .args .bounds) (a .pre .even) (now (a .args .out)) _ _ _ k (c .before .before .copy2 .ensures)
+
+pub clip-lent-spec : {M : Type 1} → statement M
+clip-lent-spec =
+    tie.close
+    (tie.spec
+    copy-requires
+    clip-ring-requires
+    mul-copy
+    copy-requires-2
+    same-length
+    same-length-2
+    same-length-3
+    returns)

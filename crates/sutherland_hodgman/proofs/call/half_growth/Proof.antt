@@ -1,0 +1,16 @@
+-- `half_growth` meets its contract. Assumes nothing.
+use mathlib.Core.Path.{refl}
+use Rattle.sutherland_hodgman.specs.Growth.{halfGrowth}
+use borrow.Author.Needs.{needs}
+use Rattle.sutherland_hodgman.proofs.call.half_growth.Statement.{statement}
+use Rattle.sutherland_hodgman.proofs.call.half_growth.Tie as tie
+
+add-result : tie.Need-add-result
+add-result c = search needs
+
+returns : tie.Need-returns
+unfolding halfGrowth
+returns c = refl
+
+pub half-growth-spec : {M : Type 1} → statement M
+half-growth-spec = tie.close (tie.spec add-result returns)

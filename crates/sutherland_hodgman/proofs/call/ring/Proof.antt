@@ -1,0 +1,66 @@
+-- `ring` meets its contract: refused by the checks, or cut and the scratch slices cleared. Assumes nothing.
+use mathlib.Core.Path.{sym, _∙_, ap}
+use denote.Ref.{now}
+use Rattle.sutherland_hodgman.specs.declared.call.RingAnswer.the-variants.{Clipped}
+use Rattle.sutherland_hodgman.specs.Call.{ringAnswer}
+use Rattle.sutherland_hodgman.proofs.Calls.{passes-cuttable, clipped-done, cleared, refused-done}
+use borrow.Author.Needs.{needs}
+use Rattle.sutherland_hodgman.proofs.call.ring.Statement.{statement}
+use Rattle.sutherland_hodgman.proofs.call.ring.Tie as tie
+
+check-ring-requires : tie.Need-check-ring-requires
+check-ring-requires c κs = search needs
+
+enum-known-refusal : tie.Need-enum-known-refusal
+enum-known-refusal c = search needs
+
+enum-told : tie.Need-enum-told
+enum-told c = search needs
+
+clip-lent-requires : tie.Need-clip-lent-requires
+clip-lent-requires c κs = passes-cuttable _ _ _ _ (sym (c .before .before .before .before .before .check-ring .ensures) ∙ c .before .before .before .enum-told .given .1)
+
+clear-requires : tie.Need-clear-requires
+clear-requires c κs = search needs
+
+clear-requires-2 : tie.Need-clear-requires-2
+clear-requires-2 c κs = search needs
+
+returns : tie.Need-returns
+unfolding ringAnswer
+returns c = let a = c .before .before .before .before .before .before .before .before .args in (rw (← c .before .before .before .check-ring .ensures, c .before .refusal .given .1), refused-done (now (a .ring)) (a .bounds) (now (a .a)) (now (a .b)) (now (a .out)) _)
+
+same-length : tie.Need-same-length
+same-length c = search needs
+
+same-length-2 : tie.Need-same-length-2
+same-length-2 c = search needs
+
+same-length-3 : tie.Need-same-length-3
+same-length-3 c = search needs
+
+returns-2 : tie.Need-returns-2
+unfolding ringAnswer
+returns-2 c =
+    let a = c .before .before .before .before .before .before .before .before .before .before .before .before .before .before .before .before .before .before .before .before .before .before .before .before .before .args in
+    let cut = c .before .before .before .before .before .before .before .before .before .before .before .before .before .before .clip-lent in (
+      rw (← c .before .before .before .before .before .before .before .before .before .before .before .before .before .before .before .before .before .before .before .before .check-ring .ensures, c .before .before .before .before .before .before .before .before .before .before .before .before .before .before .before .before .before .before .enum-told .given .1) (ap Clipped (cut .ensures .count)),
+      clipped-done (now (a .ring)) (a .bounds) (now (a .a)) (now (a .b)) (now (a .out)) _ _ _ _ (cut .ensures)
+          (cleared _ _ _ (c .before .before .before .before .before .before .clear .ensures) (cut .kept .1 .1 .0)) (cleared _ _ _ (c .before .before .clear2 .ensures) (cut .kept .1 .1 .1 .0)),
+    )
+
+pub ring-spec : {M : Type 1} → statement M
+ring-spec =
+    tie.close
+    (tie.spec
+    check-ring-requires
+    enum-known-refusal
+    enum-told
+    clip-lent-requires
+    clear-requires
+    clear-requires-2
+    returns
+    same-length
+    same-length-2
+    same-length-3
+    returns-2)

@@ -1,0 +1,62 @@
+-- `intersect` meets its contract: each arm knows its edge. Assumes nothing.
+use Rattle.sutherland_hodgman.specs.Lines.{crossing}
+use borrow.Author.Needs.{needs}
+use Rattle.sutherland_hodgman.proofs.intersect.Statement.{statement}
+use Rattle.sutherland_hodgman.proofs.intersect.Tie as tie
+
+enum-told : tie.Need-enum-told
+enum-told c = search needs
+
+interpolate-requires : tie.Need-interpolate-requires
+interpolate-requires c κs = search needs
+
+enum-told-2 : tie.Need-enum-told-2
+enum-told-2 c = search needs
+
+interpolate-requires-2 : tie.Need-interpolate-requires-2
+interpolate-requires-2 c κs = search needs
+
+enum-told-3 : tie.Need-enum-told-3
+enum-told-3 c = search needs
+
+interpolate-requires-3 : tie.Need-interpolate-requires-3
+interpolate-requires-3 c κs = search needs
+
+enum-told-4 : tie.Need-enum-told-4
+enum-told-4 c = search needs
+
+interpolate-requires-4 : tie.Need-interpolate-requires-4
+interpolate-requires-4 c κs = search needs
+
+returns : tie.Need-returns
+unfolding crossing
+returns c = rw (c .before .enum-told .given .1, c .interpolate .ensures)
+
+returns-2 : tie.Need-returns-2
+unfolding crossing
+returns-2 c = rw (c .before .enum-told2 .given .1, c .interpolate2 .ensures)
+
+returns-3 : tie.Need-returns-3
+unfolding crossing
+returns-3 c = rw (c .before .enum-told3 .given .1, c .interpolate3 .ensures)
+
+returns-4 : tie.Need-returns-4
+unfolding crossing
+returns-4 c = rw (c .before .enum-told4 .given .1, c .interpolate4 .ensures)
+
+pub intersect-spec : {M : Type 1} → statement M
+intersect-spec =
+    tie.close
+    (tie.spec
+    enum-told
+    interpolate-requires
+    enum-told-2
+    interpolate-requires-2
+    enum-told-3
+    interpolate-requires-3
+    enum-told-4
+    interpolate-requires-4
+    returns
+    returns-2
+    returns-3
+    returns-4)

@@ -1,0 +1,49 @@
+-- Sutherland and Hodgman's rule for a ring and four lines (document 01, "Cut rings"): the step, the pass, leaving off, the ring. Definitions only.
+use mathlib.Core.Bool.{Bool, true, false, cond}
+use mathlib.Core.List.{List, [], _∷_, _++_}
+use Prim.Native.Nat.{ℕ, _-_}
+use lib.Dec.{leb}
+use lib.ListN.{length, take}
+use Rattle.tile.specs.declared.Coord.{Coord}
+use Rattle.tile.specs.declared.TileBounds.{TileBounds}
+use Rattle.tile.specs.declared.Edge.{Edge}
+use Rattle.tile.specs.declared.Edge.the-variants.{Left, Right, Bottom, Top}
+use Rattle.tile.specs.Ring.{last, closed, close}
+use Rattle.sutherland_hodgman.specs.Lines.{inside, crossing}
+
+-- "In to in: the end. In to out: the crossing. Out to in: the crossing, then the end. Out to out: none."
+abbrev pub step : Bool → Bool → Coord → Coord → List Coord
+step true true cross end = end ∷ []
+step true false cross end = cross ∷ []
+step false true cross end = cross ∷ end ∷ []
+step false false cross end = []
+
+-- the steps from the vertex s, whose verdict is v, along the vertices that follow
+unfoldable pub steps : Edge → TileBounds → Bool → Coord → List Coord → List Coord
+steps l b v s [] = []
+steps l b v s (e ∷ r) = step v (inside l b e) (crossing l b s e) e ++ steps l b (inside l b e) e r
+
+-- "leaves off the last vertex if the list has two or more and first equals last"
+unfoldable pub leaveOff : List Coord → List Coord
+leaveOff [] = []
+leaveOff (p ∷ []) = p ∷ []
+leaveOff (p ∷ q ∷ r) = cond (closed (p ∷ q ∷ r)) (take (length (p ∷ q ∷ r) - 1) (p ∷ q ∷ r)) (p ∷ q ∷ r)
+
+-- "Start from the last vertex kept."
+unfoldable pub around : Edge → TileBounds → List Coord → List Coord
+around l b [] = []
+around l b (p ∷ r) = steps l b (inside l b (last p r)) (last p r) (p ∷ r)
+
+unfoldable pub pass : Edge → TileBounds → List Coord → List Coord
+pass l b r = around l b (leaveOff r)
+
+-- "Passes run Left, Right, Bottom, Top."
+unfoldable pub passes : TileBounds → List Coord → List Coord
+passes b r = pass Top b (pass Bottom b (pass Right b (pass Left b r)))
+
+-- "After four passes fewer than 3 vertices give an empty ring; else the first is appended unless it equals the last."
+unfoldable pub finish : List Coord → List Coord
+finish r = cond (leb 3 (length r)) (close r) []
+
+unfoldable pub clipRing : TileBounds → List Coord → List Coord
+clipRing b r = finish (passes b r)

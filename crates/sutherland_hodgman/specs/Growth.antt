@@ -1,0 +1,18 @@
+-- How many vertices a cut ring can have (document 01, "Frames": half-growth and B). Definitions only.
+use Prim.Native.Nat.{ℕ, zero, suc, _+_, _/_}
+
+-- "n plus half of n rounded down"
+unfoldable pub halfGrowth : ℕ → ℕ
+halfGrowth n = n + n / 2
+
+unfoldable pub fourHalfGrowths : ℕ → ℕ
+fourHalfGrowths n = halfGrowth (halfGrowth (halfGrowth (halfGrowth n)))
+
+-- "B(n) is four half-growths of n, plus 2; B(0) = 0."
+unfoldable pub B : ℕ → ℕ
+B zero = 0
+B (suc n) = fourHalfGrowths (suc n) + 2
+
+-- "over 65,536 coordinates" (refusal 20)
+abbrev pub mostCoordinates : ℕ
+mostCoordinates = 65536

@@ -1,0 +1,6 @@
+pub mod Lines
+pub mod Clip
+pub mod Growth
+pub mod Promise
+pub mod Cutter
+pub mod Call

@@ -1,0 +1,47 @@
+-- What the ring cutter promises of every ring that it answers: demand 3 (document 01, "Cut rings"). Definitions only.
+use mathlib.Core.Logic.{_⊎_}
+use mathlib.Core.Path.{_≡_}
+use mathlib.Core.Bool.{Bool, true, false, _&&_}
+use mathlib.Core.List.{List, [], _∷_}
+use Prim.Native.Nat.{ℕ, suc, _^_, _≤_}
+use lib.Dec.{T}
+use lib.IntN.{pos}
+use lib.Ieee.{Float, fin, binary64, le}
+use lib.Ieee.Scale.{finite}
+use lib.ListN.{length}
+use Rattle.binary64.specs.Scaled.{LessAtMost}
+use Rattle.tile.specs.declared.Coord.{Coord}
+use Rattle.tile.specs.declared.TileBounds.{TileBounds}
+use Rattle.sutherland_hodgman.specs.Growth.{fourHalfGrowths}
+
+abbrev pub Every : (Coord → Type 0) → List Coord → Type 0
+Every P [] = Unit {0}
+Every P (p ∷ r) = P p × Every P r
+
+-- the latitude lies from south to north
+abbrev pub Latitude : TileBounds → Coord → Type 0
+Latitude b p = T (le (b .«lat_min») (p .y)) × T (le (p .y) (b .«lat_max»))
+
+-- finite, and at most 256 in magnitude
+abbrev pub modest : Float → Bool
+modest x = le (fin true 1 (pos 8)) x && le x (fin false 1 (pos 8))
+
+abbrev pub ModestBounds : TileBounds → Type 0
+ModestBounds b = T (modest (b .«lng_min»)) × T (modest (b .«lat_min»)) × T (modest (b .«lng_max»)) × T (modest (b .«lat_max»))
+
+abbrev pub ModestCoord : Coord → Type 0
+ModestCoord p = T (modest (p .x)) × T (modest (p .y))
+
+-- 1/2^42, times 2^1074
+abbrev pub overrun : ℕ
+overrun = 2 ^ 1032
+
+-- the longitude is finite, and at most that much below west or above east
+abbrev pub Longitude : TileBounds → Coord → Type 0
+Longitude b p = T (finite (p .x)) × LessAtMost binary64 (b .«lng_min») (p .x) overrun × LessAtMost binary64 (p .x) (b .«lng_max») overrun
+
+pub record Promise (b : TileBounds) (ring answer : List Coord) : Type 0 where
+  pub latitudes : T (le (b .«lat_min») (b .«lat_max»)) → Every (Latitude b) answer
+  pub vertices : (length answer ≡ 0) ⊎ (3 ≤ length answer)
+  pub growth : length answer ≤ suc (fourHalfGrowths (length ring))
+  pub longitudes : T (le (b .«lat_min») (b .«lat_max»)) → T (le (b .«lng_min») (b .«lng_max»)) → ModestBounds b → Every ModestCoord ring → Every (Longitude b) answer

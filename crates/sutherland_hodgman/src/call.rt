@@ -1,0 +1,115 @@
+// The ring call: a lent ring, four bounds used as given, two scratch slices and an output. It is open to callers and refuses what it can't cut.
+ghost use mathlib.Core.Path.{_≡_};
+ghost use Prim.Native.Nat.{_*_, _/_, _≤_};
+ghost use lib.ListN.{length};
+ghost use Rattle.sutherland_hodgman.specs.Growth.{halfGrowth, B, mostCoordinates};
+ghost use Rattle.sutherland_hodgman.specs.Call as S;
+use super::clip_ring;
+use binary64::slices::clear;
+use binary64::slices::copy;
+use tile::TileBounds;
+
+pub const MOST_COORDINATES: usize = 65536;
+
+// Why a call is refused: document 01's 19, 20, 21 and 22.
+pub enum Refusal {
+    Lengths,
+    Coordinates,
+    Scratch,
+    Output,
+}
+
+// The answer of a ring call: a refusal, or how many coordinates the cut ring has.
+pub enum RingAnswer {
+    Refused(Refusal),
+    Clipped(usize),
+}
+
+// Whether there is a refusal.
+pub enum Check {
+    Fails(Refusal),
+    Passes,
+}
+
+// Half as many again, rounded down.
+fn half_growth(n: usize) -> usize
+    requires { ⌜ n ≤ 8 * mostCoordinates ⌝ }
+    ensures { λ r. ⌜ r ≡ halfGrowth n ⌝ }
+{
+    n + n / 2
+}
+
+// The room for a cut ring of n vertices, B(n).
+pub fn most_vertices(n: usize) -> usize
+    requires { ⌜ n ≤ mostCoordinates ⌝ }
+    ensures { λ r. ⌜ r ≡ B n ⌝ }
+{
+    if n == 0 {
+        return 0;
+    }
+    half_growth(half_growth(half_growth(half_growth(n)))) + 2
+}
+
+// The refusals of a ring call, in their order, by the count of numbers and the lengths of the other slices.
+pub fn check_ring(numbers: usize, a: usize, b: usize, out: usize) -> Check
+    ensures { λ r. ⌜ r ≡ S.checked numbers a b out ⌝ }
+{
+    if numbers % 2 == 1 {
+        return Check::Fails(Refusal::Lengths);
+    }
+    let n = numbers / 2;
+    if MOST_COORDINATES < n {
+        return Check::Fails(Refusal::Coordinates);
+    }
+    let room = 2 * most_vertices(n);
+    if a < room {
+        return Check::Fails(Refusal::Scratch);
+    }
+    if b < room {
+        return Check::Fails(Refusal::Scratch);
+    }
+    if out < room {
+        return Check::Fails(Refusal::Output);
+    }
+    Check::Passes
+}
+
+// Cuts a ring for which there is room: copies it in, cuts it and copies the result out. The scratch slices are left as the cutter leaves them.
+pub fn clip_lent(
+    ring: &[f64],
+    bounds: TileBounds,
+    a: &mut [f64],
+    b: &mut [f64],
+    out: &mut [f64],
+) -> usize
+    requires { ⌜ S.Cuttable (length (now ring)) (length (now a)) (length (now b)) (length (now out)) ⌝ }
+    ensures { λ r. ⌜ S.ClippedTo (now (ring .entry)) bounds (now (out .entry)) r (now (out .exit)) ⌝ }
+{
+    copy(ring, b, ring.len());
+    let n = clip_ring(ring.len() / 2, bounds, a, b);
+    copy(b, out, 2 * n);
+    n
+}
+
+// `clip_ring` on the ring as lent, not closed beforehand. A refusal changes nothing lent; a success fills both scratch slices with zeros, whole, and leaves the output past the answer unchanged.
+// The logic has one NaN: where the answer has one its bits are free.
+pub fn ring(
+    ring: &[f64],
+    bounds: TileBounds,
+    a: &mut [f64],
+    b: &mut [f64],
+    out: &mut [f64],
+) -> RingAnswer
+    ensures { λ r. ⌜ r ≡ S.ringAnswer (now (ring .entry)) bounds (length (now (a .entry))) (length (now (b .entry))) (length (now (out .entry))) ⌝ }
+    ensures { λ r. ⌜ S.Done (now (ring .entry)) bounds (now (a .entry)) (now (b .entry)) (now (out .entry)) r (now (a .exit)) (now (b .exit)) (now (out .exit)) ⌝ }
+{
+    match check_ring(ring.len(), a.len(), b.len(), out.len()) {
+        Check::Fails(refusal) => RingAnswer::Refused(refusal),
+        Check::Passes => {
+            let n = clip_lent(ring, bounds, a, b, out);
+            clear(a);
+            clear(b);
+            RingAnswer::Clipped(n)
+        }
+    }
+}
