@@ -1,4 +1,5 @@
 pub mod Calls
+mod Cases
 pub mod Growth
 pub mod LeavingOff
 pub mod Promises

@@ -1,0 +1,70 @@
+-- Document 01's worked rings on the bounds 0, 0, 10, 10 and a few cuts more, computed from the definitions. Assumes nothing.
+use mathlib.Core.Path.{_≡_, refl}
+use mathlib.Core.List.{List, [], _∷_}
+use Prim.Native.Nat.{ℕ}
+use lib.IntN.{pos}
+use lib.Ieee.{Float, nan, binary64, ofInt, le, eq, add, sub, mul, div}
+use Rattle.binary64.specs.Scaled.{interpolate}
+use Rattle.tile.specs.declared.Coord.{Coord}
+use Rattle.tile.specs.declared.TileBounds.{TileBounds}
+use Rattle.tile.specs.Ring.{same, last, closed, close}
+use Rattle.sutherland_hodgman.specs.Lines.{inside, crossing}
+use Rattle.sutherland_hodgman.specs.Clip.{steps, leaveOff, around, pass, passes, finish, clipRing}
+use Rattle.sutherland_hodgman.specs.Growth.{halfGrowth, fourHalfGrowths, B}
+
+num : ℕ → Float
+unfolding ofInt
+num n = ofInt binary64 (pos n)
+
+at : ℕ → ℕ → Coord
+unfolding num
+at x y = record { x = num x; y = num y }
+
+ten : TileBounds
+unfolding num
+ten = record { «lng_min» = num 0; «lat_min» = num 0; «lng_max» = num 10; «lat_max» = num 10 }
+
+-- where a NaN is cut at the bottom: the latitude is the bound, and the longitude stays NaN
+edge : Coord
+unfolding num
+edge = record { x = nan; y = num 0 }
+
+-- a ring and its cut
+pub record Case : Type 0 where
+  pub ring : List Coord
+  pub cut : List Coord
+
+-- the second pass leaves off a vertex too: (1,1)(2,2)(1,1) is what the first leaves, and is closed
+abbrev cases : List Case
+cases =
+    record { ring = at 1 1 ∷ at 2 2 ∷ at 1 1 ∷ at 1 1 ∷ []; cut = [] }
+    ∷ record { ring = at 5 5 ∷ at 15 5 ∷ at 15 8 ∷ at 5 8 ∷ at 5 5 ∷ []; cut = at 5 5 ∷ at 10 5 ∷ at 10 8 ∷ at 5 8 ∷ at 5 5 ∷ [] }
+    ∷ record { ring = at 20 20 ∷ at 30 20 ∷ at 30 30 ∷ at 20 20 ∷ []; cut = [] }
+    ∷ record { ring = at 8 8 ∷ at 12 12 ∷ at 8 12 ∷ []; cut = at 8 10 ∷ at 8 8 ∷ at 10 10 ∷ at 10 10 ∷ at 8 10 ∷ [] }
+    ∷ record { ring = record { x = nan; y = num 5 } ∷ at 5 5 ∷ at 5 6 ∷ []; cut = edge ∷ edge ∷ at 5 5 ∷ at 5 6 ∷ edge ∷ [] }
+    ∷ []
+
+abbrev rings : List Case → List (List Coord)
+rings [] = []
+rings (c ∷ cs) = c .ring ∷ rings cs
+
+abbrev cuts : List Case → List (List Coord)
+cuts [] = []
+cuts (c ∷ cs) = c .cut ∷ cuts cs
+
+abbrev clipped : List (List Coord) → List (List Coord)
+clipped [] = []
+clipped (r ∷ rs) = clipRing ten r ∷ clipped rs
+
+each-cut : clipped (rings cases) ≡ cuts cases
+unfolding clipRing finish passes pass around leaveOff steps inside crossing same last closed close interpolate ten at edge num le eq add sub mul div
+each-cut = refl
+
+-- document 01's figures for B
+four-vertices : B 4 ≡ 21
+unfolding B fourHalfGrowths halfGrowth
+four-vertices = refl
+
+most-coordinates : B 65536 ≡ 331778
+unfolding B fourHalfGrowths halfGrowth
+most-coordinates = refl
