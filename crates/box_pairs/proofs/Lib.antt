@@ -1,0 +1,4 @@
+pub mod Crossing
+pub mod Edges
+pub mod Issues
+pub mod Sweep

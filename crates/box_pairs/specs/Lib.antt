@@ -1,0 +1,4 @@
+pub mod Cross
+pub mod Pairs
+pub mod Sort
+pub mod Issue
