@@ -127,12 +127,6 @@ lt-asym (fin s m e) (fin t n d) p = below-asym s (m * up e * down d) t (n * up d
 
 -- ---- NaN
 
-pub is-nan : (a : Float) → isNan a ≡ true → a ≡ nan
-unfolding isNan
-is-nan nan p = refl
-is-nan (inf s) p = absurd (false≢true p)
-is-nan (fin s m e) p = absurd (false≢true p)
-
 -- a difference and a product that are no NaN have operands that are none
 sub-nan : (a : Float) → sub binary64 a nan ≡ nan
 unfolding sub add neg
