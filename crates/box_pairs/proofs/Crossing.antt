@@ -118,6 +118,7 @@ spread la ha lb hb na nb nh oa ob = go (lt ha hb) refl (lt lb la) refl
     or-no : (b : Bool) → (b || false) ≡ b
     or-no true = refl
     or-no false = refl
+
     go : (p : Bool) → lt ha hb ≡ p → (q : Bool) → lt lb la ≡ q → lt (cond (lt ha hb) ha hb) (cond (lt lb la) la lb) ≡ lt ha lb || lt hb la
     go true p true q =
         let x : lt ha lb ≡ false = refuted (lt ha lb) (λ e. never-both (lt-not-above ha lb la na e (lt-asym lb la q)) oa) in

@@ -6,18 +6,20 @@ use Prim.Native.Nat.{ℕ, _+_, _*_, _-_, _≤_, _<_}
 use native.Mathlib.Omega.{arith}
 use lib.Dec.{T}
 use lib.Ieee.{Float, nan, binary64, fits, isNan, lt}
-use lib.ListN.{length, getD, set, drop, length-set}
-use lib.Seq.{getD-set-same, getD-set-other, drop-set-lt}
+use lib.ListN.{length, getD, set, take, drop, length-set}
+use lib.Seq.{getD-set-same, getD-set-other, drop-set-lt, drop-drop, getD-take}
 use native.Mathlib.Decide.{ℕ-discrete}
 use Rattle.binary64.specs.Compare.{minimum, maximum}
 use Rattle.binary64.specs.TotalOrder.{key}
 use Rattle.binary64.proofs.KeyOrder.{key-order}
 use Rattle.binary64.proofs.FloatOrder.{lt-not-above, ends, ends-low}
 use Rattle.tile.specs.declared.Coord.{Coord}
-use Rattle.tile.specs.Ring.{coordAt}
+use Rattle.tile.specs.Ring.{coordAt, coords}
 use Rattle.tile.proofs.Rings.{front-at, length-front}
 use Rattle.box_pairs.specs.Cross.{cross}
-use Rattle.box_pairs.specs.Pairs.{front, at, edgesCross, anyPair, crossing, lowX, highX, Noted}
+use Rattle.box_pairs.specs.Sort.{keyAt, Kept, Sorted}
+use Rattle.box_pairs.specs.Pairs.{front, at, edgesCross, anyBelow, anyPair, crossing, lowX, highX, Noted, Swept}
+use Rattle.box_pairs.specs.Issue.{Unused}
 use Rattle.box_pairs.proofs.Crossing.{cross-mirror, cross-numbers, apart-left, minimum-is-number, refuted, never-both}
 use Rattle.box_pairs.proofs.Sweep.{Sweeps}
 
@@ -96,3 +98,42 @@ note-step n i r w₀ w x l room e h =
 
 pub note-end : (n i : ℕ) (r : List Coord) (w₀ w : List Float) → n ≤ i → Noting n i r w₀ w → Noted n r w₀ w
 note-end n i r w₀ w l h = record { lows = λ j lj. h .lows j (omega arith); rest = h .rest }
+
+-- ---- the numbers noted, and the positions sorted by them
+
+-- what is the same from one slot on is the same from a later one on
+drop-more : {A : Type 0} (k l : ℕ) (xs ys : List A) → k ≤ l → drop k xs ≡ drop k ys → drop l xs ≡ drop l ys
+drop-more k l xs ys h e =
+    let q : k + (l - k) ≡ l = omega arith in
+    subst (λ (m : ℕ). drop m xs ≡ drop m ys) q (sym (drop-drop (l - k) k xs) ∙ rw e (drop-drop (l - k) k ys))
+
+module _ (n : ℕ) (r : List Coord) (w₀ w₁ w₂ : List Float) (o₀ o₁ : List ℕ) (noted : Noted n r w₀ w₁) (kept : Kept n w₁ w₂) (sorted : Sorted (keyAt n w₁) n o₀ o₁) where
+  key-low : (i : ℕ) → i < n → keyAt n w₁ i ≡ key (lowX r i)
+  key-low i l = ap key (getD-take n w₁ i nan l ∙ noted .lows i l)
+
+  pub noted-swept : Swept n r w₂ o₁
+  noted-swept =
+      record {
+        noted = λ i l. sym (getD-take n w₂ i nan l) ∙ rw (kept .numbers) (getD-take n w₁ i nan l) ∙ noted .lows i l;
+        positions = sorted .positions;
+        sorted = λ i j ij jn.
+            omega (arith, sorted .inOrder i j ij jn, key-low (getD o₁ i 0) (sorted .positions .below i (omega arith)), key-low (getD o₁ j 0) (sorted .positions .below j jn));
+      }
+
+  pub noted-unused : Unused (n + 1) w₀ o₀ w₂ o₁
+  noted-unused =
+      record {
+        past-work = drop-more (2 * n) (2 * (n + 1)) w₂ w₁ (omega arith) (kept .rest) ∙ drop-more n (2 * (n + 1)) w₁ w₀ (omega arith) (noted .rest);
+        past-order = drop-more n (n + 1) o₁ o₀ (omega arith) (sorted .rest);
+      }
+
+-- ---- a ring of no coordinate
+
+pub crossing-none : (s : List Float) → crossing (front s 0) ≡ false
+unfolding crossing anyPair anyBelow coords
+crossing-none s = refl
+
+-- a ring of n coordinates has one edge less
+pub by-edges : (n : ℕ) (s w w′ : List Float) (o o′ : List ℕ) (b : Bool) → (n ≡ 0 → ⊥)
+    → (b ≡ crossing (front s (n - 1 + 1))) × Unused (n - 1 + 1) w o w′ o′ → (b ≡ crossing (front s n)) × Unused n w o w′ o′
+by-edges n s w w′ o o′ b h p = let q : n - 1 + 1 ≡ n = omega arith in subst (λ (m : ℕ). (b ≡ crossing (front s m)) × Unused m w o w′ o′) q p

@@ -5,10 +5,10 @@ ghost use lib.ListN.{length};
 ghost use Rattle.box_pairs.specs.Pairs as S;
 ghost use Rattle.box_pairs.specs.Sort.{keyAt, Kept, Sorted};
 ghost use Rattle.box_pairs.specs.Issue.{Room, Unused};
-use binary64::compare::maximum;
-use binary64::compare::minimum;
 use super::cross::crosses;
 use super::merge::sort;
+use binary64::compare::maximum;
+use binary64::compare::minimum;
 use tile::ring::coord_at;
 
 // Rings of more edges than this are swept.

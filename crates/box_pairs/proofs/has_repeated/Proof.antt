@@ -19,12 +19,10 @@ Inv-loop ring n k₀ k = (k ≤ n) × (repeated (front ring n) ≡ repeated (dro
 abbrev μ-loop : tie.MeasureT-loop
 μ-loop ring n k₀ k = n - k
 
--- raw begin
 -- the verdict on the neighbours k and k + 1
 verdict : (c : tie.After-is-short Inv-loop μ-loop)
     → c .is-short .result ≡ short (coordAt (c .before .before .before .before .before .before .args .ring .now) (c .before .before .before .before .loop .k)) (coordAt (c .before .before .before .before .before .before .args .ring .now) (c .before .before .before .before .loop .k + 1))
 verdict c = c .is-short .ensures ∙ rw (c .before .before .coord-at .ensures, c .before .coord-at2 .ensures)
--- raw end
 
 loop-holds : tie.Need-loop-holds Inv-loop μ-loop
 loop-holds c = (omega arith, refl)

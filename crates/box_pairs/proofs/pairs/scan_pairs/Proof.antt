@@ -23,7 +23,6 @@ Inv-pairs ring n found₀ i₀ found i = Outer (edgesCross (front ring (n + 1)))
 abbrev μ-pairs : tie.MeasureT-pairs
 μ-pairs ring n found₀ i₀ found i = n - i
 
--- raw begin
 -- the verdict on the edges i and j
 verdict : (c : tie.After-crosses Inv-loop μ-loop Inv-pairs μ-pairs)
     → c .crosses .result ≡ edgesCross (front (c .before .before .before .before .before .before .before .before .before .before .args .ring .now) (c .before .before .before .before .before .before .before .before .before .before .args .n + 1)) (c .before .before .before .before .before .before .before .before .pairs .i) (c .before .before .before .before .loop .j)
@@ -34,7 +33,6 @@ verdict c =
     c .crosses .ensures
     ∙ rw (c .before .before .before .before .before .before .coord-at .ensures, c .before .before .before .before .before .coord-at2 .ensures, c .before .before .coord-at3 .ensures, c .before .coord-at4 .ensures)
     (edges-front (s .args .ring .now) (s .args .n) (s .pre) (o .pairs .i) (l .loop .j) (c .before .before .before .before .before .before .before .pairs-test .taken) (c .before .before .before .loop-test .taken))
--- raw end
 
 pairs-holds : tie.Need-pairs-holds Inv-loop μ-loop Inv-pairs μ-pairs
 pairs-holds c = let s = c .before in outer-start (edgesCross (front (s .args .ring .now) (s .args .n + 1))) (s .args .n)

@@ -28,7 +28,6 @@ Inv-pairs ring lows order n found₀ p₀ found p = Outer (atSlots (edgesCross (
 abbrev μ-pairs : tie.MeasureT-pairs
 μ-pairs ring lows order n found₀ p₀ found p = n - p
 
--- raw begin
 -- the ring, and what the sweep asks of its edges
 abbrev ring-of : tie.Start Inv-loop μ-loop Inv-pairs μ-pairs → List Coord
 ring-of s = front (s .args .ring .now) (s .args .n + 1)
@@ -59,7 +58,6 @@ stop-test c q l =
     ap₂ lt
     (c .before .maximum .ensures ∙ rw (c .before .before .before .coord-at .ensures, c .before .before .coord-at2 .ensures) (high-front (s .args .ring .now) (s .args .n) (s .pre .0 .0) _ (below (c .before .before .before .before .before .before .pairs .p) (c .before .before .before .before .before .pairs-test .taken))))
     (s .pre .1 .noted _ (below q l))
--- raw end
 
 pairs-holds : tie.Need-pairs-holds Inv-loop μ-loop Inv-pairs μ-pairs
 pairs-holds c = let s = c .before .before .before in outer-start (atSlots (edgesCross (ring-of s)) (s .args .order .now)) (s .args .n)
