@@ -7,6 +7,8 @@ ghost use Rattle.tile.specs.Bounds as B;
 ghost use Rattle.probe.specs.Numbers as S;
 use tile::TileBounds;
 
+pub mod edges;
+
 fn number_at(s: &[f64], i: usize) -> f64
     ensures { λ r. ⌜ r ≡ getD (now (s .entry)) i nan ⌝ }
 {
