@@ -62,7 +62,7 @@ fn higher(a: f64, b: f64) -> f64
 }
 
 // Whether, of numbers that are no NaN, those from a1 to a2 and those from b1 to b2 are apart: one comparison, which is foreseen more often than two.
-fn is_apart(a1: f64, a2: f64, b1: f64, b2: f64) -> bool
+pub fn is_apart(a1: f64, a2: f64, b1: f64, b2: f64) -> bool
     ensures { λ r. ⌜ (S.Numbers a1 a2 b1 b2 → r ≡ S.apartOn a1 a2 b1 b2) ⌝ }
 {
     let low = higher(lower(b1, b2), lower(a1, a2));

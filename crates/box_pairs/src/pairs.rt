@@ -1,11 +1,13 @@
 // Whether two edges of a ring cross: all pairs for a short ring, and a sweep over the edges by their lowest x for a long one.
 ghost use mathlib.Core.Path.{_≡_};
+ghost use mathlib.Core.Bool.{false};
 ghost use Prim.Native.Nat.{_+_, _*_, _<_, _≤_, _^_};
 ghost use lib.ListN.{length};
 ghost use Rattle.box_pairs.specs.Pairs as S;
 ghost use Rattle.box_pairs.specs.Sort.{keyAt, Kept, Sorted};
 ghost use Rattle.box_pairs.specs.Issue.{Room, Unused};
 use super::cross::crosses;
+use super::cross::is_apart;
 use super::merge::sort;
 use binary64::compare::maximum;
 use binary64::compare::minimum;
@@ -13,6 +15,30 @@ use tile::ring::coord_at;
 
 // Rings of more edges than this are swept.
 const SCANNED: usize = 32;
+
+// Whether the boxes of the edges i and j may meet in y: one comparison, small enough to stand in the loops. Most pairs are gone with it.
+fn is_level(ring: &[f64], i: usize, j: usize) -> bool
+    requires { ⌜ (2 * i + 3 < length (now ring)) × (2 * j + 3 < length (now ring)) ⌝ }
+    ensures { λ r. ⌜ (r ≡ false → S.edgesAt (now (ring .entry)) i j ≡ false) ⌝ }
+{
+    let a1 = coord_at(ring, i);
+    let a2 = coord_at(ring, i + 1);
+    let b1 = coord_at(ring, j);
+    let b2 = coord_at(ring, j + 1);
+    !is_apart(a1.y, a2.y, b1.y, b2.y)
+}
+
+// Whether the edges i and j cross.
+fn edges_cross(ring: &[f64], i: usize, j: usize) -> bool
+    requires { ⌜ (2 * i + 3 < length (now ring)) × (2 * j + 3 < length (now ring)) ⌝ }
+    ensures { λ r. ⌜ r ≡ S.edgesAt (now (ring .entry)) i j ⌝ }
+{
+    let a1 = coord_at(ring, i);
+    let a2 = coord_at(ring, i + 1);
+    let b1 = coord_at(ring, j);
+    let b2 = coord_at(ring, j + 1);
+    crosses(a1, a2, b1, b2)
+}
 
 // Whether two of the n edges cross, by a look at all pairs.
 pub fn scan_pairs(ring: &[f64], n: usize) -> bool
@@ -22,15 +48,13 @@ pub fn scan_pairs(ring: &[f64], n: usize) -> bool
     let mut found = false;
     let mut i = 0usize;
     'pairs: while i < n {
-        let a1 = coord_at(ring, i);
-        let a2 = coord_at(ring, i + 1);
         let mut j = i + 1;
         while j < n {
-            let b1 = coord_at(ring, j);
-            let b2 = coord_at(ring, j + 1);
-            if crosses(a1, a2, b1, b2) {
-                found = true;
-                break 'pairs;
+            if is_level(ring, i, j) {
+                if edges_cross(ring, i, j) {
+                    found = true;
+                    break 'pairs;
+                }
             }
             j += 1;
         }
@@ -73,11 +97,11 @@ fn sweep_sorted(ring: &[f64], lows: &[f64], order: &[u32], n: usize) -> bool
             if lows[j] > high {
                 break;
             }
-            let b1 = coord_at(ring, j);
-            let b2 = coord_at(ring, j + 1);
-            if crosses(a1, a2, b1, b2) {
-                found = true;
-                break 'pairs;
+            if is_level(ring, i, j) {
+                if edges_cross(ring, i, j) {
+                    found = true;
+                    break 'pairs;
+                }
             }
             q += 1;
         }

@@ -1,7 +1,7 @@
 -- `pairs::sweep_sorted` meets its contract. Each loop says that no pair of slots passed is a crossing one; where the inner loop breaks off, none follows. Assumes nothing.
 use mathlib.Core.Path.{_≡_, sym, ap₂, _∙_}
 use mathlib.Core.Logic.{⊎-elim}
-use mathlib.Core.Bool.{Bool, true}
+use mathlib.Core.Bool.{Bool, true, false}
 use mathlib.Core.List.{List}
 use Prim.Native.Nat.{ℕ, _+_, _*_, _-_, _≤_, _<_}
 use native.Mathlib.Omega.{arith}
@@ -9,7 +9,7 @@ use lib.Ieee.{Float, nan, lt}
 use lib.ListN.{length, getD}
 use Rattle.binary64.specs.TotalOrder.{key}
 use Rattle.tile.specs.declared.Coord.{Coord}
-use Rattle.box_pairs.specs.Pairs.{front, edgesCross, anyPair, lowX, highX}
+use Rattle.box_pairs.specs.Pairs.{front, edgesCross, edgesAt, lowX}
 use Rattle.box_pairs.proofs.Sweep.{Inner, Outer, Clear, atSlots, Sweeps, outer-start, inner-start, inner-next, outer-next, sweep-hit, sweep-stop, sweep-done}
 use Rattle.box_pairs.proofs.Edges.{crossing-front, edges-front, high-front, stops, edge-sweeps}
 use borrow.Author.Needs.{needs}
@@ -17,10 +17,10 @@ use Rattle.box_pairs.proofs.pairs.sweep_sorted.Statement.{statement}
 use Rattle.box_pairs.proofs.pairs.sweep_sorted.Tie as tie
 
 abbrev Inv-loop : tie.InvT-loop
-Inv-loop ring lows order n found₀ p i a1 a2 high q₀ found q = Inner (atSlots (edgesCross (front ring (n + 1))) order) n p q found
+Inv-loop ring lows order n found₀ p i high q₀ found q = Inner (atSlots (edgesCross (front ring (n + 1))) order) n p q found
 
 abbrev μ-loop : tie.MeasureT-loop
-μ-loop ring lows order n found₀ p i a1 a2 high q₀ found q = n - q
+μ-loop ring lows order n found₀ p i high q₀ found q = n - q
 
 abbrev Inv-pairs : tie.InvT-pairs
 Inv-pairs ring lows order n found₀ p₀ found p = Outer (atSlots (edgesCross (front ring (n + 1))) order) n p found
@@ -39,14 +39,13 @@ sweeps o =
     edge-sweeps (s .args .ring .now) (s .args .n) (s .pre .0 .0) (λ i. o .before .before .before .shared-slice-known .given i)
 
 -- the verdict on the positions in the slots p and q
-verdict : (c : tie.After-crosses Inv-loop μ-loop Inv-pairs μ-pairs)
-    → c .crosses .result ≡ atSlots (edgesCross (ring-of (c .before .before .before .before .before .before .before .before .before .before .before .before .before .before .before .before .before))) (c .before .before .before .before .before .before .before .before .before .before .before .before .before .before .before .before .before .args .order .now) (c .before .before .before .before .before .before .before .before .before .before .before .before .before .pairs .p) (c .before .before .before .before .before .before .before .loop .q)
-verdict c =
-    let s = c .before .before .before .before .before .before .before .before .before .before .before .before .before .before .before .before .before in
+verdict : (c : tie.At-loop Inv-loop μ-loop Inv-pairs μ-pairs) (q : ℕ) → q < c .before .before .before .before .before .before .before .before .before .before .args .n
+    → edgesAt (c .before .before .before .before .before .before .before .before .before .before .args .ring .now) (getD (c .before .before .before .before .before .before .before .before .before .before .args .order .now) (c .before .before .before .before .before .before .pairs .p) 0) (getD (c .before .before .before .before .before .before .before .before .before .before .args .order .now) q 0)
+    ≡ atSlots (edgesCross (ring-of (c .before .before .before .before .before .before .before .before .before .before))) (c .before .before .before .before .before .before .before .before .before .before .args .order .now) (c .before .before .before .before .before .before .pairs .p) q
+verdict c q l =
+    let s = c .before .before .before .before .before .before .before .before .before .before in
     let below = s .pre .1 .positions .below in
-    c .crosses .ensures
-    ∙ rw (c .before .before .before .before .before .before .before .before .before .before .coord-at .ensures, c .before .before .before .before .before .before .before .before .before .coord-at2 .ensures, c .before .before .coord-at3 .ensures, c .before .coord-at4 .ensures)
-    (edges-front (s .args .ring .now) (s .args .n) (s .pre .0 .0) _ _ (below (c .before .before .before .before .before .before .before .before .before .before .before .before .before .pairs .p) (c .before .before .before .before .before .before .before .before .before .before .before .before .pairs-test .taken)) (below (c .before .before .before .before .before .before .before .loop .q) (c .before .before .before .before .before .before .loop-test .taken)))
+    edges-front (s .args .ring .now) (s .args .n) (s .pre .0 .0) _ _ (below (c .before .before .before .before .before .before .pairs .p) (c .before .before .before .before .before .pairs-test .taken)) (below q l)
 
 -- the test that breaks the inner loop off
 stop-test : (c : tie.At-loop Inv-loop μ-loop Inv-pairs μ-pairs) (q : ℕ) → q < c .before .before .before .before .before .before .before .before .before .before .args .n
@@ -107,17 +106,17 @@ mul-if1 c = omega (arith, c .before .before .before .before .before .before .bef
 shared-slice-read-if1 : tie.Need-shared-slice-read-if1 Inv-loop μ-loop Inv-pairs μ-pairs
 shared-slice-read-if1 c = omega (arith, c .before .before .before .before .before .before .before .before .before .before .before .before .before .pre .0 .1, c .before .before .before .before .before .before .before .before .before .before .before .before .before .pre .1 .positions .below (c .before .before .before .loop .q) (c .before .before .loop-test .taken))
 
-coord-at-requires-3 : tie.Need-coord-at-requires-3 Inv-loop μ-loop Inv-pairs μ-pairs
-coord-at-requires-3 c κs = omega (arith, c .before .before .before .before .before .before .before .before .before .before .before .before .before .before .pre .0 .0, c .before .before .before .before .before .before .before .before .before .before .before .before .before .before .pre .1 .positions .below (c .before .before .before .before .loop .q) (c .before .before .before .loop-test .taken))
+is-level-requires : tie.Need-is-level-requires Inv-loop μ-loop Inv-pairs μ-pairs
+is-level-requires c κs =
+    let s = c .before .before .before .before .before .before .before .before .before .before .before .before .before .before in
+    let below = s .pre .1 .positions .below in
+    (omega (arith, s .pre .0 .0, below (c .before .before .before .before .before .before .before .before .before .before .pairs .p) (c .before .before .before .before .before .before .before .before .before .pairs-test .taken)), omega (arith, s .pre .0 .0, below (c .before .before .before .before .loop .q) (c .before .before .before .loop-test .taken)))
 
-add-coord-at-2 : tie.Need-add-coord-at-2 Inv-loop μ-loop Inv-pairs μ-pairs
-add-coord-at-2 c = omega (arith, c .before .before .before .before .before .before .before .before .before .before .before .before .before .before .before .pre .0 .0, c .before .before .before .before .before .before .before .before .before .before .before .before .before .before .before .pre .1 .positions .below (c .before .before .before .before .before .loop .q) (c .before .before .before .before .loop-test .taken))
-
-coord-at-requires-4 : tie.Need-coord-at-requires-4 Inv-loop μ-loop Inv-pairs μ-pairs
-coord-at-requires-4 c κs = omega (arith, c .before .before .before .before .before .before .before .before .before .before .before .before .before .before .before .pre .0 .0, c .before .before .before .before .before .before .before .before .before .before .before .before .before .before .before .pre .1 .positions .below (c .before .before .before .before .before .loop .q) (c .before .before .before .before .loop-test .taken))
-
-crosses-requires : tie.Need-crosses-requires Inv-loop μ-loop Inv-pairs μ-pairs
-crosses-requires c κs = search needs
+edges-cross-requires : tie.Need-edges-cross-requires Inv-loop μ-loop Inv-pairs μ-pairs
+edges-cross-requires c κs =
+    let s = c .before .before .before .before .before .before .before .before .before .before .before .before .before .before .before .before in
+    let below = s .pre .1 .positions .below in
+    (omega (arith, s .pre .0 .0, below (c .before .before .before .before .before .before .before .before .before .before .before .before .pairs .p) (c .before .before .before .before .before .before .before .before .before .before .before .pairs-test .taken)), omega (arith, s .pre .0 .0, below (c .before .before .before .before .before .before .loop .q) (c .before .before .before .before .before .loop-test .taken)))
 
 add-q-2 : tie.Need-add-q-2 Inv-loop μ-loop Inv-pairs μ-pairs
 add-q-2 c = search needs
@@ -127,10 +126,13 @@ loop-less c = search needs
 
 loop-again : tie.Need-loop-again Inv-loop μ-loop Inv-pairs μ-pairs
 loop-again c =
-    let l = c .before .before .before .before .before .before .before .before .loop in
-    let o = c .before .before .before .before .before .before .before .before .before .before .before .before .before .before in
-    let s = c .before .before .before .before .before .before .before .before .before .before .before .before .before .before .before .before .before .before in
-    inner-next (atSlots (edgesCross (ring-of s)) (s .args .order .now)) (s .args .n) (o .pairs .p) (l .q) (l .found) (c .before .before .before .before .before .before .before .loop-test .taken) (l .inv) (sym (verdict (c .before)) ∙ c .if2 .left)
+    let l = c .before .before .before .before .before .before .loop in
+    let o = c .before .before .before .before .before .before .before .before .before .before .before .before in
+    let s = c .before .before .before .before .before .before .before .before .before .before .before .before .before .before .before .before in
+    let is = verdict (c .before .before .before .before .before .before) (l .q) (c .before .before .before .before .before .loop-test .taken) in
+    let miss : atSlots (edgesCross (ring-of s)) (s .args .order .now) (o .pairs .p) (l .q) ≡ false =
+    ⊎-elim (λ w. sym is ∙ (sym (w .1 .ensures) ∙ w .2 .left)) (λ w. sym is ∙ c .before .is-level .ensures (w .left)) (c .if2 .came) in
+    inner-next (atSlots (edgesCross (ring-of s)) (s .args .order .now)) (s .args .n) (o .pairs .p) (l .q) (l .found) (c .before .before .before .before .before .loop-test .taken) (l .inv) miss
 
 add-p : tie.Need-add-p Inv-loop μ-loop Inv-pairs μ-pairs
 add-p c = search needs
@@ -165,7 +167,7 @@ returns-2 c =
     let s = c .before .before .before .before .before .before .before .before .before .before .before .before .before .before .before .before .before .before in
     sym (crossing-front (s .args .ring .now) (s .args .n) (s .pre .0 .0)
     ∙ sweep-hit (λ i. key (lowX (ring-of s) i)) (s .args .n) (stops (ring-of s)) (edgesCross (ring-of s)) (sweeps o) (s .args .order .now) (s .pre .1 .positions) (s .pre .1 .sorted)
-    (o .pairs .p) (l .q) (l .inv .after) (c .before .before .before .before .before .before .before .loop-test .taken) (sym (verdict (c .before)) ∙ c .if2 .taken))
+    (o .pairs .p) (l .q) (l .inv .after) (c .before .before .before .before .before .before .before .loop-test .taken) (sym (verdict (c .before .before .before .before .before .before .before .before) (l .q) (c .before .before .before .before .before .before .before .loop-test .taken)) ∙ (sym (c .before .edges-cross .ensures) ∙ c .if3 .taken)))
 
 pub sweep-sorted-spec : {M : Type 1} → statement M
 sweep-sorted-spec =
@@ -190,10 +192,8 @@ sweep-sorted-spec =
     cast-j
     mul-if1
     shared-slice-read-if1
-    coord-at-requires-3
-    add-coord-at-2
-    coord-at-requires-4
-    crosses-requires
+    is-level-requires
+    edges-cross-requires
     add-q-2
     loop-less
     loop-again
