@@ -1,4 +1,5 @@
 pub mod Cross
-pub mod Pairs
-pub mod Sort
 pub mod Issue
+pub mod Pairs
+pub mod Runs
+pub mod Sort
