@@ -1,15 +1,14 @@
 -- The order of doubles, with NaN and infinities: a number below one that is not above a third is below the third; what a comparison says of NaN;
 -- a NaN goes through differences and products. Assumes nothing.
 use mathlib.Core.Path.{_≡_, refl, sym, _∙_}
-use mathlib.Core.Bool.{Bool, true, false, _||_, _&&_, not, cond, true≢false, false≢true}
+use mathlib.Core.Bool.{Bool, true, false, _||_, cond, true≢false, false≢true}
 use Prim.Native.Nat.{ℕ, zero, suc, _+_, _*_, _≤_, _<_}
 use native.Mathlib.Nat.{mul-right-comm, mul-le-mul-right, mul-lt-mul-of-pos-right, zero-mul, suc-mul}
 use native.Mathlib.Decide.{decLt}
 use native.Mathlib.Omega.{arith}
-use lib.Dec.{T, ltb}
-use lib.IntN.{ℤ}
-use lib.Ieee.{Float, nan, inf, fin, Format, binary64, lt, sub, add, neg, mul, up, down, below, isNan, fits}
-use lib.Ieee.Fits.{up-pos, down-pos}
+use lib.Dec.{ltb}
+use lib.Ieee.{Float, nan, inf, fin, binary64, lt, sub, add, neg, mul, up, down, below, isNan}
+use lib.Ieee.Fits.{down-pos}
 use borrow.Author.Tests.{ltb-true, ltb-false, lt-ltb, le-ltb}
 use Rattle.binary64.specs.Compare.{minimum, maximum}
 use Rattle.binary64.proofs.KeyOrder.{lt-irreflexive}

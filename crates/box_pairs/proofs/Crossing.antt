@@ -1,8 +1,7 @@
 -- Laws of the crossing test: symmetric, not between boxes that are apart, not where a coordinate is NaN. Nothing above this file unfolds `cross`. Assumes nothing.
-use mathlib.Core.Path.{_≡_, refl, sym, ap, _∙_}
-use mathlib.Core.Logic.{_⊎_, inl, inr, ⊎-elim}
+use mathlib.Core.Path.{_≡_, refl, sym, _∙_}
 use mathlib.Core.Bool.{Bool, true, false, not, _&&_, _||_, cond, true≢false, false≢true}
-use lib.Ieee.{Float, nan, binary64, isNan, lt, sub, mul}
+use lib.Ieee.{Float, binary64, isNan, lt, sub, mul}
 use Rattle.binary64.specs.Compare.{minimum, maximum}
 use Rattle.binary64.proofs.FloatOrder.{lt-not-above, lt-left, lt-right, lt-asym, sub-numbers, mul-numbers, ends, ends-order, ends-low, ends-high}
 use Rattle.tile.specs.declared.Coord.{Coord}
@@ -40,9 +39,15 @@ cross-mirror a1 a2 b1 b2 =
 
 -- ---- boxes
 
+-- edges whose boxes are apart do not cross
+cross-apart : (a1 a2 b1 b2 : Coord) → apart a1 a2 b1 b2 ≡ true → cross a1 a2 b1 b2 ≡ false
+unfolding cross
+cross-apart a1 a2 b1 b2 e = rw e
+
+-- so an edge that starts past the end of another does not cross it
 pub apart-left : (a1 a2 b1 b2 : Coord) → lt (maximum (a1 .x) (a2 .x)) (minimum (b1 .x) (b2 .x)) ≡ true → cross a1 a2 b1 b2 ≡ false
-unfolding cross apart apartOn
-apart-left a1 a2 b1 b2 e = rw e
+unfolding apart apartOn
+apart-left a1 a2 b1 b2 e = cross-apart a1 a2 b1 b2 (rw e)
 
 -- ---- NaN: edges that split each other hold none
 
@@ -176,23 +181,19 @@ not-properly a1 a2 b1 b2 h = rw (h, and-no (not (short a1 a2 || short b1 b2))) (
 
 -- edges that are apart in an axis, if they are numbers there, do not cross
 pub apart-x : (a1 a2 b1 b2 : Coord) → (Numbers (a1 .x) (a2 .x) (b1 .x) (b2 .x) → true ≡ apartOn (a1 .x) (a2 .x) (b1 .x) (b2 .x)) → cross a1 a2 b1 b2 ≡ false
-unfolding cross apart
+unfolding apart
 apart-x a1 a2 b1 b2 h = go (properly a1 a2 b1 b2) refl
   where
     go : (p : Bool) → properly a1 a2 b1 b2 ≡ p → cross a1 a2 b1 b2 ≡ false
-    go true e = rw (← h (properly-numbers a1 a2 b1 b2 e .0))
+    go true e = cross-apart a1 a2 b1 b2 (rw (← h (properly-numbers a1 a2 b1 b2 e .0)))
     go false e = not-properly a1 a2 b1 b2 e
 
 pub apart-y : (a1 a2 b1 b2 : Coord) → (Numbers (a1 .y) (a2 .y) (b1 .y) (b2 .y) → true ≡ apartOn (a1 .y) (a2 .y) (b1 .y) (b2 .y)) → cross a1 a2 b1 b2 ≡ false
-unfolding cross apart
+unfolding apart
 apart-y a1 a2 b1 b2 h = go (properly a1 a2 b1 b2) refl
   where
     go : (p : Bool) → properly a1 a2 b1 b2 ≡ p → cross a1 a2 b1 b2 ≡ false
-    go true e = rw (← h (properly-numbers a1 a2 b1 b2 e .1)) (or-yes (apartOn (a1 .x) (a2 .x) (b1 .x) (b2 .x)))
-      where
-        or-yes : (b : Bool) → (not (b || true) && (not (short a1 a2 || short b1 b2) && properly a1 a2 b1 b2)) ≡ false
-        or-yes true = refl
-        or-yes false = refl
+    go true e = cross-apart a1 a2 b1 b2 (rw (← h (properly-numbers a1 a2 b1 b2 e .1)) (or-comm (apartOn (a1 .x) (a2 .x) (b1 .x) (b2 .x)) true))
     go false e = not-properly a1 a2 b1 b2 e
 
 -- edges that split each other, and whose boxes are not apart, cross if they are long enough

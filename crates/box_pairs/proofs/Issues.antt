@@ -1,23 +1,21 @@
 -- Laws of the issue finder: neighbours that repeat, by place, and the cases of `issueOf`. Assumes nothing.
-use mathlib.Core.Path.{_≡_, refl, sym, ap, _∙_}
+use mathlib.Core.Path.{_≡_, refl, _∙_}
 use mathlib.Core.Bool.{Bool, true, false, not, _||_, _&&_, cond}
 use mathlib.Core.List.{List, [], _∷_}
-use Prim.Native.Nat.{ℕ, suc, _+_, _*_, _-_, _≤_, _<_}
+use Prim.Native.Nat.{ℕ, suc, _+_, _*_, _≤_, _<_}
 use native.Mathlib.Numerals.{add-one}
 use native.Mathlib.Omega.{arith}
-use lib.Dec.{ltb}
 use lib.ListN.{length, getD, drop, length-drop}
-use lib.Seq.{drop-cons, drop-drop}
+use lib.Seq.{drop-cons}
 use lib.Ieee.{Float, nan}
 use borrow.Author.Tests.{lt-ltb, le-ltb}
 use Rattle.tile.specs.declared.Coord.{Coord}
 use Rattle.tile.specs.Ring.{coordAt}
 use Rattle.tile.proofs.Rings.{front-at, length-front}
-use Rattle.box_pairs.specs.declared.Issue.{Issue}
 use Rattle.box_pairs.specs.declared.Issue.the-variants.{Sound, Short, Repeated, Crossing}
 use Rattle.box_pairs.specs.Cross.{short}
 use Rattle.box_pairs.specs.Pairs.{front, crossing}
-use Rattle.box_pairs.specs.Issue.{repeated, issueOf, Unused}
+use Rattle.box_pairs.specs.Issue.{repeated, issueOf}
 
 -- ---- neighbours
 

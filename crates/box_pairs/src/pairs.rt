@@ -1,10 +1,9 @@
 // Whether two edges of a ring cross: all pairs for a short ring, and a sweep over the edges by their lowest x for a long one.
 ghost use mathlib.Core.Path.{_≡_};
 ghost use mathlib.Core.Bool.{false};
-ghost use Prim.Native.Nat.{_+_, _*_, _<_, _≤_, _^_};
+ghost use Prim.Native.Nat.{_+_, _*_, _<_, _≤_};
 ghost use lib.ListN.{length};
 ghost use Rattle.box_pairs.specs.Pairs as S;
-ghost use Rattle.box_pairs.specs.Sort.{keyAt, Kept, Sorted};
 ghost use Rattle.box_pairs.specs.Issue.{Room, Unused};
 use super::cross::crosses;
 use super::cross::is_apart;

@@ -1,5 +1,5 @@
 -- What the calls on edges answer: the definitions of `box_pairs`, as codes, where there is room.
-use mathlib.Core.Bool.{Bool, true, false, not, cond, _&&_}
+use mathlib.Core.Bool.{Bool, not, cond, _&&_}
 use mathlib.Core.List.{List}
 use Prim.Native.Nat.{ℕ, _/_, _^_}
 use lib.Dec.{eqb, leb, ltb}

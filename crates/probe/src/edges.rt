@@ -1,9 +1,6 @@
 // The issue finder of `box_pairs`, and its scan and sweep apart, so that they can be compared on one ring. Every call tests the room first and answers 255 where it is short.
 ghost use mathlib.Core.Path.{_≡_};
-ghost use Prim.Native.Nat.{_+_, _-_, _*_, _/_, _^_, _<_, _≤_};
-ghost use lib.ListN.{length};
-ghost use Rattle.box_pairs.specs.Pairs.{front};
-ghost use Rattle.box_pairs.specs.Issue.{Room};
+ghost use Prim.Native.Nat.{_-_, _/_, _<_};
 ghost use Rattle.probe.specs.Edges as S;
 use box_pairs::Issue;
 

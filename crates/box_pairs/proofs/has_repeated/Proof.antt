@@ -1,9 +1,8 @@
 -- `has_repeated` meets its contract: the verdict on the ring is that on what is left of it. Assumes nothing.
 use mathlib.Core.Path.{_≡_, refl, sym, _∙_}
-use mathlib.Core.Bool.{true, _||_}
 use Prim.Native.Nat.{_+_, _-_, _≤_}
 use native.Mathlib.Omega.{arith}
-use lib.ListN.{length, drop}
+use lib.ListN.{drop}
 use Rattle.tile.specs.Ring.{coordAt}
 use Rattle.box_pairs.specs.Cross.{short}
 use Rattle.box_pairs.specs.Pairs.{front}

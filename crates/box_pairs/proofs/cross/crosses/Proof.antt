@@ -1,7 +1,7 @@
 -- `cross::crosses` meets its contract: each way out by its law. Where a coordinate is NaN the boxes' tests say nothing, and no edges split each other. Assumes nothing.
 use mathlib.Core.Path.{_≡_, sym, _∙_}
-use mathlib.Core.Bool.{Bool, true, false, not}
-use Rattle.box_pairs.specs.Cross.{cross, properly, short}
+use mathlib.Core.Bool.{true}
+use Rattle.box_pairs.specs.Cross.{properly}
 use Rattle.box_pairs.proofs.Crossing.{apart-x, apart-y, not-properly, cross-properly}
 use borrow.Author.Needs.{needs}
 use Rattle.box_pairs.proofs.cross.crosses.Statement.{statement}

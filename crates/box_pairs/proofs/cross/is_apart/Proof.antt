@@ -1,6 +1,6 @@
 -- `cross::is_apart` meets its contract: of numbers, the lower of the two highs is below the higher of the two lows exactly where the boxes are apart. Assumes nothing.
-use mathlib.Core.Path.{_≡_, sym, _∙_, ap₂}
-use lib.Ieee.{Float, lt}
+use mathlib.Core.Path.{_≡_, _∙_, ap₂}
+use lib.Ieee.{lt}
 use Rattle.binary64.specs.Compare.{minimum, maximum}
 use Rattle.box_pairs.proofs.Crossing.{apart-once, minimum-is-number, maximum-is-number}
 use borrow.Author.Needs.{needs}

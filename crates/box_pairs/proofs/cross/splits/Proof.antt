@@ -1,5 +1,4 @@
 -- `cross::splits` meets its contract. Assumes nothing.
-use mathlib.Core.Path.{sym, _∙_}
 use Rattle.box_pairs.specs.Cross.{splits}
 use borrow.Author.Needs.{needs}
 use Rattle.box_pairs.proofs.cross.splits.Statement.{statement}

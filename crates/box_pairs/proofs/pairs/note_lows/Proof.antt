@@ -1,9 +1,8 @@
 -- `pairs::note_lows` meets its contract. Assumes nothing.
-use mathlib.Core.Path.{_≡_, refl, sym, _∙_}
-use Prim.Native.Nat.{_+_, _-_, _≤_}
+use mathlib.Core.Path.{_∙_}
+use Prim.Native.Nat.{_+_, _-_}
 use native.Mathlib.Omega.{arith}
-use lib.ListN.{length}
-use Rattle.box_pairs.specs.Pairs.{front, lowX}
+use Rattle.box_pairs.specs.Pairs.{front}
 use Rattle.box_pairs.proofs.Edges.{Noting, note-start, note-step, note-end, low-front}
 use borrow.Author.Needs.{needs}
 use Rattle.box_pairs.proofs.pairs.note_lows.Statement.{statement}

@@ -1,12 +1,12 @@
 -- `pairs::sweep_sorted` meets its contract. Each loop says that no pair of slots passed is a crossing one; where the inner loop breaks off, none follows. Assumes nothing.
 use mathlib.Core.Path.{_≡_, sym, ap₂, _∙_}
 use mathlib.Core.Logic.{⊎-elim}
-use mathlib.Core.Bool.{Bool, true, false}
+use mathlib.Core.Bool.{false}
 use mathlib.Core.List.{List}
-use Prim.Native.Nat.{ℕ, _+_, _*_, _-_, _≤_, _<_}
+use Prim.Native.Nat.{ℕ, _+_, _-_, _<_}
 use native.Mathlib.Omega.{arith}
-use lib.Ieee.{Float, nan, lt}
-use lib.ListN.{length, getD}
+use lib.Ieee.{nan, lt}
+use lib.ListN.{getD}
 use Rattle.binary64.specs.TotalOrder.{key}
 use Rattle.tile.specs.declared.Coord.{Coord}
 use Rattle.box_pairs.specs.Pairs.{front, edgesCross, edgesAt, lowX}
