@@ -9,3 +9,4 @@ pub mod Patterns
 mod Rounding
 pub mod Value
 pub mod Widths
+pub mod FloatOrder

@@ -11,6 +11,8 @@ use sutherland_hodgman::call::check_ring;
 use sutherland_hodgman::call::clip_lent;
 use tile::TileBounds;
 
+pub mod edges;
+
 fn number_at(s: &[f64], i: usize) -> f64
     ensures { λ r. ⌜ r ≡ getD (now (s .entry)) i nan ⌝ }
 {

@@ -1,0 +1,6 @@
+pub mod Crossing
+pub mod Edges
+pub mod Issues
+pub mod Loops
+pub mod Runs
+pub mod Sweep

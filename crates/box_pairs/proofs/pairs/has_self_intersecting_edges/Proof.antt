@@ -1,0 +1,33 @@
+-- `pairs::has_self_intersecting_edges` meets its contract. Assumes nothing.
+use mathlib.Core.Path.{refl, sym}
+use Rattle.box_pairs.proofs.Edges.{crossing-none, by-edges}
+use borrow.Author.Needs.{needs}
+use Rattle.box_pairs.proofs.pairs.has_self_intersecting_edges.Statement.{statement}
+use Rattle.box_pairs.proofs.pairs.has_self_intersecting_edges.Tie as tie
+
+returns : tie.Need-returns
+returns c =
+    let s = c .before .before .before .before in
+    (sym (rw (c .if1 .taken) (crossing-none (s .args .ring .now))), record { past-work = refl; past-order = refl })
+
+sub-any-edge-pair : tie.Need-sub-any-edge-pair
+sub-any-edge-pair c = search needs
+
+any-edge-pair-requires : tie.Need-any-edge-pair-requires
+any-edge-pair-requires c κs = search needs
+
+same-length : tie.Need-same-length
+same-length c = search needs
+
+same-length-2 : tie.Need-same-length-2
+same-length-2 c = search needs
+
+returns-2 : tie.Need-returns-2
+returns-2 c =
+    let s = c .before .before .before .before .before .before .before .before .before .before .before in
+    by-edges (s .args .n) (s .args .ring .now) (s .args .work .now) _ (s .args .order .now) _ _ (c .before .before .before .before .before .before .before .if1 .left) (c .before .before .before .before .any-edge-pair .ensures)
+
+pub has-self-intersecting-edges-spec : {M : Type 1} → statement M
+has-self-intersecting-edges-spec =
+    tie.close
+    (tie.spec returns sub-any-edge-pair any-edge-pair-requires same-length same-length-2 returns-2)

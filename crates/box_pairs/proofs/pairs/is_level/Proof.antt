@@ -1,0 +1,47 @@
+-- `pairs::is_level` meets its contract: edges that are apart in y do not cross. Assumes nothing.
+use mathlib.Core.Path.{sym, _∙_}
+use borrow.Author.Tests.{not-false}
+use Rattle.box_pairs.proofs.Crossing.{apart-y}
+use borrow.Author.Needs.{needs}
+use Rattle.box_pairs.proofs.pairs.is_level.Statement.{statement}
+use Rattle.box_pairs.proofs.pairs.is_level.Tie as tie
+
+coord-at-requires : tie.Need-coord-at-requires
+coord-at-requires c κs = search needs
+
+add-coord-at : tie.Need-add-coord-at
+add-coord-at c = search needs
+
+coord-at-requires-2 : tie.Need-coord-at-requires-2
+coord-at-requires-2 c κs = search needs
+
+coord-at-requires-3 : tie.Need-coord-at-requires-3
+coord-at-requires-3 c κs = search needs
+
+add-coord-at-2 : tie.Need-add-coord-at-2
+add-coord-at-2 c = search needs
+
+coord-at-requires-4 : tie.Need-coord-at-requires-4
+coord-at-requires-4 c κs = search needs
+
+is-apart-requires : tie.Need-is-apart-requires
+is-apart-requires c κs = search needs
+
+returns : tie.Need-returns
+returns c =
+    λ e.
+    let p = apart-y (c .before .before .before .before .coord-at .result) (c .before .before .before .coord-at2 .result) (c .before .before .coord-at3 .result) (c .before .coord-at4 .result) (λ n. sym (not-false (c .is-apart .result) e) ∙ c .is-apart .ensures n) in
+    rw (c .before .before .before .before .coord-at .ensures, c .before .before .before .coord-at2 .ensures, c .before .before .coord-at3 .ensures, c .before .coord-at4 .ensures) at p
+
+pub is-level-spec : {M : Type 1} → statement M
+is-level-spec =
+    tie.close
+    (tie.spec
+    coord-at-requires
+    add-coord-at
+    coord-at-requires-2
+    coord-at-requires-3
+    add-coord-at-2
+    coord-at-requires-4
+    is-apart-requires
+    returns)

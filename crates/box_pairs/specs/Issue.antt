@@ -1,0 +1,36 @@
+-- What is wrong with an exterior (document 01, "Unchanged"). Definitions only.
+use mathlib.Core.Path.{_≡_}
+use mathlib.Core.Bool.{Bool, false, not, cond, _&&_, _||_}
+use mathlib.Core.List.{List, [], _∷_}
+use Prim.Native.Nat.{ℕ, _*_, _<_, _≤_, _^_}
+use lib.Dec.{ltb}
+use lib.Ieee.{Float}
+use lib.ListN.{length, drop}
+use Rattle.tile.specs.declared.Coord.{Coord}
+use Rattle.box_pairs.specs.declared.Issue.{Issue}
+use Rattle.box_pairs.specs.declared.Issue.the-variants.{Sound, Short, Repeated, Crossing}
+use Rattle.box_pairs.specs.Cross.{short}
+use Rattle.box_pairs.specs.Pairs.{crossing}
+
+-- "two neighbours differ by less than 1e-10 in x and in y, the last segment excepted"
+unfoldable pub repeated : List Coord → Bool
+repeated [] = false
+repeated (p ∷ []) = false
+repeated (p ∷ q ∷ []) = false
+repeated (p ∷ q ∷ s ∷ r) = short p q || repeated (q ∷ s ∷ r)
+
+-- "An exterior has an issue if it has fewer than 4 coordinates; or two neighbours ..; or, unless `assume_simple` is set, two edges cross"
+unfoldable pub issueOf : Bool → List Coord → Issue
+issueOf simple r = cond (ltb (length r) 4) Short (cond (repeated r) Repeated (cond (not simple && crossing r) Crossing Sound))
+
+-- the room that the work on a ring of n coordinates needs
+pub record Room (n : ℕ) (ring work : List Float) (order : List ℕ) : Type 0 where
+  pub ring-room : 2 * n ≤ length ring
+  pub work-room : 2 * n ≤ length work
+  pub order-room : n ≤ length order
+  pub small : n < 2 ^ 32
+
+-- what lies past that room is as it was
+pub record Unused (n : ℕ) (work : List Float) (order : List ℕ) (work′ : List Float) (order′ : List ℕ) : Type 0 where
+  pub past-work : drop (2 * n) work′ ≡ drop (2 * n) work
+  pub past-order : drop n order′ ≡ drop n order

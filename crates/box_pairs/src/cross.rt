@@ -1,0 +1,90 @@
+// Whether two edges cross: the source's `edges_intersect_properly`, between edges that are long enough and whose boxes meet.
+ghost use mathlib.Core.Path.{_≡_};
+ghost use mathlib.Core.Bool.{false};
+ghost use lib.Ieee.{isNan};
+ghost use Rattle.binary64.specs.Compare.{minimum, maximum};
+ghost use Rattle.box_pairs.specs.Cross as S;
+use binary64::compare::is_near;
+use tile::Coord;
+
+// Which side of the line from a to b the point c lies on, by the sign.
+fn cross_product_sign(a: Coord, b: Coord, c: Coord) -> f64
+    ensures { λ r. ⌜ r ≡ S.crossProduct a b c ⌝ }
+{
+    (b.x - a.x) * (c.y - a.y) - (b.y - a.y) * (c.x - a.x)
+}
+
+fn above_below(d: f64, e: f64) -> bool
+    ensures { λ r. ⌜ r ≡ S.aboveBelow d e ⌝ }
+{
+    d > 0.0 && e < 0.0
+}
+
+// Whether the ends of the edge from c to d lie on both sides of the edge from a to b.
+fn splits(a: Coord, b: Coord, c: Coord, d: Coord) -> bool
+    ensures { λ r. ⌜ r ≡ S.splits a b c d ⌝ }
+{
+    let side = cross_product_sign(a, b, c);
+    let other = cross_product_sign(a, b, d);
+    above_below(side, other) || above_below(other, side)
+}
+
+fn edges_intersect_properly(a1: Coord, a2: Coord, b1: Coord, b2: Coord) -> bool
+    ensures { λ r. ⌜ r ≡ S.properly a1 a2 b1 b2 ⌝ }
+{
+    splits(b1, b2, a1, a2) && splits(a1, a2, b1, b2)
+}
+
+// Shorter than 1e-10 in both axes: the source's `degenerate`.
+pub fn is_short(a: Coord, b: Coord) -> bool
+    ensures { λ r. ⌜ r ≡ S.short a b ⌝ }
+{
+    is_near(a.x, b.x) && is_near(a.y, b.y)
+}
+
+// The lower and the higher of two numbers, each by one instruction: where the first is no NaN, they are `minimum` and `maximum`.
+fn lower(a: f64, b: f64) -> f64
+    ensures { λ r. ⌜ (isNan a ≡ false → r ≡ minimum a b) ⌝ }
+{
+    if b < a {
+        return b;
+    }
+    a
+}
+
+fn higher(a: f64, b: f64) -> f64
+    ensures { λ r. ⌜ (isNan a ≡ false → r ≡ maximum a b) ⌝ }
+{
+    if a < b {
+        return b;
+    }
+    a
+}
+
+// Whether, of numbers that are no NaN, those from a1 to a2 and those from b1 to b2 are apart: one comparison, which is foreseen more often than two.
+pub fn is_apart(a1: f64, a2: f64, b1: f64, b2: f64) -> bool
+    ensures { λ r. ⌜ (S.Numbers a1 a2 b1 b2 → r ≡ S.apartOn a1 a2 b1 b2) ⌝ }
+{
+    let low = higher(lower(b1, b2), lower(a1, a2));
+    let high = lower(higher(b1, b2), higher(a1, a2));
+    high < low
+}
+
+// Whether the edges from a1 to a2 and from b1 to b2 cross. Where a coordinate is NaN they do not, whatever their boxes.
+pub fn crosses(a1: Coord, a2: Coord, b1: Coord, b2: Coord) -> bool
+    ensures { λ r. ⌜ r ≡ S.cross a1 a2 b1 b2 ⌝ }
+{
+    if is_apart(a1.y, a2.y, b1.y, b2.y) {
+        return false;
+    }
+    if is_apart(a1.x, a2.x, b1.x, b2.x) {
+        return false;
+    }
+    if edges_intersect_properly(a1, a2, b1, b2) {
+        if is_short(a1, a2) {
+            return false;
+        }
+        return !is_short(b1, b2);
+    }
+    false
+}

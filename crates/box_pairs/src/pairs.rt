@@ -1,0 +1,150 @@
+// Whether two edges of a ring cross: all pairs for a short ring, and a sweep over the edges by their lowest x for a long one.
+ghost use mathlib.Core.Path.{_≡_};
+ghost use mathlib.Core.Bool.{false};
+ghost use Prim.Native.Nat.{_+_, _*_, _<_, _≤_};
+ghost use lib.ListN.{length};
+ghost use Rattle.box_pairs.specs.Pairs as S;
+ghost use Rattle.box_pairs.specs.Issue.{Room, Unused};
+use super::cross::crosses;
+use super::cross::is_apart;
+use super::merge::sort;
+use binary64::compare::maximum;
+use binary64::compare::minimum;
+use tile::ring::coord_at;
+
+// Rings of more edges than this are swept.
+const SCANNED: usize = 32;
+
+// Whether the boxes of the edges i and j may meet in y: one comparison, small enough to stand in the loops. Most pairs are gone with it.
+fn is_level(ring: &[f64], i: usize, j: usize) -> bool
+    requires { ⌜ (2 * i + 3 < length (now ring)) × (2 * j + 3 < length (now ring)) ⌝ }
+    ensures { λ r. ⌜ (r ≡ false → S.edgesAt (now (ring .entry)) i j ≡ false) ⌝ }
+{
+    let a1 = coord_at(ring, i);
+    let a2 = coord_at(ring, i + 1);
+    let b1 = coord_at(ring, j);
+    let b2 = coord_at(ring, j + 1);
+    !is_apart(a1.y, a2.y, b1.y, b2.y)
+}
+
+// Whether the edges i and j cross.
+fn edges_cross(ring: &[f64], i: usize, j: usize) -> bool
+    requires { ⌜ (2 * i + 3 < length (now ring)) × (2 * j + 3 < length (now ring)) ⌝ }
+    ensures { λ r. ⌜ r ≡ S.edgesAt (now (ring .entry)) i j ⌝ }
+{
+    let a1 = coord_at(ring, i);
+    let a2 = coord_at(ring, i + 1);
+    let b1 = coord_at(ring, j);
+    let b2 = coord_at(ring, j + 1);
+    crosses(a1, a2, b1, b2)
+}
+
+// Whether two of the n edges cross, by a look at all pairs.
+pub fn scan_pairs(ring: &[f64], n: usize) -> bool
+    requires { ⌜ 2 * (n + 1) ≤ length (now ring) ⌝ }
+    ensures { λ r. ⌜ r ≡ S.crossing (S.front (now (ring .entry)) (n + 1)) ⌝ }
+{
+    let mut found = false;
+    let mut i = 0usize;
+    'pairs: while i < n {
+        let mut j = i + 1;
+        while j < n {
+            if is_level(ring, i, j) {
+                if edges_cross(ring, i, j) {
+                    found = true;
+                    break 'pairs;
+                }
+            }
+            j += 1;
+        }
+        i += 1;
+    }
+    found
+}
+
+// Notes the lowest x of each of the n edges.
+fn note_lows(ring: &[f64], work: &mut [f64], n: usize)
+    requires { ⌜ (2 * (n + 1) ≤ length (now ring)) × (n ≤ length (now work)) ⌝ }
+    ensures { λ _. ⌜ S.Noted n (S.front (now (ring .entry)) (n + 1)) (now (work .entry)) (now (work .exit)) ⌝ }
+{
+    let mut i = 0usize;
+    while i < n {
+        let p = coord_at(ring, i);
+        let q = coord_at(ring, i + 1);
+        work[i] = minimum(p.x, q.x);
+        i += 1;
+    }
+}
+
+// Whether two of the n edges cross, by a sweep over the edges in the order of their lowest x, which stand in `lows`:
+// past the first that starts beyond an edge's end no other meets it.
+fn sweep_sorted(ring: &[f64], lows: &[f64], order: &[u32], n: usize) -> bool
+    requires { ⌜ (2 * (n + 1) ≤ length (now ring)) × (n ≤ length (now lows)) ⌝ }
+    requires { ⌜ S.Swept n (S.front (now ring) (n + 1)) (now lows) (now order) ⌝ }
+    ensures { λ r. ⌜ r ≡ S.crossing (S.front (now (ring .entry)) (n + 1)) ⌝ }
+{
+    let mut found = false;
+    let mut p = 0usize;
+    'pairs: while p < n {
+        let i = order[p] as usize;
+        let a1 = coord_at(ring, i);
+        let a2 = coord_at(ring, i + 1);
+        let high = maximum(a1.x, a2.x);
+        let mut q = p + 1;
+        while q < n {
+            let j = order[q] as usize;
+            if lows[j] > high {
+                break;
+            }
+            if is_level(ring, i, j) {
+                if edges_cross(ring, i, j) {
+                    found = true;
+                    break 'pairs;
+                }
+            }
+            q += 1;
+        }
+        p += 1;
+    }
+    found
+}
+
+// Whether two of the n edges cross, by a sweep.
+pub fn sweep_pairs(ring: &[f64], n: usize, work: &mut [f64], order: &mut [u32]) -> bool
+    requires { ⌜ Room (n + 1) (now ring) (now work) (now order) ⌝ }
+    ensures { λ r. ⌜ r ≡ S.crossing (S.front (now (ring .entry)) (n + 1)) ⌝ }
+    ensures { λ _. ⌜ Unused (n + 1) (now (work .entry)) (now (order .entry)) (now (work .exit)) (now (order .exit)) ⌝ }
+{
+    note_lows(ring, work, n);
+    sort(work, order, n);
+    sweep_sorted(ring, work, order, n)
+}
+
+// Whether two of the n edges cross.
+pub fn any_edge_pair(ring: &[f64], n: usize, work: &mut [f64], order: &mut [u32]) -> bool
+    requires { ⌜ Room (n + 1) (now ring) (now work) (now order) ⌝ }
+    ensures { λ r. ⌜ r ≡ S.crossing (S.front (now (ring .entry)) (n + 1)) ⌝ }
+    ensures { λ _. ⌜ Unused (n + 1) (now (work .entry)) (now (order .entry)) (now (work .exit)) (now (order .exit)) ⌝ }
+{
+    if n <= SCANNED {
+        return scan_pairs(ring, n);
+    }
+    sweep_pairs(ring, n, work, order)
+}
+
+// Whether two edges of the ring of n coordinates cross.
+pub fn has_self_intersecting_edges(
+    ring: &[f64],
+    n: usize,
+    work: &mut [f64],
+    order: &mut [u32],
+) -> bool
+    requires { ⌜ Room n (now ring) (now work) (now order) ⌝ }
+    ensures { λ r. ⌜ r ≡ S.crossing (S.front (now (ring .entry)) n) ⌝ }
+    ensures { λ _. ⌜ Unused n (now (work .entry)) (now (order .entry)) (now (work .exit)) (now (order .exit)) ⌝ }
+{
+    if n == 0 {
+        return false;
+    }
+    any_edge_pair(ring, n - 1, work, order)
+}
