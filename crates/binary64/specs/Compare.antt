@@ -1,6 +1,6 @@
 -- Comparisons of doubles as document 01 uses them: minimum and maximum, nearness, size. Definitions only.
 -- That a number is neither NaN nor infinite is `finite` of `lib.Ieee.Scale`.
-use mathlib.Core.Bool.{Bool, true, false, _||_, cond}
+use mathlib.Core.Bool.{Bool, false, _||_, cond}
 use Prim.Native.Nat.{_^_}
 use lib.Ieee.{Float, nan, inf, fin, binary64, isNan, lt, le, sub, round}
 

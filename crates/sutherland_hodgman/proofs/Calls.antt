@@ -15,7 +15,7 @@ use Rattle.binary64.specs.Slices.{zeros}
 use Rattle.tile.specs.declared.Coord.{Coord}
 use Rattle.tile.specs.declared.TileBounds.{TileBounds}
 use Rattle.tile.specs.Ring.{coords, flat}
-use Rattle.tile.proofs.Rings.{length-flat, length-coords, coords-front}
+use Rattle.tile.proofs.Rings.{length-coords, coords-flat, coords-front}
 use Rattle.sutherland_hodgman.specs.declared.call.Refusal.{Refusal}
 use Rattle.sutherland_hodgman.specs.declared.call.Refusal.the-variants.{Lengths, Coordinates, Scratch, Output}
 use Rattle.sutherland_hodgman.specs.declared.call.Check.{Check}
@@ -26,9 +26,17 @@ use Rattle.sutherland_hodgman.specs.Clip.{clipRing}
 use Rattle.sutherland_hodgman.specs.Promise.{Promise}
 use Rattle.sutherland_hodgman.specs.Cutter.{Cut}
 use Rattle.sutherland_hodgman.proofs.Growth.{le-four, room-pass, clipRing-grows}
-use Rattle.sutherland_hodgman.specs.Call.{refuse, checked, answered, ringAnswer, Cuttable, Done, ClippedTo, scratchAfter}
+use Rattle.sutherland_hodgman.specs.Call.{refuse, checked, answered, ringAnswer, Done, ClippedTo, scratchAfter}
 
 -- ---- what passes the checks has room
+
+-- a ring of so many numbers, and the lengths of the other slices
+pub record Cuttable (numbers a b out : ℕ) : Type 0 where
+  pub even : 2 * (numbers / 2) ≡ numbers
+  pub few : numbers / 2 ≤ mostCoordinates
+  pub first : 2 * B (numbers / 2) ≤ a
+  pub second : 2 * B (numbers / 2) ≤ b
+  pub output : 2 * B (numbers / 2) ≤ out
 
 not-refused : (t : Bool) (r : Refusal) (c : Check) → refuse t r c ≡ Passes → (t ≡ false) × (c ≡ Passes)
 not-refused true r c e = absurd (let z : _≡_ {A = ℕ} 0 1 = cc in omega arith)
@@ -80,19 +88,28 @@ module _ (ring : List Float) (bounds : TileBounds) (numbers : 2 * (length ring /
   pub copied-in : (b b′ : List Float) → b′ ≡ take (length ring) ring ++ drop (length ring) b → coords (take (2 * (length ring / 2)) b′) ≡ coords ring
   copied-in b b′ e = rw (e, take-length ring, numbers, take-at ring (drop (length ring) b) (length ring) refl)
 
+  -- what stands at the front of the slice
+  cut-ring : (r : ℕ) (after : List Float) → Cut bounds (coords ring) r after → coords (take (2 * r) after) ≡ clipRing bounds (coords ring)
+  cut-ring r after c = rw (c .numbers) (coords-flat (clipRing bounds (coords ring)))
+
   pub cut-room : (r : ℕ) (after : List Float) → Cut bounds (coords ring) r after → r ≤ B (length ring / 2)
-  cut-room r after c = let g : length (clipRing bounds (coords ring)) ≤ B (length ring / 2) = rw ring-length at (promise-room bounds (coords ring) (clipRing bounds (coords ring)) (c .promise)) in omega (arith, c .count)
+  cut-room r after c = let g : length (clipRing bounds (coords ring)) ≤ B (length ring / 2) = rw ring-length at (promise-room bounds (coords ring) (clipRing bounds (coords ring)) (rw (cut-ring r after c) at (c .promise))) in omega (arith, c .count)
 
   pub cut-clipped : (out out′ cut : List Float) (r : ℕ) → Cut bounds (coords ring) r cut → out′ ≡ take (2 * r) cut ++ drop (2 * r) out → ClippedTo ring bounds out r out′
-  cut-clipped out out′ cut r c ho = record { count = c .count; numbers = ho ∙ rw (c .numbers); promise = c .promise }
+  cut-clipped out out′ cut r c ho =
+      let o : out′ ≡ flat (clipRing bounds (coords ring)) ++ drop (2 * r) out = ho ∙ rw (c .numbers) in
+      record {
+        written = record { count = c .count; numbers = o };
+        promise = rw (coords-front (clipRing bounds (coords ring)) (drop (2 * r) out) out′ r (c .count) o, ← cut-ring r cut c) (c .promise);
+      }
 
 pub clipped-done : (ring : List Float) (bounds : TileBounds) (a b out a′ b′ out′ : List Float) (r : ℕ) → ClippedTo ring bounds out r out′
     → a′ ≡ scratchAfter (Clipped r) a → b′ ≡ scratchAfter (Clipped r) b → Done ring bounds a b out (Clipped r) a′ b′ out′
 clipped-done ring bounds a b out a′ b′ out′ r c ha hb = record {
   first = ha;
   second = hb;
-  output = c .numbers;
-  promise = λ m e. let q : r ≡ m = cc in rw (coords-front (clipRing bounds (coords ring)) (drop (2 * r) out) out′ m (sym q ∙ c .count) (c .numbers)) (c .promise);
+  output = c .written .numbers;
+  promise = λ m e. let q : r ≡ m = cc in rw q at (c .promise);
 }
 
 -- a scratch slice is cleared, and has kept its length

@@ -25,7 +25,7 @@ use Rattle.tile.specs.Ring.{coords, closed, close}
 use Rattle.tile.proofs.Rings.{coords-take, count-closed, count-open}
 use Rattle.sutherland_hodgman.specs.Lines.{fixed, free, place, bound, isLow, inside, crossing}
 use Rattle.sutherland_hodgman.specs.Clip.{pass, passes, finish, clipRing}
-use Rattle.sutherland_hodgman.specs.Promise.{Every, Latitude, modest, ModestBounds, ModestCoord, Longitude, Promise}
+use Rattle.sutherland_hodgman.specs.Promise.{Every, LatitudeInBounds, atMost256, BoundsAtMost256, CoordAtMost256, LongitudeNearBounds, Promise}
 use Rattle.sutherland_hodgman.proofs.Growth.{clipRing-grows}
 use Rattle.sutherland_hodgman.proofs.Turns.{Turns, every-take, every-finish, every-map, every-both, every-of-all, passed}
 
@@ -41,20 +41,20 @@ module _ (b : TileBounds) (h : T (le (b .«lat_min») (b .«lat_max»))) where
   unfolding inside crossing
   bottom = record { keeps = λ p _ i. i; crosses = λ s e i _ _ _ _. le-self-of-le (b .«lat_min») (b .«lat_max») h .0 }
 
-  top : Turns Above (Latitude b) Top b
+  top : Turns Above (LatitudeInBounds b) Top b
   unfolding inside crossing
   top = record { keeps = λ p a i. (a, i); crosses = λ s e i _ _ _ _. (h, le-self-of-le (b .«lat_min») (b .«lat_max») h .1) }
 
-  latitudes : (r : List Coord) → Every (Latitude b) (clipRing b r)
+  latitudes : (r : List Coord) → Every (LatitudeInBounds b) (clipRing b r)
   unfolding clipRing passes
   latitudes r =
       let r2 = pass Right b (pass Left b r) in
       let r3 = pass Bottom b r2 in
-      every-finish (Latitude b) (pass Top b r3) (passed Above (Latitude b) Top b top r3 (passed Any Above Bottom b bottom r2 (every-of-all Any r2 (λ p. tt))))
+      every-finish (LatitudeInBounds b) (pass Top b r3) (passed Above (LatitudeInBounds b) Top b top r3 (passed Any Above Bottom b bottom r2 (every-of-all Any r2 (λ p. tt))))
 
--- ---- modest numbers, from -256 to 256
-abbrev Modest : Float → Type 0
-Modest x = T (fits binary64 x) × T (modest x)
+-- ---- atMost256 numbers, from -256 to 256
+abbrev AtMost256 : Float → Type 0
+AtMost256 x = T (fits binary64 x) × T (atMost256 x)
 
 abbrev least : Float
 least = fin true 1 (pos 8)
@@ -69,9 +69,9 @@ most = 2 ^ 1082
 abbrev whole : Range
 whole = record { lp = 0; ln = most; hp = most; hn = 0 }
 
-modest-in : (x : Float) → Modest x → In binary64 whole x
+at-most-in : (x : Float) → AtMost256 x → In binary64 whole x
 unfolding fits plus minus
-modest-in x h =
+at-most-in x h =
     let l = and-l (le least x) (le x greatest) (h .1) in
     let g = and-r (le least x) (le x greatest) (h .1) in
     let n : Number binary64 x = record { is-finite = finite-between least x greatest tt tt l g; in-format = h .0 } in
@@ -110,15 +110,15 @@ turns l b v u h = record {
 whole-reach : Reach most whole
 whole-reach = record { low-end = lit≤ tt; high-end = lit≤ tt }
 
-modest-reach : (x : Float) → Modest x → mag binary64 x ≤ most
-modest-reach x h = mag-le-reach whole-reach (modest-in x h)
+at-most-reach : (x : Float) → AtMost256 x → mag binary64 x ≤ most
+at-most-reach x h = mag-le-reach whole-reach (at-most-in x h)
 
-cut : (l : Edge) (b : TileBounds) {v u : Range} → Modest (bound l b) → Reach far v → Reach far u → Cut l b v u
-cut l b m v u = record { room = lit< tt; reach = lit< tt; line = modest-in (bound l b) m .number; line-le = le-trans (modest-reach (bound l b) m) (lit≤ tt); fixed = v; free = u }
+cut : (l : Edge) (b : TileBounds) {v u : Range} → AtMost256 (bound l b) → Reach far v → Reach far u → Cut l b v u
+cut l b m v u = record { room = lit< tt; reach = lit< tt; line = at-most-in (bound l b) m .number; line-le = le-trans (at-most-reach (bound l b) m) (lit≤ tt); fixed = v; free = u }
 
 -- ---- the four passes
 -- what they leave of a longitude, in the words of the demand
-end : (b : TileBounds) (p : Coord) → In binary64 (widen step (widen step (cutAt binary64 false (b .«lng_max») (cutAt binary64 true (b .«lng_min») whole)))) (p .x) → Longitude b p
+end : (b : TileBounds) (p : Coord) → In binary64 (widen step (widen step (cutAt binary64 false (b .«lng_max») (cutAt binary64 true (b .«lng_min») whole)))) (p .x) → LongitudeNearBounds b p
 end b p h =
     let f = binary64 in (
       h .number .is-finite,
@@ -133,9 +133,9 @@ end b p h =
     high p n q m e h = omega arith
 
 abbrev Fine : Coord → Type 0
-Fine p = Modest (p .x) × Modest (p .y)
+Fine p = AtMost256 (p .x) × AtMost256 (p .y)
 
-longitudes : (b : TileBounds) (r : List Coord) → Modest (b .«lng_min») → Modest (b .«lat_min») → Modest (b .«lng_max») → Modest (b .«lat_max») → Every Fine r → Every (Longitude b) (clipRing b r)
+longitudes : (b : TileBounds) (r : List Coord) → AtMost256 (b .«lng_min») → AtMost256 (b .«lat_min») → AtMost256 (b .«lng_max») → AtMost256 (b .«lat_max») → Every Fine r → Every (LongitudeNearBounds b) (clipRing b r)
 unfolding clipRing passes
 longitudes b r hw hs he hn hr =
     let f = binary64 in
@@ -147,11 +147,11 @@ longitudes b r hw hs he hn hr =
     let x3 : Range = widen step x2 in
     let y4 : Range = cutAt f false (b .«lat_max») y3 in
     let x4 : Range = widen step x3 in
-    let rx1 : Reach most x1 = reach-cutAt f true (b .«lng_min») (modest-reach (b .«lng_min») hw) whole-reach in
+    let rx1 : Reach most x1 = reach-cutAt f true (b .«lng_min») (at-most-reach (b .«lng_min») hw) whole-reach in
     let ry1 : Reach (most + step) y1 = reach-widen step whole-reach in
-    let rx2 : Reach most x2 = reach-cutAt f false (b .«lng_max») (modest-reach (b .«lng_max») he) rx1 in
+    let rx2 : Reach most x2 = reach-cutAt f false (b .«lng_max») (at-most-reach (b .«lng_max») he) rx1 in
     let ry2 : Reach far y2 = reach-widen step ry1 in
-    let ry3 : Reach far y3 = reach-cutAt f true (b .«lat_min») (le-trans (modest-reach (b .«lat_min») hs) (lit≤ tt)) ry2 in
+    let ry3 : Reach far y3 = reach-cutAt f true (b .«lat_min») (le-trans (at-most-reach (b .«lat_min») hs) (lit≤ tt)) ry2 in
     let rx3 : Reach (most + step) x3 = reach-widen step rx2 in
     let c1 : Cut Left b whole whole = cut Left b hw (reach-mono (lit≤ tt) whole-reach) (reach-mono (lit≤ tt) whole-reach) in
     let c2 : Cut Right b x1 y1 = cut Right b he (reach-mono (lit≤ tt) rx1) (reach-mono (lit≤ tt) ry1) in
@@ -161,13 +161,13 @@ longitudes b r hw hs he hn hr =
     let r2 = pass Right b r1 in
     let r3 = pass Bottom b r2 in
     let r4 = pass Top b r3 in
-    let h0 : Every (Lies Left whole whole) r = every-map Fine (Lies Left whole whole) r (λ p h. (modest-in (p .x) (h .0), modest-in (p .y) (h .1))) hr in
+    let h0 : Every (Lies Left whole whole) r = every-map Fine (Lies Left whole whole) r (λ p h. (at-most-in (p .x) (h .0), at-most-in (p .y) (h .1))) hr in
     let h1 : Every (Lies Right x1 y1) r1 = passed (Lies Left whole whole) (Lies Left x1 y1) Left b (turns Left b whole whole c1) r h0 in
     let h2 : Every (Lies Right x2 y2) r2 = passed (Lies Right x1 y1) (Lies Right x2 y2) Right b (turns Right b x1 y1 c2) r1 h1 in
     let h2' : Every (Lies Bottom y2 x2) r2 = every-map (Lies Right x2 y2) (Lies Bottom y2 x2) r2 (λ p h. (h .1, h .0)) h2 in
     let h3 : Every (Lies Top y3 x3) r3 = passed (Lies Bottom y2 x2) (Lies Bottom y3 x3) Bottom b (turns Bottom b y2 x2 c3) r2 h2' in
     let h4 : Every (Lies Top y4 x4) r4 = passed (Lies Top y3 x3) (Lies Top y4 x4) Top b (turns Top b y3 x3 c4) r3 h3 in
-    every-map (Lies Top y4 x4) (Longitude b) (finish r4) (λ p h. end b p (h .1)) (every-finish (Lies Top y4 x4) r4 h4)
+    every-map (Lies Top y4 x4) (LongitudeNearBounds b) (finish r4) (λ p h. end b p (h .1)) (every-finish (Lies Top y4 x4) r4 h4)
 
 -- ---- no vertices, or at least three
 vertices : (r : List Coord) → (length (finish r) ≡ 0) ⊎ (3 ≤ length (finish r))
@@ -206,5 +206,5 @@ promise b r hb hr = record {
   vertices = vertices (passes b r);
   growth = clipRing-grows b r;
   longitudes = λ _ _ mb mr. longitudes b r (hb .0, mb .0) (hb .1, mb .1) (hb .2, mb .2) (hb .3, mb .3)
-      (every-map (λ p. HeldCoord p × ModestCoord p) Fine r (λ p h. ((h .0 .0, h .1 .0), (h .0 .1, h .1 .1))) (every-both HeldCoord ModestCoord r hr mr));
+      (every-map (λ p. HeldCoord p × CoordAtMost256 p) Fine r (λ p h. ((h .0 .0, h .1 .0), (h .0 .1, h .1 .1))) (every-both HeldCoord CoordAtMost256 r hr mr));
 }

@@ -1,8 +1,8 @@
 -- The ring call (document 01, "Frames"): what it answers, and what each lent slice holds afterwards. Definitions only.
 use mathlib.Core.Path.{_≡_}
 use mathlib.Core.Bool.{Bool, true, false, _||_}
-use mathlib.Core.List.{List, [], _∷_, _++_}
-use Prim.Native.Nat.{ℕ, _*_, _/_, _%_, _≤_}
+use mathlib.Core.List.{List, _++_}
+use Prim.Native.Nat.{ℕ, _*_, _/_, _%_}
 use lib.Dec.{ltb, eqb}
 use lib.Ieee.{Float}
 use lib.IntN.{ℤ, pos, negℤ}
@@ -10,7 +10,7 @@ use lib.ListN.{length, take, drop}
 use Rattle.binary64.specs.Slices.{zeros}
 use Rattle.tile.specs.declared.Coord.{Coord}
 use Rattle.tile.specs.declared.TileBounds.{TileBounds}
-use Rattle.tile.specs.Ring.{coords, flat}
+use Rattle.tile.specs.Ring.{coords, flat, Written}
 use Rattle.sutherland_hodgman.specs.declared.call.Refusal.{Refusal}
 use Rattle.sutherland_hodgman.specs.declared.call.Refusal.the-variants.{Lengths, Coordinates, Scratch, Output}
 use Rattle.sutherland_hodgman.specs.declared.call.Check.{Check}
@@ -21,7 +21,7 @@ use Rattle.sutherland_hodgman.specs.Growth.{B, mostCoordinates}
 use Rattle.sutherland_hodgman.specs.Clip.{clipRing}
 use Rattle.sutherland_hodgman.specs.Promise.{Promise}
 
--- the paper's number of a refusal
+-- the paper's number of each refusal; `code` below answers it
 abbrev pub number : Refusal → ℕ
 number Lengths = 19
 number Coordinates = 20
@@ -65,19 +65,10 @@ pub record Done (ring : List Float) (bounds : TileBounds) (a b out : List Float)
   pub output : out′ ≡ outputAfter r (clipRing bounds (coords ring)) out
   pub promise : (n : ℕ) → r ≡ Clipped n → Promise bounds (coords ring) (coords (take (2 * n) out′))
 
--- a ring of so many numbers that is not refused
-pub record Cuttable (numbers a b out : ℕ) : Type 0 where
-  pub even : 2 * (numbers / 2) ≡ numbers
-  pub few : numbers / 2 ≤ mostCoordinates
-  pub first : 2 * B (numbers / 2) ≤ a
-  pub second : 2 * B (numbers / 2) ≤ b
-  pub output : 2 * B (numbers / 2) ≤ out
-
--- the cut of a lent ring stands at the front of the output, r coordinates long, and keeps demand 3
+-- the cut of a lent ring stands at the front of the output, r coordinates long; demand 3 holds of what stands there
 pub record ClippedTo (ring : List Float) (bounds : TileBounds) (out : List Float) (r : ℕ) (out′ : List Float) : Type 0 where
-  pub count : r ≡ length (clipRing bounds (coords ring))
-  pub numbers : out′ ≡ flat (clipRing bounds (coords ring)) ++ drop (2 * r) out
-  pub promise : Promise bounds (coords ring) (clipRing bounds (coords ring))
+  pub written : Written (clipRing bounds (coords ring)) out r out′
+  pub promise : Promise bounds (coords ring) (coords (take (2 * r) out′))
 
 -- the answer as one number: the count of coordinates, or minus the refusal's number
 abbrev pub code : RingAnswer → ℤ

@@ -1,7 +1,7 @@
 -- Sutherland and Hodgman's rule for a ring and four lines (document 01, "Cut rings"): the step, the pass, leaving off, the ring. Definitions only.
 use mathlib.Core.Bool.{Bool, true, false, cond}
 use mathlib.Core.List.{List, [], _∷_, _++_}
-use Prim.Native.Nat.{ℕ, _-_}
+use Prim.Native.Nat.{_-_}
 use lib.Dec.{leb}
 use lib.ListN.{length, take}
 use Rattle.tile.specs.declared.Coord.{Coord}
@@ -29,11 +29,12 @@ leaveOff [] = []
 leaveOff (p ∷ []) = p ∷ []
 leaveOff (p ∷ q ∷ r) = cond (closed (p ∷ q ∷ r)) (take (length (p ∷ q ∷ r) - 1) (p ∷ q ∷ r)) (p ∷ q ∷ r)
 
--- "Start from the last vertex kept."
+-- the steps along all vertices: "Start from the last vertex kept."
 unfoldable pub around : Edge → TileBounds → List Coord → List Coord
 around l b [] = []
 around l b (p ∷ r) = steps l b (inside l b (last p r)) (last p r) (p ∷ r)
 
+-- one pass: "Each pass first leaves off .."
 unfoldable pub pass : Edge → TileBounds → List Coord → List Coord
 pass l b r = around l b (leaveOff r)
 
@@ -45,5 +46,6 @@ passes b r = pass Top b (pass Bottom b (pass Right b (pass Left b r)))
 unfoldable pub finish : List Coord → List Coord
 finish r = cond (leb 3 (length r)) (close r) []
 
+-- what `clip_ring` makes of a ring
 unfoldable pub clipRing : TileBounds → List Coord → List Coord
 clipRing b r = finish (passes b r)

@@ -6,7 +6,7 @@ use lib.Ieee.{Float}
 use lib.ListN.{length, take}
 use Rattle.tile.specs.declared.Coord.{Coord}
 use Rattle.tile.specs.declared.TileBounds.{TileBounds}
-use Rattle.tile.specs.Ring.{flat}
+use Rattle.tile.specs.Ring.{coords, flat}
 use Rattle.sutherland_hodgman.specs.Growth.{B}
 use Rattle.sutherland_hodgman.specs.Clip.{clipRing}
 use Rattle.sutherland_hodgman.specs.Promise.{Promise}
@@ -16,8 +16,8 @@ pub record Room (n a b : ℕ) : Type 0 where
   pub first : 2 * B n ≤ a
   pub second : 2 * B n ≤ b
 
--- the cut ring, r vertices long, stands at the front of the slice, and keeps demand 3; what lies past it is left open
+-- the cut ring, r vertices long, stands at the front of the slice; demand 3 holds of what stands there; what lies past it is left open
 pub record Cut (bounds : TileBounds) (ring : List Coord) (r : ℕ) (after : List Float) : Type 0 where
   pub count : r ≡ length (clipRing bounds ring)
   pub numbers : take (2 * r) after ≡ flat (clipRing bounds ring)
-  pub promise : Promise bounds ring (clipRing bounds ring)
+  pub promise : Promise bounds ring (coords (take (2 * r) after))

@@ -1,4 +1,4 @@
--- How many vertices a cut ring can have (document 01, "Frames": half-growth and B). Definitions only.
+-- The room that cutting a ring takes (document 01, "Frames": half-growth and B). Definitions only.
 use Prim.Native.Nat.{ℕ, zero, suc, _+_, _/_}
 
 -- "n plus half of n rounded down"
@@ -8,7 +8,7 @@ halfGrowth n = n + n / 2
 unfoldable pub fourHalfGrowths : ℕ → ℕ
 fourHalfGrowths n = halfGrowth (halfGrowth (halfGrowth (halfGrowth n)))
 
--- "B(n) is four half-growths of n, plus 2; B(0) = 0."
+-- the room, in vertices, for cutting a ring of n and closing it twice: "B(n) is four half-growths of n, plus 2; B(0) = 0."
 unfoldable pub B : ℕ → ℕ
 B zero = 0
 B (suc n) = fourHalfGrowths (suc n) + 2

@@ -19,29 +19,29 @@ Every P [] = Unit {0}
 Every P (p ∷ r) = P p × Every P r
 
 -- the latitude lies from south to north
-abbrev pub Latitude : TileBounds → Coord → Type 0
-Latitude b p = T (le (b .«lat_min») (p .y)) × T (le (p .y) (b .«lat_max»))
+abbrev pub LatitudeInBounds : TileBounds → Coord → Type 0
+LatitudeInBounds b p = T (le (b .«lat_min») (p .y)) × T (le (p .y) (b .«lat_max»))
 
--- finite, and at most 256 in magnitude
-abbrev pub modest : Float → Bool
-modest x = le (fin true 1 (pos 8)) x && le x (fin false 1 (pos 8))
+-- finite, and at most 256 in magnitude: 256 is 1 times 2^8
+abbrev pub atMost256 : Float → Bool
+atMost256 x = le (fin true 1 (pos 8)) x && le x (fin false 1 (pos 8))
 
-abbrev pub ModestBounds : TileBounds → Type 0
-ModestBounds b = T (modest (b .«lng_min»)) × T (modest (b .«lat_min»)) × T (modest (b .«lng_max»)) × T (modest (b .«lat_max»))
+abbrev pub BoundsAtMost256 : TileBounds → Type 0
+BoundsAtMost256 b = T (atMost256 (b .«lng_min»)) × T (atMost256 (b .«lat_min»)) × T (atMost256 (b .«lng_max»)) × T (atMost256 (b .«lat_max»))
 
-abbrev pub ModestCoord : Coord → Type 0
-ModestCoord p = T (modest (p .x)) × T (modest (p .y))
+abbrev pub CoordAtMost256 : Coord → Type 0
+CoordAtMost256 p = T (atMost256 (p .x)) × T (atMost256 (p .y))
 
 -- 1/2^42, times 2^1074
 abbrev pub overrun : ℕ
 overrun = 2 ^ 1032
 
 -- the longitude is finite, and at most that much below west or above east
-abbrev pub Longitude : TileBounds → Coord → Type 0
-Longitude b p = T (finite (p .x)) × LessAtMost binary64 (b .«lng_min») (p .x) overrun × LessAtMost binary64 (p .x) (b .«lng_max») overrun
+abbrev pub LongitudeNearBounds : TileBounds → Coord → Type 0
+LongitudeNearBounds b p = T (finite (p .x)) × LessAtMost binary64 (b .«lng_min») (p .x) overrun × LessAtMost binary64 (p .x) (b .«lng_max») overrun
 
 pub record Promise (b : TileBounds) (ring answer : List Coord) : Type 0 where
-  pub latitudes : T (le (b .«lat_min») (b .«lat_max»)) → Every (Latitude b) answer
+  pub latitudes : T (le (b .«lat_min») (b .«lat_max»)) → Every (LatitudeInBounds b) answer
   pub vertices : (length answer ≡ 0) ⊎ (3 ≤ length answer)
   pub growth : length answer ≤ suc (fourHalfGrowths (length ring))
-  pub longitudes : T (le (b .«lat_min») (b .«lat_max»)) → T (le (b .«lng_min») (b .«lng_max»)) → ModestBounds b → Every ModestCoord ring → Every (Longitude b) answer
+  pub longitudes : T (le (b .«lat_min») (b .«lat_max»)) → T (le (b .«lng_min») (b .«lng_max»)) → BoundsAtMost256 b → Every CoordAtMost256 ring → Every (LongitudeNearBounds b) answer

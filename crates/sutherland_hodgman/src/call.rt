@@ -1,6 +1,6 @@
 // The ring call: a lent ring, four bounds used as given, two scratch slices and an output. It is open to callers and refuses what it can't cut.
 ghost use mathlib.Core.Path.{_≡_};
-ghost use Prim.Native.Nat.{_*_, _/_, _≤_};
+ghost use Prim.Native.Nat.{_*_, _≤_};
 ghost use lib.ListN.{length};
 ghost use Rattle.sutherland_hodgman.specs.Growth.{halfGrowth, B, mostCoordinates};
 ghost use Rattle.sutherland_hodgman.specs.Call as S;
@@ -39,8 +39,8 @@ fn half_growth(n: usize) -> usize
     n + n / 2
 }
 
-// The room for a cut ring of n vertices, B(n).
-pub fn most_vertices(n: usize) -> usize
+// The room, in vertices, for cutting a ring of n: B(n).
+pub fn room_for(n: usize) -> usize
     requires { ⌜ n ≤ mostCoordinates ⌝ }
     ensures { λ r. ⌜ r ≡ B n ⌝ }
 {
@@ -61,7 +61,7 @@ pub fn check_ring(numbers: usize, a: usize, b: usize, out: usize) -> Check
     if MOST_COORDINATES < n {
         return Check::Fails(Refusal::Coordinates);
     }
-    let room = 2 * most_vertices(n);
+    let room = 2 * room_for(n);
     if a < room {
         return Check::Fails(Refusal::Scratch);
     }
@@ -74,7 +74,7 @@ pub fn check_ring(numbers: usize, a: usize, b: usize, out: usize) -> Check
     Check::Passes
 }
 
-// Cuts a ring for which there is room: copies it in, cuts it and copies the result out. The scratch slices are left as the cutter leaves them.
+// Cuts a ring that the checks pass: copies it in, cuts it and copies the result out. The scratch slices are left as the cutter leaves them.
 pub fn clip_lent(
     ring: &[f64],
     bounds: TileBounds,
@@ -82,7 +82,7 @@ pub fn clip_lent(
     b: &mut [f64],
     out: &mut [f64],
 ) -> usize
-    requires { ⌜ S.Cuttable (length (now ring)) (length (now a)) (length (now b)) (length (now out)) ⌝ }
+    requires { ⌜ S.checked (length (now ring)) (length (now a)) (length (now b)) (length (now out)) ≡ Check.Passes ⌝ }
     ensures { λ r. ⌜ S.ClippedTo (now (ring .entry)) bounds (now (out .entry)) r (now (out .exit)) ⌝ }
 {
     copy(ring, b, ring.len());
@@ -92,7 +92,7 @@ pub fn clip_lent(
 }
 
 // `clip_ring` on the ring as lent, not closed beforehand. A refusal changes nothing lent; a success fills both scratch slices with zeros, whole, and leaves the output past the answer unchanged.
-// The logic has one NaN: where the answer has one its bits are free.
+// The logic has one NaN: a NaN stands exactly where the definition has one, and its bits are free, also in a slice that is left unchanged.
 pub fn ring(
     ring: &[f64],
     bounds: TileBounds,

@@ -1,6 +1,6 @@
 // Sutherland-Hodgman cutting of a ring at the four edges of the bounds: one pass, the ring cutter, and the ring call.
 ghost use mathlib.Core.Path.{_≡_};
-ghost use Prim.Native.Nat.{_+_, _*_, _<_, _≤_};
+ghost use Prim.Native.Nat.{_+_, _*_, _≤_};
 ghost use lib.ListN.{length, take};
 ghost use lib.Seq.{sets};
 ghost use Rattle.tile.specs.Ring.{coords, flat, Written};
@@ -31,7 +31,7 @@ pub fn is_inside(coord: Coord, edge: Edge, bounds: TileBounds) -> bool
     }
 }
 
-// Where the line of an edge crosses the segment from a to b.
+// Where the line of an edge crosses the segment from a to b, one end of which is in and the other out; between other ends a number that means nothing.
 pub fn intersect(a: Coord, b: Coord, edge: Edge, bounds: TileBounds) -> Coord
     ensures { λ r. ⌜ r ≡ L.crossing edge bounds a b ⌝ }
 {
@@ -68,8 +68,8 @@ pub fn intersect(a: Coord, b: Coord, edge: Edge, bounds: TileBounds) -> Coord
 }
 
 // What one pass answers: how many vertices it wrote.
-pub struct Pass {
-    pub len: usize,
+struct Pass {
+    len: usize,
 }
 
 // One step, from s to e: writes what it gives after the first len vertices, and answers how many there are now.
@@ -119,7 +119,7 @@ fn left_off(ring: &[f64], n: usize) -> usize
 
 // Cuts the ring of n vertices at the front of a slice at one edge, and writes the result to the front of another.
 // The verdict on each vertex is carried from the step that ends in it to the one that starts there.
-pub fn clip_ring_against_edge(
+fn clip_ring_against_edge(
     ring: &[f64],
     n: usize,
     edge: Edge,
@@ -159,7 +159,8 @@ fn finish(ring: &mut [f64], n: usize) -> usize
     close(ring, n)
 }
 
-// Cuts the ring of n vertices at the front of b at all four edges; the result stands at the front of b, and the answer is its length.
+// Cuts the ring of n vertices at the front of b at all four edges; the result stands at the front of b, and the answer is its length. Demand 3 holds of it.
+// What lies past it in b, and all of a, is left open.
 pub fn clip_ring(n: usize, bounds: TileBounds, a: &mut [f64], b: &mut [f64]) -> usize
     requires { ⌜ Room n (length (now a)) (length (now b)) ⌝ }
     ensures { λ r. ⌜ Cut bounds (coords (take (2 * n) (now (b .entry)))) r (now (b .exit)) ⌝ }

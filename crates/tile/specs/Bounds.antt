@@ -13,13 +13,13 @@ empty = newOf (inf false) (inf false) (inf true) (inf true)
 abbrev pub isValid : TileBounds → Bool
 isValid b = le (b .«lng_min») (b .«lng_max») && le (b .«lat_min») (b .«lat_max»)
 
--- the smallest bounds that hold both: of two equal numbers the first's is kept
+-- each side the further out of the two, NaN passed over: of two equal numbers the first's is kept
 abbrev pub expand : TileBounds → TileBounds → TileBounds
 expand a b =
     newOf (minimum (a .«lng_min») (b .«lng_min»)) (minimum (a .«lat_min») (b .«lat_min»))
     (maximum (a .«lng_max») (b .«lng_max»)) (maximum (a .«lat_max») (b .«lat_max»))
 
--- what both hold
+-- each side the further in of the two, likewise
 abbrev pub intersect : TileBounds → TileBounds → TileBounds
 intersect a b =
     newOf (maximum (a .«lng_min») (b .«lng_min»)) (maximum (a .«lat_min») (b .«lat_min»))

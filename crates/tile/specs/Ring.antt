@@ -31,11 +31,12 @@ unfoldable pub last : Coord → List Coord → Coord
 last p [] = p
 last p (q ∷ r) = last q r
 
--- "a non-empty ring whose last coordinate doesn't compare equal to its first has the first appended"
+-- a ring that closing leaves as it is
 unfoldable pub closed : List Coord → Bool
 closed [] = true
 closed (p ∷ r) = same p (last p r)
 
+-- "a non-empty ring whose last coordinate doesn't compare equal to its first has the first appended"
 unfoldable pub close : List Coord → List Coord
 close [] = []
 close (p ∷ r) = cond (closed (p ∷ r)) (p ∷ r) ((p ∷ r) ++ (p ∷ []))

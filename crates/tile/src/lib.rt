@@ -51,7 +51,7 @@ impl TileBounds {
         }
     }
 
-    // Bounds that hold nothing: expanding them by any others gives the others.
+    // Bounds that hold nothing: expanding them by any others without a NaN gives the others.
     pub fn empty() -> Self
         ensures { λ r. ⌜ r ≡ S.empty ⌝ }
     {

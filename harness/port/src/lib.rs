@@ -2,6 +2,7 @@
 
 pub mod bounds;
 pub mod calls;
+pub mod issues;
 pub mod probe;
 pub mod promise;
 pub mod rings;

@@ -24,6 +24,24 @@ mod exported {
             out_len: usize,
         ) -> usize;
         pub fn probe_intersect(a: *const f64, a_len: usize, b: *const f64, b_len: usize, out: *mut f64, out_len: usize);
+        pub fn probe_find_issue(
+            ring: *const f64,
+            ring_len: usize,
+            assume_simple: u8,
+            work: *mut f64,
+            work_len: usize,
+            order: *mut u32,
+            order_len: usize,
+        ) -> u8;
+        pub fn probe_scan_pairs(ring: *const f64, ring_len: usize) -> u8;
+        pub fn probe_sweep_pairs(
+            ring: *const f64,
+            ring_len: usize,
+            work: *mut f64,
+            work_len: usize,
+            order: *mut u32,
+            order_len: usize,
+        ) -> u8;
     }
 }
 
@@ -88,6 +106,43 @@ pub fn clip_lent(ring: &[f64], bounds: &Bounds, scratch_a: &mut [f64], scratch_b
             scratch_b.len(),
             out.as_mut_ptr(),
             out.len(),
+        )
+    }
+}
+
+/// The issue of an exterior: 0 sound, 1 short, 2 repeated, 3 crossing; 255 where the work slices are too short.
+pub fn find_issue(ring: &[f64], assume_simple: bool, work: &mut [f64], order: &mut [u32]) -> u8 {
+    // SAFETY: as in `empty`.
+    unsafe {
+        exported::probe_find_issue(
+            ring.as_ptr(),
+            ring.len(),
+            u8::from(assume_simple),
+            work.as_mut_ptr(),
+            work.len(),
+            order.as_mut_ptr(),
+            order.len(),
+        )
+    }
+}
+
+/// Whether two edges cross, by all pairs: 0 or 1; 255 for no coordinate.
+pub fn scan_pairs(ring: &[f64]) -> u8 {
+    // SAFETY: as in `empty`.
+    unsafe { exported::probe_scan_pairs(ring.as_ptr(), ring.len()) }
+}
+
+/// Whether two edges cross, by the sweep: 0 or 1; 255 for no coordinate or where the work slices are too short.
+pub fn sweep_pairs(ring: &[f64], work: &mut [f64], order: &mut [u32]) -> u8 {
+    // SAFETY: as in `empty`.
+    unsafe {
+        exported::probe_sweep_pairs(
+            ring.as_ptr(),
+            ring.len(),
+            work.as_mut_ptr(),
+            work.len(),
+            order.as_mut_ptr(),
+            order.len(),
         )
     }
 }

@@ -2,7 +2,6 @@
 use mathlib.Core.Path.{_≡_, sym, _∙_}
 use Prim.Native.Nat.{ℕ}
 use native.Mathlib.Omega.{arith}
-use Rattle.sutherland_hodgman.proofs.Calls.{passes-cuttable}
 use borrow.Author.Needs.{needs}
 use Rattle.probe.proofs.probe_clip_lent.Statement.{statement}
 use Rattle.probe.proofs.probe_clip_lent.Tie as tie
@@ -20,7 +19,7 @@ bounds-at-requires : tie.Need-bounds-at-requires
 bounds-at-requires c κs = search needs
 
 clip-lent-requires : tie.Need-clip-lent-requires
-clip-lent-requires c κs = passes-cuttable _ _ _ _ (sym (c .before .before .before .before .before .before .check-ring .ensures) ∙ c .before .before .before .before .enum-told2 .given .1)
+clip-lent-requires c κs = sym (c .before .before .before .before .before .before .check-ring .ensures) ∙ c .before .before .before .before .enum-told2 .given .1
 
 returns : tie.Need-returns
 returns c = λ p. absurd (let e = c .enum-told .given .1 in let q = c .before .before .check-ring .ensures in let z : _≡_ {A = ℕ} 0 1 = cc in omega arith)

@@ -7,6 +7,7 @@ use denote.Ref.{now}
 use lib.ListN.{length, take}
 use Rattle.tile.specs.declared.Edge.the-variants.{Left, Right, Bottom, Top}
 use Rattle.tile.specs.Ring.{coords}
+use Rattle.tile.proofs.Rings.{coords-flat}
 use Rattle.sutherland_hodgman.specs.Clip.{passes, clipRing}
 use Rattle.sutherland_hodgman.proofs.Promises.{HeldBounds, held-front, promise}
 use Rattle.sutherland_hodgman.proofs.Stages.{stage-start, stage-next, stage-room, stage-close, stage-finish}
@@ -75,7 +76,7 @@ returns c =
     let s4 = stage-next Top (a .args .bounds) _ _ _ s3 (c .before .before .before .before .before .before .clip-ring-against-edge4 .ensures) in
     let f = stage-finish _ _ s4 (c .before .before .finish .ensures) in
     let h : HeldBounds (a .args .bounds) = (search needs, search needs, search needs, search needs) in
-    record { count = f .0; numbers = f .1; promise = promise (a .args .bounds) (coords (take (2 * a .args .n) (now (a .args .b)))) h (held-front (now (a .args .b)) (a .args .n) (c .before .before .before .before .before .before .before .before .before .before .before .before .before .before .before .before .before .before .before .before .before .before .before .before .slice-known2 .given)) }
+    record { count = f .0; numbers = f .1; promise = rw (f .1, coords-flat) (promise (a .args .bounds) (coords (take (2 * a .args .n) (now (a .args .b)))) h (held-front (now (a .args .b)) (a .args .n) (c .before .before .before .before .before .before .before .before .before .before .before .before .before .before .before .before .before .before .before .before .before .before .before .before .slice-known2 .given))) }
 
 pub clip-ring-spec : {M : Type 1} → statement M
 clip-ring-spec =

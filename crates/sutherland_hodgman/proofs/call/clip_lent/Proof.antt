@@ -7,31 +7,32 @@ use lib.ListN.{length}
 use Rattle.tile.specs.Ring.{coords}
 use Rattle.sutherland_hodgman.specs.Cutter.{Cut}
 use Rattle.sutherland_hodgman.proofs.Growth.{B-le}
-use Rattle.sutherland_hodgman.proofs.Calls.{cuttable-ring, copied-in, cut-room, cut-clipped}
+use Rattle.sutherland_hodgman.proofs.Calls.{passes-cuttable, cuttable-ring, copied-in, cut-room, cut-clipped}
 use borrow.Author.Needs.{needs}
 use Rattle.sutherland_hodgman.proofs.call.clip_lent.Statement.{statement}
 use Rattle.sutherland_hodgman.proofs.call.clip_lent.Tie as tie
 
 copy-requires : tie.Need-copy-requires
-copy-requires c κs = let a = c .before .before .before .before .before in (le-refl _, cuttable-ring (a .pre))
+copy-requires c κs = let a = c .before .before .before .before .before in (le-refl _, cuttable-ring (passes-cuttable _ _ _ _ (a .pre)))
 
 clip-ring-requires : tie.Need-clip-ring-requires
-clip-ring-requires c κs = search needs
+clip-ring-requires c κs = let p = passes-cuttable _ _ _ _ (c .before .before .before .before .before .before .before .before .before .before .pre) in record { first = omega arith; second = omega arith }
 
 mul-copy : tie.Need-mul-copy
 mul-copy c =
     let a = c .before .before .before .before .before .before .before .before .before .before .before .before .before .before .before .before .before in
     let s = now (a .args .ring) in
-    let k : Cut (a .args .bounds) (coords s) (c .before .before .before .before .before .before .clip-ring .result) _ = rw (copied-in s (a .args .bounds) (a .pre .even) _ _ (c .before .before .before .before .before .before .before .before .before .before .before .copy .ensures)) at (c .before .before .before .before .before .before .clip-ring .ensures) in
-    omega (arith, cut-room s (a .args .bounds) (a .pre .even) _ _ k, B-le (length s / 2) (a .pre .few))
+    let p = passes-cuttable _ _ _ _ (a .pre) in
+    let k : Cut (a .args .bounds) (coords s) (c .before .before .before .before .before .before .clip-ring .result) _ = rw (copied-in s (a .args .bounds) (p .even) _ _ (c .before .before .before .before .before .before .before .before .before .before .before .copy .ensures)) at (c .before .before .before .before .before .before .clip-ring .ensures) in
+    omega (arith, cut-room s (a .args .bounds) (p .even) _ _ k, B-le (length s / 2) (p .few))
 
 copy-requires-2 : tie.Need-copy-requires-2
 copy-requires-2 c κs =
     let a = c .before .before .before .before .before .before .before .before .before .before .before .before .before .before .before .before .before in
     let s = now (a .args .ring) in
-    let k : Cut (a .args .bounds) (coords s) (c .before .before .before .before .before .before .clip-ring .result) _ = rw (copied-in s (a .args .bounds) (a .pre .even) _ _ (c .before .before .before .before .before .before .before .before .before .before .before .copy .ensures)) at (c .before .before .before .before .before .before .clip-ring .ensures) in
-    let g = cut-room s (a .args .bounds) (a .pre .even) _ _ k in
-    let p = a .pre in
+    let p = passes-cuttable _ _ _ _ (a .pre) in
+    let k : Cut (a .args .bounds) (coords s) (c .before .before .before .before .before .before .clip-ring .result) _ = rw (copied-in s (a .args .bounds) (p .even) _ _ (c .before .before .before .before .before .before .before .before .before .before .before .copy .ensures)) at (c .before .before .before .before .before .before .clip-ring .ensures) in
+    let g = cut-room s (a .args .bounds) (p .even) _ _ k in
     (omega arith, omega arith)
 
 same-length : tie.Need-same-length
@@ -47,8 +48,9 @@ returns : tie.Need-returns
 returns c =
     let a = c .before .before .before .before .before .before .before .before .before .before .before .before .before .before .before .before .before .before .before .before in
     let s = now (a .args .ring) in
-    let k : Cut (a .args .bounds) (coords s) (c .before .before .before .before .before .before .before .before .before .clip-ring .result) _ = rw (copied-in s (a .args .bounds) (a .pre .even) _ _ (c .before .before .before .before .before .before .before .before .before .before .before .before .before .before .copy .ensures)) at (c .before .before .before .before .before .before .before .before .before .clip-ring .ensures) in
-    cut-clipped s (a .args .bounds) (a .pre .even) (now (a .args .out)) _ _ _ k (c .before .before .copy2 .ensures)
+    let p = passes-cuttable _ _ _ _ (a .pre) in
+    let k : Cut (a .args .bounds) (coords s) (c .before .before .before .before .before .before .before .before .before .clip-ring .result) _ = rw (copied-in s (a .args .bounds) (p .even) _ _ (c .before .before .before .before .before .before .before .before .before .before .before .before .before .before .copy .ensures)) at (c .before .before .before .before .before .before .before .before .before .clip-ring .ensures) in
+    cut-clipped s (a .args .bounds) (p .even) (now (a .args .out)) _ _ _ k (c .before .before .copy2 .ensures)
 
 pub clip-lent-spec : {M : Type 1} → statement M
 clip-lent-spec =

@@ -3,7 +3,7 @@ use mathlib.Core.Path.{sym, _∙_, ap}
 use denote.Ref.{now}
 use Rattle.sutherland_hodgman.specs.declared.call.RingAnswer.the-variants.{Clipped}
 use Rattle.sutherland_hodgman.specs.Call.{ringAnswer}
-use Rattle.sutherland_hodgman.proofs.Calls.{passes-cuttable, clipped-done, cleared, refused-done}
+use Rattle.sutherland_hodgman.proofs.Calls.{clipped-done, cleared, refused-done}
 use borrow.Author.Needs.{needs}
 use Rattle.sutherland_hodgman.proofs.call.ring.Statement.{statement}
 use Rattle.sutherland_hodgman.proofs.call.ring.Tie as tie
@@ -18,7 +18,7 @@ enum-told : tie.Need-enum-told
 enum-told c = search needs
 
 clip-lent-requires : tie.Need-clip-lent-requires
-clip-lent-requires c κs = passes-cuttable _ _ _ _ (sym (c .before .before .before .before .before .check-ring .ensures) ∙ c .before .before .before .enum-told .given .1)
+clip-lent-requires c κs = sym (c .before .before .before .before .before .check-ring .ensures) ∙ c .before .before .before .enum-told .given .1
 
 clear-requires : tie.Need-clear-requires
 clear-requires c κs = search needs
@@ -44,7 +44,7 @@ unfolding ringAnswer
 returns-2 c =
     let a = c .before .before .before .before .before .before .before .before .before .before .before .before .before .before .before .before .before .before .before .before .before .before .before .before .before .args in
     let cut = c .before .before .before .before .before .before .before .before .before .before .before .before .before .before .clip-lent in (
-      rw (← c .before .before .before .before .before .before .before .before .before .before .before .before .before .before .before .before .before .before .before .before .check-ring .ensures, c .before .before .before .before .before .before .before .before .before .before .before .before .before .before .before .before .before .before .enum-told .given .1) (ap Clipped (cut .ensures .count)),
+      rw (← c .before .before .before .before .before .before .before .before .before .before .before .before .before .before .before .before .before .before .before .before .check-ring .ensures, c .before .before .before .before .before .before .before .before .before .before .before .before .before .before .before .before .before .before .enum-told .given .1) (ap Clipped (cut .ensures .written .count)),
       clipped-done (now (a .ring)) (a .bounds) (now (a .a)) (now (a .b)) (now (a .out)) _ _ _ _ (cut .ensures)
           (cleared _ _ _ (c .before .before .before .before .before .before .clear .ensures) (cut .kept .1 .1 .0)) (cleared _ _ _ (c .before .before .clear2 .ensures) (cut .kept .1 .1 .1 .0)),
     )

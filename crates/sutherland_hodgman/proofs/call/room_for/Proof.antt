@@ -1,12 +1,12 @@
--- `most_vertices` meets its contract: each half-growth at most doubles. Assumes nothing.
+-- `room_for` meets its contract: each half-growth at most doubles. Assumes nothing.
 use mathlib.Core.Path.{_∙_, ap}
 use native.Mathlib.Omega.{arith}
 use Prim.Native.Nat.{ℕ, _+_}
 use Rattle.sutherland_hodgman.specs.Growth.{halfGrowth, fourHalfGrowths, B}
 use Rattle.sutherland_hodgman.proofs.Growth.{halfGrowth-le, B-positive}
 use borrow.Author.Needs.{needs}
-use Rattle.sutherland_hodgman.proofs.call.most_vertices.Statement.{statement}
-use Rattle.sutherland_hodgman.proofs.call.most_vertices.Tie as tie
+use Rattle.sutherland_hodgman.proofs.call.room_for.Statement.{statement}
+use Rattle.sutherland_hodgman.proofs.call.room_for.Tie as tie
 
 returns : tie.Need-returns
 unfolding B
@@ -33,8 +33,8 @@ returns-2 c =
     rw (B-positive (c .before .before .before .before .before .args .n) (c .before .before .before .before .if1 .left))
     (ap (λ (k : ℕ). k + 2) (c .half-growth4 .ensures ∙ ap halfGrowth (c .before .half-growth3 .ensures ∙ ap halfGrowth (c .before .before .half-growth2 .ensures ∙ ap halfGrowth (c .before .before .before .half-growth .ensures)))))
 
-pub most-vertices-spec : {M : Type 1} → statement M
-most-vertices-spec =
+pub room-for-spec : {M : Type 1} → statement M
+room-for-spec =
     tie.close
     (tie.spec
     returns

@@ -1,0 +1,39 @@
+//! The issue finder, scan and sweep of the port against the Rust, the share that every test run takes.
+
+use port::{issues, probe};
+
+#[test]
+fn issues_agree() {
+    let campaign = issues::compare(1, 8_000);
+    println!("{campaign}");
+    assert_eq!(campaign.difference(), None);
+}
+
+/// A regular polygon of so many edges, closed; simple, so that every pair is looked at.
+fn regular(edges: usize) -> Vec<(f64, f64)> {
+    let vertex = |k: usize| {
+        let angle = std::f64::consts::TAU * (k % edges) as f64 / edges as f64;
+        (angle.cos(), angle.sin())
+    };
+    (0..=edges).map(vertex).collect()
+}
+
+#[test]
+fn every_length_about_the_scan_limit_agrees() {
+    for edges in 3..70 {
+        let mut ring = regular(edges);
+        assert_eq!(issues::check(&ring), Ok("sound"), "{edges} edges");
+        if edges >= 5 {
+            ring.swap(1, 2);
+            assert_eq!(issues::check(&ring), Ok("crossing"), "{edges} edges, two vertices swapped");
+        }
+    }
+}
+
+#[test]
+fn work_slices_one_short_are_not_used() {
+    let numbers: Vec<f64> = regular(40).iter().flat_map(|&(x, y)| [x, y]).collect();
+    assert_eq!(probe::find_issue(&numbers, false, &mut [0.0; 81], &mut [0; 41]), 255);
+    assert_eq!(probe::find_issue(&numbers, false, &mut [0.0; 82], &mut [0; 40]), 255);
+    assert_eq!(probe::find_issue(&numbers, false, &mut [0.0; 82], &mut [0; 41]), 0);
+}
