@@ -31,9 +31,10 @@ fn main() {
     fs::write(out.join("modules.rs"), declarations).unwrap();
 }
 
-/// `crates/core/src` of the checkout that TYLERTOO_SRC names, or of the documents beside the repository.
+/// `crates/core/src` of the checkout that TYLERTOO_SRC names, or of the documents beside the repository where it is empty
+/// or not set.
 fn core_source(manifest: &Path) -> PathBuf {
-    let root = match env::var_os("TYLERTOO_SRC") {
+    let root = match env::var_os("TYLERTOO_SRC").filter(|checkout| !checkout.is_empty()) {
         Some(checkout) => PathBuf::from(checkout),
         None => manifest.join("../../../shared/docs/src"),
     };

@@ -69,7 +69,8 @@ edges-mirror r i j = cross-mirror (at r i) (at r (i + 1)) (at r j) (at r (j + 1)
 
 pub edge-sweeps : (s : List Float) (n : ℕ) → 2 * (n + 1) ≤ length s → ((i : ℕ) → T (fits binary64 (getD s i nan)))
     → Sweeps (λ i. key (lowX (front s (n + 1)) i)) n (stops (front s (n + 1))) (edgesCross (front s (n + 1)))
-edge-sweeps s n room f = record { mirror = edges-mirror (front s (n + 1)); past = λ i j l li lj ll k e. past-end (front s (n + 1)) i j l (low-fits s n room f j lj) (low-fits s n room f l ll) k e }
+edge-sweeps s n room f =
+    record { mirror = edges-mirror (front s (n + 1)); past = λ i j l li lj ll k e. past-end (front s (n + 1)) i j l (low-fits s n room f j lj) (low-fits s n room f l ll) k e }
 
 -- ---- the loop that notes the lowest x
 

@@ -23,6 +23,12 @@ pub fn half_outside(n: usize) -> Vec<Coord<f64>> {
     around(n, (10.0, 5.0), |_| 4.0)
 }
 
+/// A radius that is up to 5 % longer or shorter, by a fixed rule that looks like chance.
+pub fn rough(n: usize) -> Vec<Coord<f64>> {
+    let wavering = |k: usize| (k as u64).wrapping_mul(0x9e37_79b9_7f4a_7c15) >> 11;
+    around(n, (5.0, 5.0), |k| 4.0 * (0.95 + 0.1 * wavering(k) as f64 / (1u64 << 53) as f64))
+}
+
 /// In and out at every vertex, over all four lines.
 pub fn zigzag(n: usize) -> Vec<Coord<f64>> {
     around(n, (5.0, 5.0), |k| if k % 2 == 0 { 3.0 } else { 9.0 })

@@ -1,9 +1,9 @@
-//! Ring calls and slice calls: answers and lent slices afterwards, the oracle's against the second reading's.
+//! Ring calls and slice calls: answers and lent slices afterwards. The oracle's answers with what `formats` says they leave
+//! stand on one side, the second reading's answers with what it leaves itself on the other.
 
-use formats::calls::{RingCall, SliceAnswer, SliceCall};
-use formats::{Refusal, Ring};
+use formats::calls::{RingAfter, RingCall, SliceAfter, SliceAnswer, SliceCall};
 use generator::{Kind, Style};
-use reading::{Flags, Reading, RingRoom, Routed, SliceRoom, Slices, Vertex};
+use reading::{Flags, Lent, Reading, Slices};
 
 use crate::campaign::{self, Campaign};
 use crate::frames::refusal_label;
@@ -16,9 +16,10 @@ pub fn styles() -> Vec<(&'static str, Style)> {
 pub fn compare_ring_calls(seed: u64, count: u64) -> Campaign {
     campaign::run("ring calls", seed, count, &styles(), |style, index| {
         let call = generator::ring_call(style, seed, index);
-        let (oracle, reading) = (oracle::ring_call(&call), ring_call(&Reading::RIGHT, &call));
-        if !call.after(&oracle).same(&call.after(&reading)) {
-            return Err(format!("{:?} in {:?}, oracle {oracle:?}, reading {reading:?}", call.ring, call.bounds));
+        let oracle = oracle::ring_call(&call);
+        let reading = ring_call(&Reading::RIGHT, &call);
+        if let Some(difference) = call.after(&oracle).difference(&reading) {
+            return Err(format!("{call}: oracle and reading differ in {difference}"));
         }
         Ok(match &oracle {
             Err(refusal) => refusal_label(*refusal),
@@ -32,12 +33,10 @@ pub fn compare_ring_calls(seed: u64, count: u64) -> Campaign {
 pub fn compare_slice_calls(seed: u64, count: u64) -> Campaign {
     campaign::run("slice calls", seed, count, &styles(), |style, index| {
         let call = generator::slice_call(style, seed, index);
-        let (oracle, reading) = (oracle::slice_call(&call), slice_call(&Reading::RIGHT, &call));
-        if !call.after(&oracle).same(&call.after(&reading)) {
-            return Err(format!(
-                "{:?} of lengths {:?} in {:?}, buffer {:?}, oracle {oracle:?}, reading {reading:?}",
-                call.coords, call.lengths, call.bounds, call.buffer,
-            ));
+        let oracle = oracle::slice_call(&call);
+        let reading = slice_call(&Reading::RIGHT, &call);
+        if let Some(difference) = call.after(&oracle).difference(&reading) {
+            return Err(format!("{call}: oracle and reading differ in {difference}"));
         }
         Ok(oracle.as_ref().map_or_else(|refusal| refusal_label(*refusal), label))
     })
@@ -53,15 +52,17 @@ fn label(answer: &SliceAnswer) -> &'static str {
     }
 }
 
-/// The second reading's answer to a ring call.
-pub fn ring_call(reading: &Reading, call: &RingCall) -> Result<Vec<f64>, Refusal> {
-    let room = RingRoom { scratch: [call.scratch_a.len(), call.scratch_b.len()], out: call.out.len() };
-    let ring = reading.ring_call(&call.ring, call.bounds, &room)?;
-    Ok(formats::flat(&plain_ring(&ring)))
+/// The second reading's answer to a ring call, and the lent slices as it leaves them.
+pub fn ring_call(reading: &Reading, call: &RingCall) -> RingAfter {
+    let mut lent =
+        Lent { scratch: [call.scratch_a.clone(), call.scratch_b.clone()], out: call.out.clone(), ..Lent::default() };
+    let answer = reading.ring_call(&call.ring, call.bounds, &mut lent);
+    let [scratch_a, scratch_b] = lent.scratch;
+    RingAfter { answer, scratch_a, scratch_b, out: lent.out }
 }
 
-/// The second reading's answer to a slice call.
-pub fn slice_call(reading: &Reading, call: &SliceCall) -> Result<SliceAnswer, Refusal> {
+/// The second reading's answer to a slice call, and the lent slices as it leaves them.
+pub fn slice_call(reading: &Reading, call: &SliceCall) -> SliceAfter {
     let slices = Slices {
         flags: Flags { assume_simple: call.assume_simple, skip_boundary_fallback: call.skip_boundary_fallback },
         bounds: call.bounds,
@@ -69,21 +70,13 @@ pub fn slice_call(reading: &Reading, call: &SliceCall) -> Result<SliceAnswer, Re
         coords: &call.coords,
         lengths: &call.lengths,
     };
-    let room = SliceRoom {
-        scratch: [call.scratch_a.len(), call.scratch_b.len()],
-        order: call.order.len(),
-        out: call.out.len(),
-        out_lengths: call.out_lengths.len(),
+    let mut lent = Lent {
+        scratch: [call.scratch_a.clone(), call.scratch_b.clone()],
+        order: call.order.clone(),
+        out: call.out.clone(),
+        out_lengths: call.out_lengths.clone(),
     };
-    Ok(match reading.slice_call(&slices, &room)? {
-        Routed::Nothing => SliceAnswer::Nothing,
-        Routed::Dropped => SliceAnswer::Dropped,
-        Routed::Unchanged => SliceAnswer::Unchanged,
-        Routed::Cut(rings) => SliceAnswer::Cut(rings.iter().map(|ring| plain_ring(ring)).collect()),
-        Routed::Overlay(reason) => SliceAnswer::Overlay(reason),
-    })
-}
-
-fn plain_ring(ring: &[Vertex]) -> Ring {
-    ring.iter().map(|v| (v.x, v.y)).collect()
+    let answer = reading.slice_call(&slices, &mut lent);
+    let Lent { scratch: [scratch_a, scratch_b], order, out, out_lengths } = lent;
+    SliceAfter { answer, scratch_a, scratch_b, order, out, out_lengths }
 }

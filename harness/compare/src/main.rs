@@ -19,9 +19,9 @@ fn main() {
         "rings" => report(&calls::compare_ring_calls(seed, count)),
         "slices" => report(&calls::compare_slice_calls(seed, count)),
         "mistakes" => {
-            let hunt = mistakes::hunt(seed, count, u64::MAX);
-            println!("{hunt}");
-            exit(i32::from(!hunt.unseen().is_empty() || hunt.difference().is_some()));
+            let search = mistakes::search(seed, count, u64::MAX);
+            println!("{search}");
+            exit(i32::from(!search.not_found().is_empty() || search.difference().is_some()));
         }
         "ringcut" => ringcut().expect("standard input and output can be used"),
         _ => {

@@ -6,7 +6,7 @@ use std::sync::atomic::{AtomicU64, Ordering};
 use generator::{Kind, Style};
 use reading::{Mistake, Place, Reading};
 
-use crate::calls::{ring_call, styles};
+use crate::calls::{ring_call, slice_call, styles};
 use crate::campaign::{self, Campaign};
 use crate::frames;
 
@@ -15,6 +15,7 @@ enum Source {
     Frames(Kind),
     Lines,
     RingCalls(Style),
+    SliceCalls(Style),
 }
 
 impl Source {
@@ -23,41 +24,57 @@ impl Source {
             Source::Frames(_) => Place::Frames,
             Source::Lines => Place::Lines,
             Source::RingCalls(_) => Place::RingCalls,
+            Source::SliceCalls(_) => Place::SliceCalls,
         }
     }
 }
 
-/// How often each mistake gave another answer than the Rust.
-pub struct Hunt {
+/// How often each mistake, in each place that it shows in, gave another answer than the Rust.
+pub struct Search {
     campaign: Campaign,
-    sightings: Vec<(Mistake, u64)>,
+    found: Vec<(Place, Mistake, u64)>,
 }
 
-/// Looks at `count` specimens of every kind for the mistakes that show in them; one seen `enough` times is let be.
-pub fn hunt(seed: u64, count: u64, enough: u64) -> Hunt {
-    let sightings: Vec<AtomicU64> = Mistake::ALL.iter().map(|_| AtomicU64::new(0)).collect();
+/// Looks at `count` specimens of every kind for the mistakes that show in them; one found `enough` times is let be.
+pub fn search(seed: u64, count: u64, enough: u64) -> Search {
+    let found: Vec<(Place, Mistake, AtomicU64)> = Place::ALL
+        .into_iter()
+        .flat_map(|place| mistakes_in(place).map(move |mistake| (place, mistake, AtomicU64::new(0))))
+        .collect();
     let campaign = campaign::run("mistakes", seed, count, &sources(), |source, index| {
-        let shows = differs_from_oracle(source, seed, index);
-        for (&mistake, seen) in Mistake::ALL.iter().zip(&sightings) {
-            let looked_for = mistake.place() == source.place() && seen.load(Ordering::Relaxed) < enough;
-            if looked_for && shows(&Reading::with(mistake)) {
-                seen.fetch_add(1, Ordering::Relaxed);
-            }
+        let mut looked_for = found
+            .iter()
+            .filter(|(place, _, times)| *place == source.place() && times.load(Ordering::Relaxed) < enough)
+            .peekable();
+        if looked_for.peek().is_none() {
+            return Ok("passed over");
+        }
+        let differs = differs_from_oracle(source, seed, index);
+        if differs(&Reading::RIGHT) {
+            return Err(format!("in {:?}, the reading without a mistake differs from the Rust", source.place()));
+        }
+        for (_, mistake, times) in looked_for {
+            times.fetch_add(u64::from(differs(&Reading::with(*mistake))), Ordering::Relaxed);
         }
         Ok("looked at")
     });
-    let sightings = Mistake::ALL.iter().copied().zip(sightings.into_iter().map(AtomicU64::into_inner)).collect();
-    Hunt { campaign, sightings }
+    let found = found.into_iter().map(|(place, mistake, times)| (place, mistake, times.into_inner())).collect();
+    Search { campaign, found }
+}
+
+fn mistakes_in(place: Place) -> impl Iterator<Item = Mistake> {
+    Mistake::ALL.iter().copied().filter(move |mistake| mistake.places().contains(&place))
 }
 
 fn sources() -> Vec<(&'static str, Source)> {
     let mut sources: Vec<_> = frames::kinds().into_iter().map(|(name, kind)| (name, Source::Frames(kind))).collect();
     sources.push(("lines", Source::Lines));
     sources.extend(styles().into_iter().map(|(name, style)| (name, Source::RingCalls(style))));
+    sources.extend(styles().into_iter().map(|(name, style)| (name, Source::SliceCalls(style))));
     sources
 }
 
-/// Whether a reading answers the specimen otherwise than the Rust.
+/// Whether a reading answers the specimen otherwise than the Rust, or leaves lent slices otherwise.
 fn differs_from_oracle(source: Source, seed: u64, index: u64) -> Box<dyn Fn(&Reading) -> bool> {
     match source {
         Source::Frames(kind) => {
@@ -73,30 +90,41 @@ fn differs_from_oracle(source: Source, seed: u64, index: u64) -> Box<dyn Fn(&Rea
         Source::RingCalls(style) => {
             let call = generator::ring_call(style, seed, index);
             let oracle = call.after(&oracle::ring_call(&call));
-            Box::new(move |reading| !call.after(&ring_call(reading, &call)).same(&oracle))
+            Box::new(move |reading| !ring_call(reading, &call).same(&oracle))
+        }
+        Source::SliceCalls(style) => {
+            let call = generator::slice_call(style, seed, index);
+            let oracle = call.after(&oracle::slice_call(&call));
+            Box::new(move |reading| !slice_call(reading, &call).same(&oracle))
         }
     }
 }
 
-impl Hunt {
-    /// The mistakes that nothing showed.
-    pub fn unseen(&self) -> Vec<Mistake> {
-        self.sightings.iter().filter(|(_, seen)| *seen == 0).map(|(mistake, _)| *mistake).collect()
+impl Search {
+    /// The mistakes that nothing showed, each with the place where nothing did.
+    pub fn not_found(&self) -> Vec<(Place, Mistake)> {
+        self.found.iter().filter(|(_, _, times)| *times == 0).map(|(place, mistake, _)| (*place, *mistake)).collect()
     }
 
-    /// What stopped the hunt early, if anything did.
+    /// What stopped the search early, if anything did.
     pub fn difference(&self) -> Option<&str> {
         self.campaign.difference()
     }
 }
 
-impl fmt::Display for Hunt {
+/// One line: how many were found, then those of each place with how often; and one more line for a difference.
+impl fmt::Display for Search {
     fn fmt(&self, f: &mut fmt::Formatter) -> fmt::Result {
-        let found = self.sightings.len() - self.unseen().len();
-        write!(f, "mistakes: {found} of {} found in {} specimens", self.sightings.len(), self.campaign.agreed())?;
-        for (mistake, seen) in &self.sightings {
-            write!(f, "; {mistake:?} {seen}")?;
+        let all = self.found.len();
+        write!(f, "mistakes: {} of {all} found", all - self.not_found().len())?;
+        for place in Place::ALL {
+            let here = self.found.iter().filter(|(of, _, _)| *of == place);
+            let counts: Vec<String> = here.map(|(_, mistake, times)| format!("{mistake:?} {times}")).collect();
+            write!(f, "; {place:?}: {}", counts.join(", "))?;
         }
-        self.difference().map_or(Ok(()), |difference| write!(f, "\n{difference}"))
+        match self.difference() {
+            Some(difference) => write!(f, "\ndifference in mistakes: {difference}"),
+            None => Ok(()),
+        }
     }
 }

@@ -13,7 +13,7 @@ fn assert_agreement(campaign: &Campaign, at_least: u64) {
 
 #[test]
 fn frames_agree() {
-    assert_agreement(&frames::compare(SEED, 20_000), 200_000);
+    assert_agreement(&frames::compare(SEED, 20_000), 220_000);
 }
 
 #[test]
@@ -23,10 +23,10 @@ fn lines_agree() {
 
 #[test]
 fn ring_calls_agree() {
-    assert_agreement(&calls::compare_ring_calls(SEED, 5_000), 35_000);
+    assert_agreement(&calls::compare_ring_calls(SEED, 5_000), 40_000);
 }
 
 #[test]
 fn slice_calls_agree() {
-    assert_agreement(&calls::compare_slice_calls(SEED, 5_000), 35_000);
+    assert_agreement(&calls::compare_slice_calls(SEED, 5_000), 40_000);
 }

@@ -1,9 +1,10 @@
 //! Issues of a ring, and the scan and the sweep for crossing edges: the Rust takes one or the other by the ring's length,
 //! the second reading looks at every pair.
 
+use formats::frame::{Frame, POLYGON};
 use formats::{pairs, Coord};
 use generator::Style;
-use reading::{Reading, Vertex};
+use reading::{Mistake, Reading, Vertex};
 
 /// Above this many edges the Rust sweeps.
 const SCANNED: usize = 32;
@@ -16,7 +17,7 @@ fn verdicts_agree_nan_included() {
             let ring = long_ring(style, index);
             let vertices = vertices(&ring);
             let crosses = oracle::has_self_intersecting_edges(&ring);
-            assert_eq!(crosses, Reading::RIGHT.crosses_itself(&vertices), "{ring:?}");
+            assert_eq!(crosses, Reading::RIGHT.crosses_itself(&vertices), "{style:?}, index {index}");
             verdicts[usize::from(crosses) + 2 * usize::from(ring.len() - 1 > SCANNED)] += 1;
         }
     }
@@ -32,7 +33,8 @@ fn issues_agree() {
             Reading::RIGHT.close(&mut closed);
             for assume_simple in [false, true] {
                 let issue = oracle::has_structural_issues(&ring, assume_simple);
-                assert_eq!(issue, Reading::RIGHT.has_issue(&closed, assume_simple), "{assume_simple}, {ring:?}");
+                let read = Reading::RIGHT.has_issue(&closed, assume_simple);
+                assert_eq!(issue, read, "{style:?}, index {index}, assume_simple {assume_simple}");
             }
         }
     }
@@ -46,8 +48,59 @@ fn sweep_visits_the_pairs_whose_boxes_are_not_apart() {
         let mut not_apart = pairs_not_apart(&ring);
         visited.sort_unstable();
         not_apart.sort_unstable();
-        assert_eq!(visited, not_apart, "{ring:?}");
+        assert_eq!(visited, not_apart, "index {index}");
     }
+}
+
+/// On one line but for rounding, the first and the fourth edge: crossing by the rounded test, their boxes apart.
+#[test]
+fn edges_whose_boxes_are_apart_do_not_cross() {
+    let ring = [(92.5, 254.4), (32.5, 89.4), (0., 90.), (6.1, 16.8), (30.1, 82.8), (90., 100.), (92.5, 254.4)];
+    assert_answers(&ring, Mistake::CrossesWithoutBoxes, UNCHANGED, OVERLAY);
+}
+
+/// Likewise, but the boxes touch in x. The edges miss each other by some last bits there: geo's own test, which document 01
+/// leaves out, would turn the pair down.
+#[test]
+fn edges_whose_boxes_touch_may_cross() {
+    let middle = 2.2999999999999985;
+    let ring = [(10.5, 16.7), (2.1, middle), (5., -5.), (-2.1, -4.9), (2.1, 2.3), (0., 15.), (10.5, 16.7)];
+    assert_answers(&ring, Mistake::TouchingBoxesApart, OVERLAY, UNCHANGED);
+}
+
+const UNCHANGED: &[u8] = &[2, 0, 0, 0, 0];
+
+/// Part 0, reason 1.
+const OVERLAY: &[u8] = &[3, 0, 0, 1, 0, 0, 0, 5, 1];
+
+/// What the Rust and the reading answer to the ring alone, inside the bounds, and what the mistaken reading does.
+fn assert_answers(ring: &[Coord], mistake: Mistake, right: &[u8], mistaken: &[u8]) {
+    let bounds = [-10.0, -10.0, 300.0, 300.0];
+    let frame = Frame { kind: POLYGON, flags: 0, bounds, buffer: 0.0, parts: vec![vec![ring.to_vec()]] };
+    let (bytes, room) = (frame.encode(), frame.room());
+    assert_eq!(oracle::answer(&bytes, room).as_deref(), Ok(right), "the Rust");
+    assert_eq!(Reading::RIGHT.answer(&bytes, room).as_deref(), Ok(right), "the reading");
+    assert_eq!(Reading::with(mistake).answer(&bytes, room).as_deref(), Ok(mistaken), "{mistake:?}");
+}
+
+#[test]
+fn boxes_decide_in_scan_and_sweep() {
+    let mistakes = [Mistake::CrossesWithoutBoxes, Mistake::TouchingBoxesApart];
+    let mut decided = [[0; 2]; 2];
+    for index in 0..2_000 {
+        let mut ring = pairs(&generator::ring_call(Style::Collinear, 7, index).ring);
+        ring.truncate(400);
+        ring.push(ring[0]);
+        let crosses = oracle::has_self_intersecting_edges(&ring);
+        let swept = usize::from(ring.len() - 1 > SCANNED);
+        for (mistake, times) in mistakes.iter().zip(&mut decided[swept]) {
+            *times += u32::from(Reading::with(*mistake).crosses_itself(&vertices(&ring)) != crosses);
+        }
+    }
+    assert!(
+        decided.iter().flatten().all(|&times| times > 100),
+        "scan and sweep, boxes apart and touching: {decided:?}"
+    );
 }
 
 /// Rings of one style strung together: some are scanned, some are swept.

@@ -2,8 +2,8 @@
 
 #[test]
 fn every_mistake_is_found() {
-    let hunt = compare::mistakes::hunt(1, 20_000, 1);
-    println!("{hunt}");
-    assert_eq!(hunt.difference(), None);
-    assert_eq!(hunt.unseen(), []);
+    let search = compare::mistakes::search(1, 20_000, 1);
+    println!("{search}");
+    assert_eq!(search.difference(), None);
+    assert_eq!(search.not_found(), []);
 }

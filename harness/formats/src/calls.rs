@@ -1,9 +1,11 @@
 //! Ring calls and slice calls with the slices lent to them, and what a call leaves there: after a refusal everything as it
 //! was; after a success scratch and order zero from end to end, and the output past the answer as it was.
 
+use std::fmt::Debug;
+
 use crate::frame::MOST_RINGS;
 use crate::room::most_cut;
-use crate::{closed_length, flat, pairs, same_numbers, Bounds, Refusal, Ring};
+use crate::{closed_length, flat, pairs, same_number, Bounds, Refusal, Ring};
 
 /// Of all rings of a call together.
 pub const MOST_COORDINATES: usize = 65_536;
@@ -64,12 +66,16 @@ impl RingCall {
 }
 
 impl RingAfter {
-    /// A NaN's bits are free.
     pub fn same(&self, other: &Self) -> bool {
-        self.answer == other.answer
-            && same_numbers(&self.scratch_a, &other.scratch_a)
-            && same_numbers(&self.scratch_b, &other.scratch_b)
-            && same_numbers(&self.out, &other.out)
+        self.difference(other).is_none()
+    }
+
+    /// The first thing that is not the same in the other; a NaN's bits are free.
+    pub fn difference(&self, other: &Self) -> Option<String> {
+        first_difference("answer", &[self.answer], &[other.answer], same_whole)
+            .or_else(|| first_difference("scratch a", &self.scratch_a, &other.scratch_a, same_number))
+            .or_else(|| first_difference("scratch b", &self.scratch_b, &other.scratch_b, same_number))
+            .or_else(|| first_difference("output", &self.out, &other.out, same_number))
     }
 }
 
@@ -190,18 +196,56 @@ impl SliceCall {
 }
 
 impl SliceAfter {
-    /// A NaN's bits are free.
     pub fn same(&self, other: &Self) -> bool {
-        self.answer == other.answer
-            && same_numbers(&self.scratch_a, &other.scratch_a)
-            && same_numbers(&self.scratch_b, &other.scratch_b)
-            && self.order == other.order
-            && same_numbers(&self.out, &other.out)
-            && self.out_lengths == other.out_lengths
+        self.difference(other).is_none()
     }
+
+    /// The first thing that is not the same in the other; a NaN's bits are free.
+    pub fn difference(&self, other: &Self) -> Option<String> {
+        first_difference("answer", &[self.answer], &[other.answer], same_whole)
+            .or_else(|| first_difference("scratch a", &self.scratch_a, &other.scratch_a, same_number))
+            .or_else(|| first_difference("scratch b", &self.scratch_b, &other.scratch_b, same_number))
+            .or_else(|| first_difference("order", &self.order, &other.order, same_whole))
+            .or_else(|| first_difference("output", &self.out, &other.out, same_number))
+            .or_else(|| first_difference("lengths", &self.out_lengths, &other.out_lengths, same_whole))
+    }
+}
+
+fn same_whole<T: PartialEq>(a: T, b: T) -> bool {
+    a == b
+}
+
+/// Where two slices of that name first differ, and what stands there in each.
+fn first_difference<T: Copy + Debug>(name: &str, a: &[T], b: &[T], same: fn(T, T) -> bool) -> Option<String> {
+    if a.len() != b.len() {
+        return Some(format!("{name}: {} values and {}", a.len(), b.len()));
+    }
+    let at = a.iter().zip(b).position(|(&a, &b)| !same(a, b))?;
+    Some(format!("{name}, value {at}: {:?} and {:?}", a[at], b[at]))
 }
 
 /// A lent slice with an answer written from its front.
 fn written_over<T: Copy>(lent: &[T], answer: &[T]) -> Vec<T> {
     [answer, &lent[answer.len()..]].concat()
+}
+
+#[cfg(test)]
+mod tests {
+    use super::RingAfter;
+
+    #[test]
+    fn differences_are_named() {
+        let after = |answer: i64, out: &[f64]| RingAfter {
+            answer,
+            scratch_a: vec![0.0; 2],
+            scratch_b: vec![0.0; 2],
+            out: out.to_vec(),
+        };
+        let negative_nan = f64::from_bits(0xfff8_0000_0000_0001);
+        assert_eq!(after(1, &[f64::NAN, 2.0]).difference(&after(1, &[negative_nan, 2.0])), None);
+        let difference = |other: RingAfter| after(1, &[0.0, 2.0]).difference(&other).unwrap();
+        assert_eq!(difference(after(-22, &[0.0, 2.0])), "answer, value 0: 1 and -22");
+        assert_eq!(difference(after(1, &[-0.0, 2.0])), "output, value 0: 0.0 and -0.0");
+        assert_eq!(difference(after(1, &[0.0])), "output: 2 values and 1");
+    }
 }

@@ -12,6 +12,9 @@ pub const MOST_PARTS: usize = 256;
 pub const MOST_RINGS: usize = 64;
 pub const MOST_COORDINATES: usize = 4_096;
 
+/// The output bytes that a frame of no parts asks for: an answer with nothing listed.
+pub const LEAST_ROOM: usize = 5;
+
 #[derive(Clone, Debug)]
 pub struct Frame {
     pub kind: u8,
@@ -73,7 +76,7 @@ impl Frame {
             let most: usize = rings.iter().map(|ring| most_cut(closed_length(ring))).sum();
             6 + 2 * rings.len() + 16 * most
         };
-        5 + self.parts.iter().map(part).sum::<usize>()
+        LEAST_ROOM + self.parts.iter().map(part).sum::<usize>()
     }
 }
 

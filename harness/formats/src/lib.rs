@@ -1,9 +1,11 @@
 //! Document 01's added formats as the oracle reads them: frames, ring calls and slice calls, their refusals, and what a
-//! call leaves in the slices lent to it. The second reading shares none of this.
+//! call leaves in the slices lent to it. The second reading works all of this out by itself; what it leaves is held in
+//! `RingAfter` and `SliceAfter` only to be compared.
 
 pub mod calls;
 pub mod frame;
 pub mod room;
+pub mod shown;
 
 /// One x, y pair.
 pub type Coord = (f64, f64);

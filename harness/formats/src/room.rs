@@ -1,6 +1,6 @@
 //! How much room a cut may need.
 
-/// Document 01's B: the most coordinates that four passes and one closing make of n.
+/// Document 01's B: four passes and two closings make at most this many coordinates of n.
 pub fn most_cut(n: usize) -> usize {
     if n == 0 {
         return 0;
@@ -13,8 +13,13 @@ mod tests {
     use super::most_cut;
 
     #[test]
-    fn agrees_with_the_figures_given() {
-        assert_eq!([0, 1, 2, 3, 4, 5].map(most_cut), [0, 3, 11, 15, 21, 24]);
+    fn agrees_with_the_two_figures_of_document_01() {
+        assert_eq!([0, 4].map(most_cut), [0, 21]);
+    }
+
+    #[test]
+    fn agrees_with_figures_worked_by_hand() {
+        assert_eq!([1, 2, 3, 5].map(most_cut), [3, 11, 15, 24]);
         assert_eq!(most_cut(318), 1_610);
         assert_eq!(most_cut(65_536), 331_778);
     }

@@ -2,11 +2,11 @@
 
 use formats::calls::{RingCall, SliceCall, MOST_COORDINATES};
 use formats::room::most_cut;
-use formats::{closed_length, flat};
+use formats::{closed_length, flat, Part, Ring};
 
 use crate::numbers::any_bits;
 use crate::rng::Rng;
-use crate::scene::{Scene, Style};
+use crate::scene::{lone_coordinate, Scene, Style};
 
 /// Keep the calls of a seed apart from its frames; each style has its own stream.
 const RING_STREAM: u64 = 200;
@@ -15,11 +15,13 @@ const SLICE_STREAM: u64 = 300;
 pub fn ring_call(style: Style, seed: u64, index: u64) -> RingCall {
     let rng = &mut Rng::new(seed, RING_STREAM + style as u64, index);
     let scene = Scene::new(style, rng);
-    let mut ring = if rng.once_in(500) { around_the_limit(rng) } else { flat(&scene.ring(rng)) };
+    let long = is_long(rng);
+    let ring = if long { zigzag(around_the_limit(rng), rng) } else { scene.ring(rng) };
+    let mut ring = flat(&ring);
     if rng.once_in(30) {
         ring.push(any_bits(rng));
     }
-    let needed = needed_or_little(2 * most_cut(ring.len() / 2), rng);
+    let needed = if long && has_little_room(rng) { LITTLE } else { 2 * most_cut(ring.len() / 2) };
     RingCall {
         ring,
         bounds: scene.bounds,
@@ -32,23 +34,18 @@ pub fn ring_call(style: Style, seed: u64, index: u64) -> RingCall {
 pub fn slice_call(style: Style, seed: u64, index: u64) -> SliceCall {
     let rng = &mut Rng::new(seed, SLICE_STREAM + style as u64, index);
     let scene = Scene::new(style, rng);
-    let mut part = scene.part(rng);
+    let long = is_long(rng);
+    let mut part = if long { long_part(rng) } else { scene.part(rng) };
+    if rng.once_in(50) {
+        part.push(vec![lone_coordinate(rng)]);
+    }
     if rng.once_in(100) {
         part.resize(rng.pick(&[63, 64, 65]), Vec::new());
     }
-    let mut coords: Vec<f64> = part.iter().flat_map(|ring| flat(ring)).collect();
-    let mut lengths: Vec<u32> = part.iter().map(|ring| ring.len() as u32).collect();
-    let mut rooms: Vec<usize> = part.iter().map(|ring| most_cut(closed_length(ring))).collect();
-    let long = rng.once_in(500);
-    if long {
-        coords = around_the_limit(rng);
-        lengths = vec![coords.len() as u32 / 2];
-        rooms = vec![most_cut(coords.len() / 2 + 1)];
-    }
-    let largest = needed_or_little(rooms.iter().copied().max().unwrap_or(0), rng);
-    let sum = needed_or_little(rooms.iter().sum(), rng);
-    let ring_count = lengths.len();
-    spoil(&mut coords, &mut lengths, rng);
+    let rooms = part.iter().map(|ring| most_cut(closed_length(ring)));
+    let (largest, sum) =
+        if long && has_little_room(rng) { (LITTLE, LITTLE) } else { (rooms.clone().max().unwrap_or(0), rooms.sum()) };
+    let (coords, lengths) = slices(&part, rng);
     SliceCall {
         // The second reading looks at every pair of edges, which is too much for a long ring.
         assume_simple: long || rng.once_in(2),
@@ -61,35 +58,60 @@ pub fn slice_call(style: Style, seed: u64, index: u64) -> SliceCall {
         scratch_b: lent_numbers(2 * largest, rng),
         order: lent_positions(largest, rng),
         out: lent_numbers(2 * sum, rng),
-        out_lengths: lent_positions(ring_count, rng),
+        out_lengths: lent_positions(part.len(), rng),
     }
 }
 
-/// Numbers and lengths that don't fit each other, now and then.
-fn spoil(coords: &mut Vec<f64>, lengths: &mut Vec<u32>, rng: &mut Rng) {
+/// A part's numbers and ring lengths, which now and then don't fit each other.
+fn slices(part: &Part, rng: &mut Rng) -> (Vec<f64>, Vec<u32>) {
+    let mut coords: Vec<f64> = part.iter().flat_map(|ring| flat(ring)).collect();
+    let mut lengths: Vec<u32> = part.iter().map(|ring| ring.len() as u32).collect();
     match rng.below(60) {
         0 => lengths.clear(),
         1 => coords.push(0.0),
         2 => lengths[0] = rng.pick(&[0, 1, u32::MAX]),
         3 => lengths.push(u32::MAX),
         4 => coords.truncate(coords.len() / 2),
+        // The next two fit in 32 bits: the sum of the lengths, and twice the sum.
+        5 => {
+            lengths[0] += 1;
+            lengths.push(u32::MAX);
+        }
+        6 => lengths[0] += 1 << 31,
         _ => {}
     }
+    (coords, lengths)
 }
 
-/// A zigzag of about 65,536 coordinates, from both sides.
-fn around_the_limit(rng: &mut Rng) -> Vec<f64> {
-    let coordinates = rng.pick(&[MOST_COORDINATES - 1, MOST_COORDINATES, MOST_COORDINATES + 1]);
-    (0..2 * coordinates).map(|k| (k % 7) as f64).collect()
+/// Whether a call is about the limit of 65,536 coordinates; such calls take long, so they are rare.
+fn is_long(rng: &mut Rng) -> bool {
+    rng.once_in(500)
 }
 
-/// For a long ring mostly hardly any room: lending all of it to each call would take most of the time.
-fn needed_or_little(needed: usize, rng: &mut Rng) -> usize {
-    if needed > 100_000 && !rng.once_in(10) {
-        10
-    } else {
-        needed
-    }
+fn around_the_limit(rng: &mut Rng) -> usize {
+    rng.pick(&[MOST_COORDINATES - 1, MOST_COORDINATES, MOST_COORDINATES + 1])
+}
+
+/// One to three rings that together have about as many coordinates as a call may have.
+fn long_part(rng: &mut Rng) -> Part {
+    let (coordinates, rings) = (around_the_limit(rng), 1 + rng.below(3));
+    let each = coordinates / rings;
+    let first = coordinates - each * (rings - 1);
+    (0..rings).map(|k| zigzag(if k == 0 { first } else { each }, rng)).collect()
+}
+
+/// A ring of so many coordinates in and out of most bounds, closed or not.
+fn zigzag(coordinates: usize, rng: &mut Rng) -> Ring {
+    let mut ring: Ring = (0..coordinates).map(|k| ((k % 7) as f64, (k % 5) as f64)).collect();
+    ring[coordinates - 1] = if rng.once_in(2) { ring[0] } else { (8.0, 8.0) };
+    ring
+}
+
+/// What half of the long calls are lent: all that they need takes much of a run's time.
+const LITTLE: usize = 10;
+
+fn has_little_room(rng: &mut Rng) -> bool {
+    rng.once_in(2)
 }
 
 /// A length about the one needed: mostly enough.
@@ -103,9 +125,15 @@ fn lent_length(needed: usize, rng: &mut Rng) -> usize {
 }
 
 fn lent_numbers(needed: usize, rng: &mut Rng) -> Vec<f64> {
-    (0..lent_length(needed, rng)).map(|_| any_bits(rng)).collect()
+    lent(lent_length(needed, rng), || any_bits(rng))
 }
 
 fn lent_positions(needed: usize, rng: &mut Rng) -> Vec<u32> {
-    (0..lent_length(needed, rng)).map(|_| rng.bits() as u32).collect()
+    lent(lent_length(needed, rng), || rng.bits() as u32)
+}
+
+/// A slice filled with drawn values; a long one repeats them, as drawing takes longer than a call.
+fn lent<T: Clone>(length: usize, mut draw: impl FnMut() -> T) -> Vec<T> {
+    let drawn: Vec<T> = (0..length.min(1_000)).map(|_| draw()).collect();
+    drawn.into_iter().cycle().take(length).collect()
 }

@@ -7,7 +7,7 @@ use crate::rng::Rng;
 use crate::scene::{Scene, Style};
 
 /// Keeps the rings of a seed apart from its frames and calls; each style has its own stream.
-const STREAM: u64 = 400;
+const STREAM: u64 = 500;
 
 /// The fewest coordinates of a ring that is swept.
 const SWEPT: usize = 34;
@@ -16,7 +16,7 @@ pub fn exterior(style: Style, seed: u64, index: u64) -> Ring {
     let rng = &mut Rng::new(seed, STREAM + style as u64, index);
     let scene = Scene::new(style, rng);
     let mut ring = scene.ring(rng);
-    if index % 2 == 0 {
+    if index.is_multiple_of(2) {
         lengthen(&mut ring, &scene, rng);
     }
     if index % 4 < 2 && rng.once_in(2) && !ring.is_empty() {

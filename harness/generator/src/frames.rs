@@ -1,6 +1,6 @@
 //! Frames of every kind, with the room lent for the answer.
 
-use formats::frame::{Frame, LONGEST, MOST_PARTS, MULTIPOLYGON, POLYGON};
+use formats::frame::{Frame, LEAST_ROOM, LONGEST, MOST_PARTS, MULTIPOLYGON, POLYGON, SHORTEST};
 use formats::Part;
 
 use crate::damage::damage;
@@ -12,7 +12,7 @@ use crate::scene::{lone_coordinate, Scene, Style};
 pub enum Kind {
     /// Whole frames drawn in one style.
     Drawn(Style),
-    /// Many small parts: empty rings, single coordinates, NaN coordinates, triangles.
+    /// Many small parts: empty rings, single coordinates, NaN coordinates, rings of a few grid vertices.
     Parts,
     /// Frames of the other kinds with bytes changed, cut off or added.
     Damaged,
@@ -21,7 +21,7 @@ pub enum Kind {
 }
 
 impl Kind {
-    pub const ALL: [Kind; 10] = [
+    pub const ALL: [Kind; 11] = [
         Kind::Drawn(Style::Grid),
         Kind::Drawn(Style::Outlines),
         Kind::Drawn(Style::Near),
@@ -29,6 +29,7 @@ impl Kind {
         Kind::Drawn(Style::Bits),
         Kind::Drawn(Style::Tiles),
         Kind::Drawn(Style::Long),
+        Kind::Drawn(Style::Collinear),
         Kind::Parts,
         Kind::Damaged,
         Kind::Limits,
@@ -43,6 +44,7 @@ impl Kind {
             Kind::Drawn(Style::Bits) => "bits",
             Kind::Drawn(Style::Tiles) => "tiles",
             Kind::Drawn(Style::Long) => "long",
+            Kind::Drawn(Style::Collinear) => "collinear",
             Kind::Parts => "parts",
             Kind::Damaged => "damaged",
             Kind::Limits => "limits",
@@ -67,13 +69,13 @@ pub const AMPLE: usize = 60_000;
 pub fn frame(kind: Kind, seed: u64, index: u64) -> Specimen {
     let rng = &mut Rng::new(seed, kind.stream(), index);
     match kind {
-        Kind::Drawn(style) => with_room(drawn(style, rng), rng),
-        Kind::Parts => with_room(many_parts(rng), rng),
+        Kind::Drawn(style) => with_room(drawn(style, rng).encode(), MOSTLY_AMPLE, rng),
+        Kind::Parts => with_room(many_parts(rng).encode(), MOSTLY_AMPLE, rng),
         Kind::Damaged => {
             let whole = if rng.once_in(4) { many_parts(rng) } else { drawn(rng.pick(&Style::ALL), rng) };
-            Specimen { frame: damage(whole.encode(), rng), room: AMPLE }
+            with_room(damage(whole.encode(), rng), MOSTLY_AMPLE, rng)
         }
-        Kind::Limits => Specimen { frame: at_a_limit(rng), room: AMPLE },
+        Kind::Limits => with_room(at_a_limit(rng), SELDOM_AMPLE, rng),
     }
 }
 
@@ -106,7 +108,7 @@ fn small_part(scene: &Scene, with_bits: bool, count: usize, rng: &mut Rng) -> Pa
 
 /// The parts from the front that fit a frame; the first always does, cut short if need be.
 fn within_a_frame(parts: impl Iterator<Item = Part>) -> Vec<Part> {
-    let mut left = LONGEST - 44;
+    let mut left = LONGEST - SHORTEST;
     let mut fitting: Vec<Part> = Vec::new();
     for mut part in parts {
         let size = |part: &Part| 2 + part.iter().map(|ring| 2 + 16 * ring.len()).sum::<usize>();
@@ -122,15 +124,20 @@ fn within_a_frame(parts: impl Iterator<Item = Part>) -> Vec<Part> {
     fitting
 }
 
-/// Mostly ample room; else the room the frame asks for from both sides, or hardly any.
-fn with_room(frame: Frame, rng: &mut Rng) -> Specimen {
-    let asked = frame.room();
-    let room = match rng.below(16) {
+/// How many choices of room there are; all but four are ample.
+const MOSTLY_AMPLE: usize = 16;
+const SELDOM_AMPLE: usize = 5;
+
+/// Ample room, or the room the frame asks for from both sides, or hardly any. A frame that is refused unread asks for the
+/// least.
+fn with_room(frame: Vec<u8>, choices: usize, rng: &mut Rng) -> Specimen {
+    let asked = Frame::decode(&frame).map_or(LEAST_ROOM, |frame| frame.room());
+    let room = match rng.below(choices) {
         0 => asked,
         1 => asked - 1,
         2 => rng.below(asked),
         3 => rng.pick(&[0, 4, 5, 6]),
         _ => AMPLE,
     };
-    Specimen { frame: frame.encode(), room }
+    Specimen { frame, room }
 }

@@ -3,7 +3,9 @@
 
 mod bounds;
 mod calls;
+mod collinear;
 mod damage;
+mod exteriors;
 mod frames;
 mod limits;
 mod lines;
@@ -14,6 +16,7 @@ mod scene;
 
 pub use bounds::bounds;
 pub use calls::{ring_call, slice_call};
+pub use exteriors::exterior;
 pub use frames::{frame, Kind, Specimen};
 pub use lines::lines;
 pub use scene::Style;

@@ -65,18 +65,20 @@ fn coordinate_counts(rng: &mut Rng) -> Vec<u8> {
     let mut bytes = header(rng, MULTIPOLYGON);
     put_count(&mut bytes, 1);
     put_count(&mut bytes, 1);
-    let coordinates = rng.pick(&[0, 1, 316, 317, 318, 4_095, 4_096, 4_097, 5_000, 65_535]);
+    let coordinates =
+        rng.pick(&[0, 1, LONGEST_RING - 1, LONGEST_RING, LONGEST_RING + 1, 4_095, 4_096, 4_097, 5_000, 65_535]);
     put_count(&mut bytes, coordinates);
     let numbers = 2 * coordinates.min(rng.pick(&[0, 1, LONGEST_RING, LONGEST_RING + 1]));
     bytes.extend((0..numbers).flat_map(|k| (k as f64 / 20.0).to_le_bytes()));
     bytes
 }
 
-/// Frames of just about 5,120 bytes: the last part's rings are empty ones that fill it up.
+/// Frames of just about 5,120 bytes: one ring, and empty ones that fill the frame up. Seven coordinates less leave room for
+/// over 50 of them, not too many for a part.
 fn longest(rng: &mut Rng) -> Vec<u8> {
     let mut bytes = header(rng, MULTIPOLYGON);
     let aim = LONGEST + 2 - 2 * rng.below(4);
-    let coordinates = 280 + rng.below(30);
+    let coordinates = LONGEST_RING - 1 - rng.below(7);
     let spare = (aim - SHORTEST - 4 - 16 * coordinates) / 2;
     put_count(&mut bytes, 1);
     put_count(&mut bytes, 1 + spare);

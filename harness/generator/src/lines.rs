@@ -27,22 +27,24 @@ fn line(seed: u64, rng: &mut Rng) -> Vec<u8> {
         2 => too_long(rng),
         _ => {
             let frame = frame(rng.pick(&Kind::ALL), seed, rng.bits()).frame;
-            spoilt(digits(&frame, rng), rng)
+            damaged(digits(&frame, rng), rng)
         }
     }
 }
 
-/// Digits of both cases.
+/// Lower-case digits, upper-case ones, or both mixed.
 fn digits(frame: &[u8], rng: &mut Rng) -> Vec<u8> {
-    let upper = rng.once_in(3);
-    frame
-        .iter()
-        .flat_map(|byte| if upper { format!("{byte:02X}") } else { format!("{byte:02x}") }.into_bytes())
-        .collect()
+    let mut digits: Vec<u8> = frame.iter().flat_map(|byte| format!("{byte:02x}").into_bytes()).collect();
+    match rng.below(4) {
+        0 => digits.make_ascii_uppercase(),
+        1 => digits.iter_mut().filter(|_| rng.once_in(2)).for_each(|digit| digit.make_ascii_uppercase()),
+        _ => {}
+    }
+    digits
 }
 
 /// Mostly as it was; else one character left out, changed or added.
-fn spoilt(mut line: Vec<u8>, rng: &mut Rng) -> Vec<u8> {
+fn damaged(mut line: Vec<u8>, rng: &mut Rng) -> Vec<u8> {
     let at = rng.below(line.len() + 1);
     match rng.below(12) {
         0 => line.truncate(at),

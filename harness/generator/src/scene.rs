@@ -2,8 +2,10 @@
 
 use std::f64::consts::PI;
 
+use formats::frame::{LONGEST, SHORTEST};
 use formats::{Bounds, Coord, Part, Ring};
 
+use crate::collinear::collinear;
 use crate::numbers::{any_bits, any_bounds, finite_bits, grid, huge, near, near_offset, order, seldom_huge};
 use crate::outlines::{crossed_last_segment, outline, star, teeth};
 use crate::rng::Rng;
@@ -24,11 +26,21 @@ pub enum Style {
     Tiles,
     /// Rings around 32 edges, and up to the frame's limit.
     Long,
+    /// Edges of one slanted line, off it by the rounding of their coordinates only.
+    Collinear,
 }
 
 impl Style {
-    pub const ALL: [Style; 7] =
-        [Style::Grid, Style::Outlines, Style::Near, Style::Huge, Style::Bits, Style::Tiles, Style::Long];
+    pub const ALL: [Style; 8] = [
+        Style::Grid,
+        Style::Outlines,
+        Style::Near,
+        Style::Huge,
+        Style::Bits,
+        Style::Tiles,
+        Style::Long,
+        Style::Collinear,
+    ];
 }
 
 pub struct Scene {
@@ -49,6 +61,10 @@ impl Scene {
             Style::Huge => ([0.0, 0.0, 10.0, 10.0], rng.pick(&[0.0, 0.0, 0.0, 1.0, 1e150, 1e308])),
             Style::Bits => bits_bounds(finite, rng),
             Style::Tiles => tile_bounds(rng),
+            Style::Collinear => {
+                let reach = rng.pick(&[100.0, 40.0, 10.0, 3.0]);
+                ([-reach, -reach, reach, reach], rng.pick(&[0.0, 0.0, 0.0, 1.0]))
+            }
         };
         match style {
             Style::Grid if rng.once_in(8) => bounds = [(); 4].map(|()| grid(rng)),
@@ -86,12 +102,13 @@ impl Scene {
             Style::Bits => scatter(rng, any_bits),
             Style::Tiles => self.area(rng),
             Style::Long => long(rng),
+            Style::Collinear => collinear(rng),
         };
         if ring.len() < LONGEST_RING && rng.once_in(6) {
             repeat_a_vertex(&mut ring, rng);
         }
         if ring.len() < LONGEST_RING && !rng.once_in(5) {
-            ring.extend(ring.first().copied());
+            close(&mut ring, rng);
         }
         if !self.finite && rng.once_in(8) && !ring.is_empty() {
             let k = rng.below(ring.len());
@@ -122,8 +139,8 @@ impl Scene {
     }
 }
 
-/// The most coordinates that a frame of one ring holds.
-pub const LONGEST_RING: usize = 317;
+/// The most coordinates that a frame of one ring holds, behind its ring count and coordinate count.
+pub const LONGEST_RING: usize = (LONGEST - SHORTEST - 4) / 16;
 
 /// A few vertices of independent numbers.
 fn scatter(rng: &mut Rng, number: fn(&mut Rng) -> f64) -> Ring {
@@ -145,6 +162,16 @@ fn long(rng: &mut Rng) -> Ring {
         1 => star(rng, centre, radius, vertices, 1),
         _ => star(rng, centre, radius, vertices, 0),
     }
+}
+
+/// Appends the first vertex, now and then with the other sign of its zeros, which equals it too.
+fn close(ring: &mut Ring, rng: &mut Rng) {
+    let Some(&(x, y)) = ring.first() else {
+        return;
+    };
+    let other_zeros = rng.once_in(8);
+    let closing = |number: f64| if other_zeros && number == 0.0 { -number } else { number };
+    ring.push((closing(x), closing(y)));
 }
 
 fn repeat_a_vertex(ring: &mut Ring, rng: &mut Rng) {

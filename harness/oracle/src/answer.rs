@@ -1,5 +1,5 @@
-//! The answer to a call: the fates of the parts, laid beside the one run on the whole. Whatever the two say differently
-//! stops the harness: then the fates were asked wrongly, and nothing compared with them would count.
+//! The answer to a call: the routes of the parts, laid beside the one run on the whole. Whatever the two say differently
+//! stops the harness: then the routes were asked wrongly, and nothing compared with them would count.
 
 use formats::{flat, same_numbers, Ring};
 use geo::{Geometry, MultiPolygon, Polygon};
@@ -8,7 +8,7 @@ use tylertoo::clip::opened as clip;
 use tylertoo::tile::TileBounds;
 
 use crate::convert::rings_of;
-use crate::fate::{fate_of_part, fate_of_polygon, Fate};
+use crate::route::{route_of_part, route_of_polygon, Route};
 use crate::run::{overlay_call_of, run, Hints, Run};
 
 pub enum Answer {
@@ -45,65 +45,65 @@ pub fn answer(geometry: &Geometry<f64>, bounds: &TileBounds, buffer: f64, hints:
 }
 
 fn polygon_answer(polygon: &Polygon<f64>, buffered: &TileBounds, hints: Hints, run: Run) -> Answer {
-    let fate = fate_of_polygon(polygon, buffered, hints);
-    let whole = match fate {
-        Fate::LeftOut => Some(Answer::Nothing { guard_count: 0 }),
-        Fate::Dropped => Some(Answer::Dropped),
-        Fate::Unchanged => Some(Answer::Unchanged),
-        Fate::Cut(_) | Fate::Overlay(_) => None,
+    let route = route_of_polygon(polygon, buffered, hints);
+    let whole = match route {
+        Route::LeftOut => Some(Answer::Nothing { guard_count: 0 }),
+        Route::Dropped => Some(Answer::Dropped),
+        Route::Unchanged => Some(Answer::Unchanged),
+        Route::Cut(_) | Route::Overlay(_) => None,
     };
-    let listed = put_together(std::slice::from_ref(polygon), vec![fate], buffered, run);
+    let listed = put_together(std::slice::from_ref(polygon), vec![route], buffered, run);
     whole.unwrap_or(listed)
 }
 
 fn multipolygon_answer(multipolygon: &MultiPolygon<f64>, buffered: &TileBounds, hints: Hints, run: Run) -> Answer {
     let parts = &multipolygon.0;
-    let every_part = |fate: fn() -> Fate| parts.iter().map(|_| fate()).collect();
-    let (whole, fates): (Option<Answer>, Vec<Fate>) = match clip::multipolygon_rect_all_rings(multipolygon) {
-        None => (Some(Answer::Nothing { guard_count: 0 }), every_part(|| Fate::LeftOut)),
+    let every_part = |route: fn() -> Route| parts.iter().map(|_| route()).collect();
+    let (whole, routes): (Option<Answer>, Vec<Route>) = match clip::multipolygon_rect_all_rings(multipolygon) {
+        None => (Some(Answer::Nothing { guard_count: 0 }), every_part(|| Route::LeftOut)),
         Some((_, false, _)) => {
             // Counted once for all parts.
-            let mut fates: Vec<Fate> = every_part(|| Fate::LeftOut);
-            fates[0] = Fate::Dropped;
-            (Some(Answer::Dropped), fates)
+            let mut routes: Vec<Route> = every_part(|| Route::LeftOut);
+            routes[0] = Route::Dropped;
+            (Some(Answer::Dropped), routes)
         }
         Some((rect, true, _)) if !clip::intersects_bounds(&rect, buffered) => {
-            (Some(Answer::Nothing { guard_count: 0 }), every_part(|| Fate::LeftOut))
+            (Some(Answer::Nothing { guard_count: 0 }), every_part(|| Route::LeftOut))
         }
         Some((rect, true, _)) if clip::is_fully_inside(&rect, buffered) => {
-            (Some(Answer::Unchanged), every_part(|| Fate::Unchanged))
+            (Some(Answer::Unchanged), every_part(|| Route::Unchanged))
         }
-        Some(_) => (None, parts.iter().map(|part| fate_of_part(part, buffered, hints)).collect()),
+        Some(_) => (None, parts.iter().map(|part| route_of_part(part, buffered, hints)).collect()),
     };
-    let listed = put_together(parts, fates, buffered, run);
+    let listed = put_together(parts, routes, buffered, run);
     whole.unwrap_or(listed)
 }
 
 /// Lists the run's polygons under the parts that they came from; every polygon, overlay call and guard count of the run
 /// must be accounted for.
-fn put_together(parts: &[Polygon<f64>], fates: Vec<Fate>, buffered: &TileBounds, run: Run) -> Answer {
+fn put_together(parts: &[Polygon<f64>], routes: Vec<Route>, buffered: &TileBounds, run: Run) -> Answer {
     let mut polygons = run.polygons.iter();
     let mut next = || polygons.next().expect("the whole run has a polygon for each part listed");
     let mut overlay_calls = run.overlay_calls.iter().enumerate();
     let mut guard_count = 0;
     let mut listed_parts = Vec::new();
-    for (index, (part, fate)) in parts.iter().zip(fates).enumerate() {
-        let listed = match fate {
-            Fate::LeftOut => continue,
-            Fate::Dropped => {
+    for (index, (part, route)) in parts.iter().zip(routes).enumerate() {
+        let listed = match route {
+            Route::LeftOut => continue,
+            Route::Dropped => {
                 guard_count += 1;
                 continue;
             }
-            Fate::Unchanged => {
+            Route::Unchanged => {
                 assert_same(next(), part);
                 Listed::Unchanged
             }
-            Fate::Cut(cut) => {
+            Route::Cut(cut) => {
                 let polygon = next();
                 assert_same(polygon, &cut);
                 Listed::Cut(rings_of(polygon))
             }
-            Fate::Overlay(reason) => {
+            Route::Overlay(reason) => {
                 let (number, call) = overlay_calls.next().expect("the whole run asked for this overlay");
                 assert_eq!(overlay_call_of(next()), Some(number), "overlay pieces are out of order");
                 assert_call(call, part, buffered);
@@ -194,27 +194,27 @@ mod tests {
     const BOUNDS: TileBounds = TileBounds { lng_min: 0.0, lat_min: 0.0, lng_max: 10.0, lat_max: 10.0 };
     const HINTS: Hints = Hints { assume_simple: false, skip_boundary_fallback: false };
 
-    /// The run on a square half outside, which the Rust overlays, with a fate made up for it.
-    fn put_together_with(fate: Fate) {
+    /// The run on a square half outside, which the Rust overlays, with a route made up for it.
+    fn put_together_with(route: Route) {
         let square = polygon_of(&[vec![(5.0, 5.0), (15.0, 5.0), (15.0, 8.0), (5.0, 8.0)]]);
         let run = run(&Geometry::Polygon(square.clone()), &BOUNDS, 0.0, HINTS);
-        put_together(&[square], vec![fate], &BOUNDS, run);
+        put_together(&[square], vec![route], &BOUNDS, run);
     }
 
     #[test]
-    fn the_right_fate_passes() {
-        put_together_with(Fate::Overlay(4));
+    fn the_right_route_passes() {
+        put_together_with(Route::Overlay(4));
     }
 
     #[test]
     #[should_panic(expected = "of the whole run is not")]
     fn another_polygon_is_noticed() {
-        put_together_with(Fate::Unchanged);
+        put_together_with(Route::Unchanged);
     }
 
     #[test]
     #[should_panic(expected = "polygons that no part accounts for")]
     fn a_polygon_too_many_is_noticed() {
-        put_together_with(Fate::LeftOut);
+        put_together_with(Route::LeftOut);
     }
 }

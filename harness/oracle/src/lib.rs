@@ -4,8 +4,8 @@
 
 mod answer;
 mod convert;
-mod fate;
 mod lines;
+mod route;
 mod run;
 
 use formats::calls::{RingCall, SliceAnswer, SliceCall};

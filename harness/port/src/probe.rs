@@ -92,7 +92,13 @@ pub fn intersect(a: &Bounds, b: &Bounds) -> Bounds {
 }
 
 /// The ring call without its clearing of the scratch slices: the count of coordinates, 0 for what would be refused.
-pub fn clip_lent(ring: &[f64], bounds: &Bounds, scratch_a: &mut [f64], scratch_b: &mut [f64], out: &mut [f64]) -> usize {
+pub fn clip_lent(
+    ring: &[f64],
+    bounds: &Bounds,
+    scratch_a: &mut [f64],
+    scratch_b: &mut [f64],
+    out: &mut [f64],
+) -> usize {
     // SAFETY: as in `empty`.
     unsafe {
         exported::probe_clip_lent(

@@ -22,7 +22,8 @@ pub fn broken(bounds: &Bounds, ring: &[f64], answer: &[f64]) -> Option<&'static 
         Some("too many vertices")
     } else if south <= north && !answer.chunks(2).all(|vertex| south <= vertex[1] && vertex[1] <= north) {
         Some("a latitude not from south to north")
-    } else if south <= north && west <= east && all_modest && !answer.chunks(2).all(|vertex| longitudes_hold(vertex[0])) {
+    } else if south <= north && west <= east && all_modest && !answer.chunks(2).all(|vertex| longitudes_hold(vertex[0]))
+    {
         Some("a longitude too far out")
     } else {
         None

@@ -18,14 +18,14 @@ pub fn compare(seed: u64, count: u64) -> Campaign {
 pub fn check(call: &RingCall) -> Checked {
     let oracle = oracle::ring_call(call);
     let port = answer(call);
-    if !port.same(&call.after(&oracle)) {
-        return Err(format!("{:?} in {:?}, oracle {oracle:?}, port {port:?}", call.ring, call.bounds));
+    if let Some(difference) = port.difference(&call.after(&oracle)) {
+        return Err(format!("{call}: {difference}"));
     }
     let Ok(numbers) = oracle else {
         return Ok(refusal_label(-port.answer as u8));
     };
     match promise::broken(&call.bounds, &call.ring, &port.out[..numbers.len()]) {
-        Some(broken) => Err(format!("{:?} in {:?}: {broken}", call.ring, call.bounds)),
+        Some(broken) => Err(format!("{call}: {broken}")),
         None if numbers.is_empty() => Ok("empty"),
         None => Ok("ring"),
     }

@@ -25,7 +25,8 @@ fn broken_promises_are_seen() {
 
 #[test]
 fn the_overrun_is_measured_exactly() {
-    let at_most = |east: f64, longitude: f64| broken(&[0.0, 0.0, east, 10.0], &RING, &[longitude, 1.0, 0.5, 1.0, 0.5, 2.0]);
+    let at_most =
+        |east: f64, longitude: f64| broken(&[0.0, 0.0, east, 10.0], &RING, &[longitude, 1.0, 0.5, 1.0, 0.5, 2.0]);
     assert_eq!(at_most(1.0, 1.0 + OVERRUN), None);
     assert_eq!(at_most(1.0, f64::from_bits((1.0 + OVERRUN).to_bits() + 1)), Some("a longitude too far out"));
     // The difference rounds to the overrun, and is longer.

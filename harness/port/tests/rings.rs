@@ -57,6 +57,12 @@ fn a_longitude_overruns() {
     let count = calls::ring(&ring, &bounds, &mut a, &mut b, &mut out);
     let overrun = out[..2 * count as usize].chunks(2).map(|vertex| vertex[0] - east).fold(f64::MIN, f64::max);
     assert_eq!(overrun, 1.0 / (1u64 << 45) as f64);
-    let call = RingCall { ring: ring.to_vec(), bounds, scratch_a: vec![7.0; room], scratch_b: vec![7.0; room], out: vec![7.0; room] };
+    let call = RingCall {
+        ring: ring.to_vec(),
+        bounds,
+        scratch_a: vec![7.0; room],
+        scratch_b: vec![7.0; room],
+        out: vec![7.0; room],
+    };
     assert_eq!(rings::check(&call), Ok("ring"));
 }

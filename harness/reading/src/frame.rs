@@ -7,6 +7,9 @@ use crate::{Mistake, Reading, Vertex};
 
 const HEADER: usize = 44;
 
+/// The output bytes that a frame of no parts asks for.
+const LEAST_ROOM: usize = 5;
+
 struct Decoded {
     is_multipolygon: bool,
     flags: Flags,
@@ -18,6 +21,9 @@ struct Decoded {
 impl Reading {
     /// The frame call's answer with `room` bytes of output, or the number of the refusal.
     pub fn answer(&self, frame: &[u8], room: usize) -> Result<Vec<u8>, u8> {
+        if room < LEAST_ROOM && self.makes(Mistake::RoomBeforeFrame) {
+            return Err(22);
+        }
         let decoded = self.decode(frame)?;
         if !self.makes(Mistake::RoomByAnswer) && room < self.room(&decoded.parts) {
             return Err(22);
@@ -112,9 +118,10 @@ impl Reading {
     fn room(&self, parts: &[Vec<Vec<Vertex>>]) -> usize {
         let part = |rings: &Vec<Vec<Vertex>>| {
             let sum: usize = rings.iter().map(|ring| b(self.length_for_room(ring))).sum();
-            6 + 2 * rings.len() + 16 * sum
+            let counted = if self.makes(Mistake::RoomForLessThan64Rings) { rings.len().min(63) } else { rings.len() };
+            6 + 2 * counted + 16 * sum
         };
-        5 + parts.iter().map(part).sum::<usize>()
+        LEAST_ROOM + parts.iter().map(part).sum::<usize>()
     }
 
     fn bytes(&self, whole: &Whole) -> Vec<u8> {

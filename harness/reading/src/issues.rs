@@ -17,10 +17,6 @@ impl Edge {
         Edge { start, end, low, high }
     }
 
-    fn box_apart_from(&self, other: &Edge) -> bool {
-        self.high.x < other.low.x || other.high.x < self.low.x || self.high.y < other.low.y || other.high.y < self.low.y
-    }
-
     /// On which side of this edge's line the point lies, by its sign.
     fn side_of(&self, point: Vertex) -> f64 {
         (self.end.x - self.start.x) * (point.y - self.start.y) - (self.end.y - self.start.y) * (point.x - self.start.x)
@@ -62,11 +58,20 @@ impl Reading {
 
     fn cross(&self, a: &Edge, b: &Edge) -> bool {
         let short = |edge: &Edge| !self.makes(Mistake::ShortEdgesCross) && self.near_vertices(edge.start, edge.end);
-        !a.box_apart_from(b)
+        !self.boxes_apart(a, b)
             && !short(a)
             && !short(b)
             && self.opposite(a.side_of(b.start), a.side_of(b.end))
             && self.opposite(b.side_of(a.start), b.side_of(a.end))
+    }
+
+    fn boxes_apart(&self, a: &Edge, b: &Edge) -> bool {
+        if self.makes(Mistake::CrossesWithoutBoxes) {
+            return false;
+        }
+        let touching_is_apart = self.makes(Mistake::TouchingBoxesApart);
+        let below = |high: f64, low: f64| high < low || (touching_is_apart && high == low);
+        below(a.high.x, b.low.x) || below(b.high.x, a.low.x) || below(a.high.y, b.low.y) || below(b.high.y, a.low.y)
     }
 
     fn opposite(&self, d: f64, e: f64) -> bool {

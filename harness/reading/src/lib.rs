@@ -11,7 +11,7 @@ mod polygon;
 mod program;
 mod ring;
 
-pub use calls::{RingRoom, SliceRoom, Slices};
+pub use calls::{Lent, Slices};
 pub use mistake::{Mistake, Place};
 pub use polygon::{Flags, Routed};
 pub use ring::Vertex;

@@ -1,16 +1,23 @@
 //! The deliberate mistakes.
 
+use Place::{Frames, Lines, RingCalls, SliceCalls};
+
 /// What a mistake shows in.
 #[derive(Clone, Copy, Debug, PartialEq, Eq)]
 pub enum Place {
     Frames,
     Lines,
     RingCalls,
+    SliceCalls,
 }
 
-/// Declares the mistakes, their list, and what each of them shows in.
+impl Place {
+    pub const ALL: [Place; 4] = [Frames, Lines, RingCalls, SliceCalls];
+}
+
+/// Declares the mistakes, their list, and the places that each of them shows in.
 macro_rules! mistakes {
-    ($($place:ident { $($(#[doc = $text:literal])+ $name:ident,)+ })+) => {
+    ($($places:tt { $($(#[doc = $text:literal])+ $name:ident,)+ })+) => {
         #[derive(Clone, Copy, Debug, PartialEq, Eq)]
         pub enum Mistake {
             $($($(#[doc = $text])+ $name,)+)+
@@ -19,9 +26,9 @@ macro_rules! mistakes {
         impl Mistake {
             pub const ALL: &'static [Mistake] = &[$($(Mistake::$name,)+)+];
 
-            pub fn place(self) -> Place {
+            pub fn places(self) -> &'static [Place] {
                 match self {
-                    $($(Mistake::$name => Place::$place,)+)+
+                    $($(Mistake::$name => &$places,)+)+
                 }
             }
         }
@@ -29,7 +36,7 @@ macro_rules! mistakes {
 }
 
 mistakes! {
-    Frames {
+    [Frames] {
         // Document 01, "Lapses seen".
         /// Leaves off the closing vertex in the first pass only.
         LeavesOffInFirstPassOnly,
@@ -42,23 +49,17 @@ mistakes! {
         /// Forgets that a repeat in the last segment is allowed.
         LastRepeatIsIssue,
 
-        // READINGS.md, "Wrong readings".
+        // The project's readings, "Wrong readings".
         /// Writes apart as an "or" of strict comparisons.
         ApartAsOr,
         /// Answers byte 1 for a multipolygon of dropped parts.
         ByteOneForDroppedParts,
         /// Looks for a bridge line by line instead of edge by edge.
         BridgeByLine,
-        /// Closes a cut ring once in frame and slice calls.
-        ClosesCutRingsOnce,
-        /// Gives 22 only when the answer needs the room.
-        RoomByAnswer,
         /// Gives 15 for missing coordinates before 17.
         MissingCoordinatesFirst,
         /// Gives 16 where a ring count is not whole.
         HalfRingCountIs16,
-        /// Doesn't count a single coordinate with a NaN as two.
-        NanSingleStaysOne,
         /// Cuts at Left and copies through the other passes.
         CutsAtLeftOnly,
 
@@ -85,6 +86,10 @@ mistakes! {
         ShortEdgesCross,
         /// Takes a touch of two edges for a crossing.
         TouchingEdgesCross,
+        /// Lets edges cross whose boxes are apart.
+        CrossesWithoutBoxes,
+        /// Takes boxes that touch for apart.
+        TouchingBoxesApart,
         /// Checks the input's issues only, not the cut's.
         CutIssuesUnseen,
         /// Lets flag 1 alone skip the bridges.
@@ -135,22 +140,59 @@ mistakes! {
         RefusesNoParts,
         /// Tests the part count after the walk.
         PartCountAfterWalk,
+        /// Asks for the ring lengths of 63 rings where there are 64.
+        RoomForLessThan64Rings,
+        /// Gives 22 for hardly any room before it reads the frame.
+        RoomBeforeFrame,
+    }
+
+    [Frames, SliceCalls] {
+        /// Closes a cut ring once.
+        ClosesCutRingsOnce,
+        /// Doesn't count a single coordinate with a NaN as two.
+        NanSingleStaysOne,
         /// Takes the room for rings as they are lent.
         RoomUnclosed,
     }
 
-    RingCalls {
-        // READINGS.md, "Wrong readings".
-        /// Closes a cut ring twice in the ring call.
+    [Frames, RingCalls, SliceCalls] {
+        /// Gives 22 only when the answer needs the room.
+        RoomByAnswer,
+    }
+
+    [RingCalls] {
+        /// Closes a cut ring twice.
         ClosesTwiceInRingCall,
     }
 
-    Lines {
+    [RingCalls, SliceCalls] {
+        /// Gives 20 for 65,536 coordinates.
+        LimitIsTooMany,
+        /// Clears scratch only up to 2 x S, and order up to S.
+        ClearsScratchUsed,
+        /// Has already written when it refuses.
+        WritesBeforeRefusing,
+        /// Clears the output past the answer.
+        ClearsOutputPastAnswer,
+    }
+
+    [SliceCalls] {
+        /// Gives 20 ring by ring instead of for all rings together.
+        LimitByRing,
+        /// Adds up the lengths in 32 bits.
+        WrapsLengths,
+        /// Takes S over the exterior only.
+        ScratchByExterior,
+        /// Clears the second length slice past the answer.
+        ClearsLengthsPastAnswer,
+    }
+
+    [Lines] {
         /// Gives 11 for a long line before it looks at the digits.
         LengthBeforeDigits,
         /// Refuses upper-case digits.
         RefusesUpperCase,
-        /// Takes a carriage return for the end of a line.
+        /// Passes over carriage returns.
         SkipsCarriageReturn,
         /// Passes over empty lines.
         SkipsEmptyLines,

@@ -20,8 +20,10 @@ pub enum Whole {
 impl Reading {
     /// A multipolygon whose rings are closed.
     pub fn multipolygon(&self, parts: &[Vec<Vec<Vertex>>], bounds: &Bounds, flags: Flags) -> Whole {
-        match self.rectangle(&self.all_rings(parts)) {
+        let rings = self.all_rings(parts);
+        match self.rectangle(&rings) {
             Rectangle::None => Whole::Nothing { guards: 0 },
+            Rectangle::NotFinite if self.apart_before_finite(&rings, bounds) => Whole::Nothing { guards: 0 },
             Rectangle::NotFinite if self.makes(Mistake::DropsPartByPart) => self.part_by_part(parts, bounds, flags),
             Rectangle::NotFinite => Whole::Dropped,
             Rectangle::Numbers(whole) if self.apart(&whole, &bounds.buffered) => Whole::Nothing { guards: 0 },

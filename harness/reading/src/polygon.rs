@@ -95,17 +95,16 @@ impl Reading {
         !(r.east >= b.west && r.west <= b.east && r.north >= b.south && r.south <= b.north)
     }
 
+    /// Whether rings that are not all finite are passed over as apart, which only a mistake does.
+    pub fn apart_before_finite(&self, rings: &[Vec<Vertex>], bounds: &Bounds) -> bool {
+        self.makes(Mistake::BoundsBeforeFinite) && self.apart(&smallest_box(rings), &bounds.buffered)
+    }
+
     /// A polygon whose rings are closed.
     pub fn polygon(&self, rings: &[Vec<Vertex>], bounds: &Bounds, flags: Flags) -> Routed {
         let rectangle = match self.rectangle(rings) {
             Rectangle::None => return Routed::Nothing,
-            Rectangle::NotFinite if self.makes(Mistake::BoundsBeforeFinite) => {
-                return if self.apart(&smallest_box(rings), &bounds.buffered) {
-                    Routed::Nothing
-                } else {
-                    Routed::Dropped
-                };
-            }
+            Rectangle::NotFinite if self.apart_before_finite(rings, bounds) => return Routed::Nothing,
             Rectangle::NotFinite => return Routed::Dropped,
             Rectangle::Numbers(rectangle) => rectangle,
         };

@@ -14,6 +14,11 @@ impl Vertex {
         self.x == other.x && self.y == other.y
     }
 
+    fn has_signs_of(self, other: Vertex) -> bool {
+        self.x.is_sign_negative() == other.x.is_sign_negative()
+            && self.y.is_sign_negative() == other.y.is_sign_negative()
+    }
+
     pub fn is_finite(self) -> bool {
         self.x.is_finite() && self.y.is_finite()
     }
@@ -39,12 +44,8 @@ impl Reading {
         let (Some(&first), Some(&last)) = (ring.first(), ring.last()) else {
             return;
         };
-        let equal = if self.makes(Mistake::ZeroSignsKeepOpen) {
-            first.x.to_bits() == last.x.to_bits() && first.y.to_bits() == last.y.to_bits()
-        } else {
-            first.equals(last)
-        };
-        if !equal {
+        let told_apart = self.makes(Mistake::ZeroSignsKeepOpen) && !first.has_signs_of(last);
+        if !first.equals(last) || told_apart {
             ring.push(first);
         }
     }

@@ -20,7 +20,8 @@ abbrev μ-loop : tie.MeasureT-loop
 
 -- the verdict on the neighbours k and k + 1
 verdict : (c : tie.After-is-short Inv-loop μ-loop)
-    → c .is-short .result ≡ short (coordAt (c .before .before .before .before .before .before .args .ring .now) (c .before .before .before .before .loop .k)) (coordAt (c .before .before .before .before .before .before .args .ring .now) (c .before .before .before .before .loop .k + 1))
+    → c .is-short .result ≡ short (coordAt (c .before .before .before .before .before .before .args .ring .now) (c .before .before .before .before .loop .k))
+    (coordAt (c .before .before .before .before .before .before .args .ring .now) (c .before .before .before .before .loop .k + 1))
 verdict c = c .is-short .ensures ∙ rw (c .before .before .coord-at .ensures, c .before .coord-at2 .ensures)
 
 loop-holds : tie.Need-loop-holds Inv-loop μ-loop
@@ -56,8 +57,11 @@ loop-less c = search needs
 loop-again : tie.Need-loop-again Inv-loop μ-loop
 loop-again c =
     let l = c .before .before .before .before .before .loop in
-    let s = c .before .before .before .before .before .before .before in
-    (omega (arith, c .before .before .before .before .loop-test .taken), l .inv .1 ∙ repeated-next (s .args .ring .now) (s .args .n) (s .pre) (l .k) (c .before .before .before .before .loop-test .taken) ∙ rw (← verdict (c .before), c .if1 .left))
+    let s = c .before .before .before .before .before .before .before in (
+      omega (arith, c .before .before .before .before .loop-test .taken),
+      l .inv .1 ∙ repeated-next (s .args .ring .now) (s .args .n) (s .pre) (l .k)
+          (c .before .before .before .before .loop-test .taken) ∙ rw (← verdict (c .before), c .if1 .left),
+    )
 
 returns-2 : tie.Need-returns-2 Inv-loop μ-loop
 returns-2 c =

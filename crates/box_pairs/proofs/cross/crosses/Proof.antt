@@ -33,7 +33,8 @@ returns-3 : tie.Need-returns-3
 returns-3 c =
     let a = c .before .before .before .before .before .before .before .before .args in
     let p : properly (a .a1) (a .a2) (a .b1) (a .b2) ≡ true = sym (c .before .before .before .edges-intersect-properly .ensures) ∙ c .before .before .if3 .taken in
-    sym (cross-properly (a .a1) (a .a2) (a .b1) (a .b2) p (λ n. sym (c .before .before .before .before .if2 .left) ∙ c .before .before .before .before .before .is-apart2 .ensures n) (λ n. sym (c .before .before .before .before .before .before .if1 .left) ∙ c .before .before .before .before .before .before .before .is-apart .ensures n)
+    sym (cross-properly (a .a1) (a .a2) (a .b1) (a .b2) p (λ n. sym (c .before .before .before .before .if2 .left) ∙ c .before .before .before .before .before .is-apart2 .ensures n)
+    (λ n. sym (c .before .before .before .before .before .before .if1 .left) ∙ c .before .before .before .before .before .before .before .is-apart .ensures n)
     ∙ rw (← c .before .is-short .ensures, c .if4 .taken))
 
 is-short-requires-2 : tie.Need-is-short-requires-2
@@ -43,7 +44,9 @@ returns-4 : tie.Need-returns-4
 returns-4 c =
     let a = c .before .before .before .before .before .before .before .before .before .args in
     let p : properly (a .a1) (a .a2) (a .b1) (a .b2) ≡ true = sym (c .before .before .before .before .edges-intersect-properly .ensures) ∙ c .before .before .before .if3 .taken in
-    sym (cross-properly (a .a1) (a .a2) (a .b1) (a .b2) p (λ n. sym (c .before .before .before .before .before .if2 .left) ∙ c .before .before .before .before .before .before .is-apart2 .ensures n) (λ n. sym (c .before .before .before .before .before .before .before .if1 .left) ∙ c .before .before .before .before .before .before .before .before .is-apart .ensures n)
+    sym (cross-properly (a .a1) (a .a2) (a .b1) (a .b2) p
+    (λ n. sym (c .before .before .before .before .before .if2 .left) ∙ c .before .before .before .before .before .before .is-apart2 .ensures n)
+    (λ n. sym (c .before .before .before .before .before .before .before .if1 .left) ∙ c .before .before .before .before .before .before .before .before .is-apart .ensures n)
     ∙ rw (← c .before .before .is-short .ensures, c .before .if4 .left, ← c .is-short2 .ensures))
 
 returns-5 : tie.Need-returns-5

@@ -22,7 +22,8 @@ returns c = rw (← c .before .before .before .cross-product-sign .ensures, ← 
 
 returns-2 : tie.Need-returns-2
 unfolding splits
-returns-2 c = rw (← c .before .before .before .before .cross-product-sign .ensures, ← c .before .before .before .cross-product-sign2 .ensures, ← c .before .before .above-below .ensures, c .before .if1 .left) (c .above-below2 .ensures)
+returns-2 c =
+    rw (← c .before .before .before .before .cross-product-sign .ensures, ← c .before .before .before .cross-product-sign2 .ensures, ← c .before .before .above-below .ensures, c .before .if1 .left) (c .above-below2 .ensures)
 
 pub splits-spec : {M : Type 1} → statement M
 splits-spec =

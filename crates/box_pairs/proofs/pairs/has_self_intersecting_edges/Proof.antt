@@ -25,7 +25,8 @@ same-length-2 c = search needs
 returns-2 : tie.Need-returns-2
 returns-2 c =
     let s = c .before .before .before .before .before .before .before .before .before .before .before in
-    by-edges (s .args .n) (s .args .ring .now) (s .args .work .now) _ (s .args .order .now) _ _ (c .before .before .before .before .before .before .before .if1 .left) (c .before .before .before .before .any-edge-pair .ensures)
+    by-edges (s .args .n) (s .args .ring .now) (s .args .work .now) _ (s .args .order .now) _ _ (c .before .before .before .before .before .before .before .if1 .left)
+    (c .before .before .before .before .any-edge-pair .ensures)
 
 pub has-self-intersecting-edges-spec : {M : Type 1} → statement M
 has-self-intersecting-edges-spec =

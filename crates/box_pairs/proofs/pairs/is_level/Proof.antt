@@ -30,7 +30,8 @@ is-apart-requires c κs = search needs
 returns : tie.Need-returns
 returns c =
     λ e.
-    let p = apart-y (c .before .before .before .before .coord-at .result) (c .before .before .before .coord-at2 .result) (c .before .before .coord-at3 .result) (c .before .coord-at4 .result) (λ n. sym (not-false (c .is-apart .result) e) ∙ c .is-apart .ensures n) in
+    let p = apart-y (c .before .before .before .before .coord-at .result) (c .before .before .before .coord-at2 .result) (c .before .before .coord-at3 .result)
+    (c .before .coord-at4 .result) (λ n. sym (not-false (c .is-apart .result) e) ∙ c .is-apart .ensures n) in
     rw (c .before .before .before .before .coord-at .ensures, c .before .before .before .coord-at2 .ensures, c .before .before .coord-at3 .ensures, c .before .coord-at4 .ensures) at p
 
 pub is-level-spec : {M : Type 1} → statement M

@@ -46,7 +46,8 @@ loop-again c =
     let l = c .before .before .before .before .loop in
     let s = c .before .before .before .before .before .before .before in
     note-step (s .args .n) (l .i) (front (s .args .ring .now) (s .args .n + 1)) (s .args .work .now) (l .work) (c .minimum .result) (c .before .before .before .loop-test .taken) (s .pre .1)
-    (c .minimum .ensures ∙ rw (c .before .before .coord-at .ensures, c .before .coord-at2 .ensures) (low-front (s .args .ring .now) (s .args .n) (s .pre .0) (l .i) (c .before .before .before .loop-test .taken))) (l .inv)
+    (c .minimum .ensures ∙ rw (c .before .before .coord-at .ensures, c .before .coord-at2 .ensures)
+    (low-front (s .args .ring .now) (s .args .n) (s .pre .0) (l .i) (c .before .before .before .loop-test .taken))) (l .inv)
 
 same-length : tie.Need-same-length Inv-loop μ-loop
 same-length c = c .before .loop .inv .same

@@ -68,23 +68,27 @@ pairs-again c =
     let l = c .before .loop in
     let o = c .before .before .before in
     let s = c .before .before .before .before .before in
-    outer-next (edgesCross (front (s .args .ring .now) (s .args .n + 1))) (s .args .n) (o .pairs .i) (l .j) (o .pairs .found) (l .found) (c .before .before .pairs-test .taken) (o .pairs .inv) (l .inv)
+    outer-next (edgesCross (front (s .args .ring .now) (s .args .n + 1))) (s .args .n) (o .pairs .i) (l .j) (o .pairs .found) (l .found) (c .before .before .pairs-test .taken)
+    (o .pairs .inv) (l .inv)
     (λ q a b. l .inv .clear q a (omega (arith, c .loop-test .left)))
 
 returns : tie.Need-returns Inv-loop μ-loop Inv-pairs μ-pairs
 returns c =
     let o = c .before in
     let s = c .before .before .before in
-    scan-done (edgesCross (front (s .args .ring .now) (s .args .n + 1))) (s .args .n) (o .pairs .i) (o .pairs .found) (c .pairs-test .left) (o .pairs .inv) ∙ sym (crossing-front (s .args .ring .now) (s .args .n) (s .pre))
+    scan-done (edgesCross (front (s .args .ring .now) (s .args .n + 1))) (s .args .n) (o .pairs .i) (o .pairs .found) (c .pairs-test .left) (o .pairs .inv) ∙ sym
+    (crossing-front (s .args .ring .now) (s .args .n) (s .pre))
 
 returns-2 : tie.Need-returns-2 Inv-loop μ-loop Inv-pairs μ-pairs
 returns-2 c =
     let l = c .before .before .before .before .before .loop in
     let o = c .before .before .before .before .before .before .before in
     let s = c .before .before .before .before .before .before .before .before .before in
-    let is = edges-front (s .args .ring .now) (s .args .n) (s .pre) (o .pairs .i) (l .j) (c .before .before .before .before .before .before .pairs-test .taken) (c .before .before .before .before .loop-test .taken) in
+    let is = edges-front (s .args .ring .now) (s .args .n) (s .pre) (o .pairs .i) (l .j) (c .before .before .before .before .before .before .pairs-test .taken)
+    (c .before .before .before .before .loop-test .taken) in
     sym (crossing-front (s .args .ring .now) (s .args .n) (s .pre)
-    ∙ pair-here (edgesCross (front (s .args .ring .now) (s .args .n + 1))) (s .args .n) (o .pairs .i) (l .j) (l .inv .after) (c .before .before .before .before .loop-test .taken) (sym is ∙ (sym (c .before .edges-cross .ensures) ∙ c .if2 .taken)))
+    ∙ pair-here (edgesCross (front (s .args .ring .now) (s .args .n + 1))) (s .args .n) (o .pairs .i) (l .j) (l .inv .after) (c .before .before .before .before .loop-test .taken)
+    (sym is ∙ (sym (c .before .edges-cross .ensures) ∙ c .if2 .taken)))
 
 pub scan-pairs-spec : {M : Type 1} → statement M
 scan-pairs-spec =

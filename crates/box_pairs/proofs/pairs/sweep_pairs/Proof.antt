@@ -16,8 +16,14 @@ sort-requires c κs = search needs
 sweep-sorted-requires : tie.Need-sweep-sorted-requires
 sweep-sorted-requires c κs =
     let s = c .before .before .before .before .before .before .before .before .before .before .before .before .before .before .before .before in (
-      (omega (arith, s .pre .ring-room), omega (arith, s .pre .work-room, c .before .before .before .before .before .before .before .before .before .before .before .note-lows .kept .1 .0, c .before .before .before .before .before .before .sort .ensures .0 .same)),
-      noted-swept (s .args .n) (front (s .args .ring .now) (s .args .n + 1)) (s .args .work .now) _ _ (s .args .order .now) _ (c .before .before .before .before .before .before .before .before .before .before .before .note-lows .ensures) (c .before .before .before .before .before .before .sort .ensures .0) (c .before .before .before .before .before .before .sort .ensures .1),
+      (
+        omega (arith, s .pre .ring-room),
+        omega
+            (arith, s .pre .work-room, c .before .before .before .before .before .before .before .before .before .before .before .note-lows .kept .1 .0, c .before .before .before .before .before .before .sort .ensures .0 .same),
+      ),
+      noted-swept (s .args .n) (front (s .args .ring .now) (s .args .n + 1)) (s .args .work .now) _ _ (s .args .order .now) _
+          (c .before .before .before .before .before .before .before .before .before .before .before .note-lows .ensures) (c .before .before .before .before .before .before .sort .ensures .0)
+          (c .before .before .before .before .before .before .sort .ensures .1),
     )
 
 same-length : tie.Need-same-length
@@ -30,7 +36,9 @@ returns : tie.Need-returns
 returns c =
     let s = c .before .before .before .before .before .before .before .before .before .before .before .before .before .before .before .before .before in (
       c .sweep-sorted .ensures,
-      noted-unused (s .args .n) (front (s .args .ring .now) (s .args .n + 1)) (s .args .work .now) _ _ (s .args .order .now) _ (c .before .before .before .before .before .before .before .before .before .before .before .before .note-lows .ensures) (c .before .before .before .before .before .before .before .sort .ensures .0) (c .before .before .before .before .before .before .before .sort .ensures .1),
+      noted-unused (s .args .n) (front (s .args .ring .now) (s .args .n + 1)) (s .args .work .now) _ _ (s .args .order .now) _
+          (c .before .before .before .before .before .before .before .before .before .before .before .before .note-lows .ensures)
+          (c .before .before .before .before .before .before .before .sort .ensures .0) (c .before .before .before .before .before .before .before .sort .ensures .1),
     )
 
 pub sweep-pairs-spec : {M : Type 1} → statement M

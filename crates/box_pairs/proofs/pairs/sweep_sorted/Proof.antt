@@ -33,29 +33,39 @@ abbrev ring-of : tie.Start Inv-loop μ-loop Inv-pairs μ-pairs → List Coord
 ring-of s = front (s .args .ring .now) (s .args .n + 1)
 
 sweeps : (o : tie.At-pairs Inv-loop μ-loop Inv-pairs μ-pairs)
-    → Sweeps (λ i. key (lowX (ring-of (o .before .before .before .before)) i)) (o .before .before .before .before .args .n) (stops (ring-of (o .before .before .before .before))) (edgesCross (ring-of (o .before .before .before .before)))
+    → Sweeps (λ i. key (lowX (ring-of (o .before .before .before .before)) i)) (o .before .before .before .before .args .n) (stops (ring-of (o .before .before .before .before)))
+    (edgesCross (ring-of (o .before .before .before .before)))
 sweeps o =
     let s = o .before .before .before .before in
     edge-sweeps (s .args .ring .now) (s .args .n) (s .pre .0 .0) (λ i. o .before .before .before .shared-slice-known .given i)
 
 -- the verdict on the positions in the slots p and q
 verdict : (c : tie.At-loop Inv-loop μ-loop Inv-pairs μ-pairs) (q : ℕ) → q < c .before .before .before .before .before .before .before .before .before .before .args .n
-    → edgesAt (c .before .before .before .before .before .before .before .before .before .before .args .ring .now) (getD (c .before .before .before .before .before .before .before .before .before .before .args .order .now) (c .before .before .before .before .before .before .pairs .p) 0) (getD (c .before .before .before .before .before .before .before .before .before .before .args .order .now) q 0)
-    ≡ atSlots (edgesCross (ring-of (c .before .before .before .before .before .before .before .before .before .before))) (c .before .before .before .before .before .before .before .before .before .before .args .order .now) (c .before .before .before .before .before .before .pairs .p) q
+    → edgesAt (c .before .before .before .before .before .before .before .before .before .before .args .ring .now)
+    (getD (c .before .before .before .before .before .before .before .before .before .before .args .order .now) (c .before .before .before .before .before .before .pairs .p) 0)
+    (getD (c .before .before .before .before .before .before .before .before .before .before .args .order .now) q 0)
+    ≡ atSlots (edgesCross (ring-of (c .before .before .before .before .before .before .before .before .before .before)))
+    (c .before .before .before .before .before .before .before .before .before .before .args .order .now) (c .before .before .before .before .before .before .pairs .p) q
 verdict c q l =
     let s = c .before .before .before .before .before .before .before .before .before .before in
     let below = s .pre .1 .positions .below in
-    edges-front (s .args .ring .now) (s .args .n) (s .pre .0 .0) _ _ (below (c .before .before .before .before .before .before .pairs .p) (c .before .before .before .before .before .pairs-test .taken)) (below q l)
+    edges-front (s .args .ring .now) (s .args .n) (s .pre .0 .0) _ _
+    (below (c .before .before .before .before .before .before .pairs .p) (c .before .before .before .before .before .pairs-test .taken)) (below q l)
 
 -- the test that breaks the inner loop off
 stop-test : (c : tie.At-loop Inv-loop μ-loop Inv-pairs μ-pairs) (q : ℕ) → q < c .before .before .before .before .before .before .before .before .before .before .args .n
-    → lt (c .before .maximum .result) (getD (c .before .before .before .before .before .before .before .before .before .before .args .lows .now) (getD (c .before .before .before .before .before .before .before .before .before .before .args .order .now) q 0) nan)
-    ≡ atSlots (stops (ring-of (c .before .before .before .before .before .before .before .before .before .before))) (c .before .before .before .before .before .before .before .before .before .before .args .order .now) (c .before .before .before .before .before .before .pairs .p) q
+    → lt (c .before .maximum .result)
+    (getD (c .before .before .before .before .before .before .before .before .before .before .args .lows .now)
+    (getD (c .before .before .before .before .before .before .before .before .before .before .args .order .now) q 0) nan)
+    ≡ atSlots (stops (ring-of (c .before .before .before .before .before .before .before .before .before .before)))
+    (c .before .before .before .before .before .before .before .before .before .before .args .order .now) (c .before .before .before .before .before .before .pairs .p) q
 stop-test c q l =
     let s = c .before .before .before .before .before .before .before .before .before .before in
     let below = s .pre .1 .positions .below in
     ap₂ lt
-    (c .before .maximum .ensures ∙ rw (c .before .before .before .coord-at .ensures, c .before .before .coord-at2 .ensures) (high-front (s .args .ring .now) (s .args .n) (s .pre .0 .0) _ (below (c .before .before .before .before .before .before .pairs .p) (c .before .before .before .before .before .pairs-test .taken))))
+    (c .before .maximum .ensures ∙ rw (c .before .before .before .coord-at .ensures, c .before .before .coord-at2 .ensures)
+    (high-front (s .args .ring .now) (s .args .n) (s .pre .0 .0) _
+    (below (c .before .before .before .before .before .before .pairs .p) (c .before .before .before .before .before .pairs-test .taken))))
     (s .pre .1 .noted _ (below q l))
 
 pairs-holds : tie.Need-pairs-holds Inv-loop μ-loop Inv-pairs μ-pairs
@@ -71,13 +81,31 @@ cast-i : tie.Need-cast-i Inv-loop μ-loop Inv-pairs μ-pairs
 cast-i c = omega (arith, c .shared-slice-known4 .given (c .before .before .pairs .p))
 
 coord-at-requires : tie.Need-coord-at-requires Inv-loop μ-loop Inv-pairs μ-pairs
-coord-at-requires c κs = omega (arith, c .before .before .before .before .before .before .pre .0 .0, c .before .before .before .before .before .before .pre .1 .positions .below (c .before .before .pairs .p) (c .before .pairs-test .taken))
+coord-at-requires c κs =
+    omega (
+      arith,
+      c .before .before .before .before .before .before .pre .0 .0,
+      c .before .before .before .before .before .before .pre .1 .positions .below (c .before .before .pairs .p)
+          (c .before .pairs-test .taken),
+    )
 
 add-coord-at : tie.Need-add-coord-at Inv-loop μ-loop Inv-pairs μ-pairs
-add-coord-at c = omega (arith, c .before .before .before .before .before .before .before .pre .0 .0, c .before .before .before .before .before .before .before .pre .1 .positions .below (c .before .before .before .pairs .p) (c .before .before .pairs-test .taken))
+add-coord-at c =
+    omega (
+      arith,
+      c .before .before .before .before .before .before .before .pre .0 .0,
+      c .before .before .before .before .before .before .before .pre .1 .positions .below
+          (c .before .before .before .pairs .p) (c .before .before .pairs-test .taken),
+    )
 
 coord-at-requires-2 : tie.Need-coord-at-requires-2 Inv-loop μ-loop Inv-pairs μ-pairs
-coord-at-requires-2 c κs = omega (arith, c .before .before .before .before .before .before .before .pre .0 .0, c .before .before .before .before .before .before .before .pre .1 .positions .below (c .before .before .before .pairs .p) (c .before .before .pairs-test .taken))
+coord-at-requires-2 c κs =
+    omega (
+      arith,
+      c .before .before .before .before .before .before .before .pre .0 .0,
+      c .before .before .before .before .before .before .before .pre .1 .positions .below
+          (c .before .before .before .pairs .p) (c .before .before .pairs-test .taken),
+    )
 
 maximum-requires : tie.Need-maximum-requires Inv-loop μ-loop Inv-pairs μ-pairs
 maximum-requires c κs = search needs
@@ -101,22 +129,40 @@ cast-j : tie.Need-cast-j Inv-loop μ-loop Inv-pairs μ-pairs
 cast-j c = omega (arith, c .shared-slice-known5 .given (c .before .before .loop .q))
 
 mul-if1 : tie.Need-mul-if1 Inv-loop μ-loop Inv-pairs μ-pairs
-mul-if1 c = omega (arith, c .before .before .before .before .before .before .before .before .before .before .before .before .pre .0 .1, c .before .before .before .before .before .before .before .before .before .before .before .before .pre .1 .positions .below (c .before .before .loop .q) (c .before .loop-test .taken))
+mul-if1 c =
+    omega (arith, c .before .before .before .before .before .before .before .before .before .before .before .before .pre .0 .1, c .before .before .before .before .before .before .before .before .before .before .before .before .pre .1 .positions .below (c .before .before .loop .q) (c .before .loop-test .taken))
 
 shared-slice-read-if1 : tie.Need-shared-slice-read-if1 Inv-loop μ-loop Inv-pairs μ-pairs
-shared-slice-read-if1 c = omega (arith, c .before .before .before .before .before .before .before .before .before .before .before .before .before .pre .0 .1, c .before .before .before .before .before .before .before .before .before .before .before .before .before .pre .1 .positions .below (c .before .before .before .loop .q) (c .before .before .loop-test .taken))
+shared-slice-read-if1 c =
+    omega (arith, c .before .before .before .before .before .before .before .before .before .before .before .before .before .pre .0 .1, c .before .before .before .before .before .before .before .before .before .before .before .before .before .pre .1 .positions .below (c .before .before .before .loop .q) (c .before .before .loop-test .taken))
 
 is-level-requires : tie.Need-is-level-requires Inv-loop μ-loop Inv-pairs μ-pairs
 is-level-requires c κs =
     let s = c .before .before .before .before .before .before .before .before .before .before .before .before .before .before in
-    let below = s .pre .1 .positions .below in
-    (omega (arith, s .pre .0 .0, below (c .before .before .before .before .before .before .before .before .before .before .pairs .p) (c .before .before .before .before .before .before .before .before .before .pairs-test .taken)), omega (arith, s .pre .0 .0, below (c .before .before .before .before .loop .q) (c .before .before .before .loop-test .taken)))
+    let below = s .pre .1 .positions .below in (
+      omega (
+        arith,
+        s .pre .0 .0,
+        below (c .before .before .before .before .before .before .before .before .before .before .pairs .p)
+            (c .before .before .before .before .before .before .before .before .before .pairs-test .taken),
+      ),
+      omega
+          (arith, s .pre .0 .0, below (c .before .before .before .before .loop .q) (c .before .before .before .loop-test .taken)),
+    )
 
 edges-cross-requires : tie.Need-edges-cross-requires Inv-loop μ-loop Inv-pairs μ-pairs
 edges-cross-requires c κs =
     let s = c .before .before .before .before .before .before .before .before .before .before .before .before .before .before .before .before in
-    let below = s .pre .1 .positions .below in
-    (omega (arith, s .pre .0 .0, below (c .before .before .before .before .before .before .before .before .before .before .before .before .pairs .p) (c .before .before .before .before .before .before .before .before .before .before .before .pairs-test .taken)), omega (arith, s .pre .0 .0, below (c .before .before .before .before .before .before .loop .q) (c .before .before .before .before .before .loop-test .taken)))
+    let below = s .pre .1 .positions .below in (
+      omega (
+        arith,
+        s .pre .0 .0,
+        below (c .before .before .before .before .before .before .before .before .before .before .before .before .pairs .p)
+            (c .before .before .before .before .before .before .before .before .before .before .before .pairs-test .taken),
+      ),
+      omega
+          (arith, s .pre .0 .0, below (c .before .before .before .before .before .before .loop .q) (c .before .before .before .before .before .loop-test .taken)),
+    )
 
 add-q-2 : tie.Need-add-q-2 Inv-loop μ-loop Inv-pairs μ-pairs
 add-q-2 c = search needs
@@ -132,7 +178,8 @@ loop-again c =
     let is = verdict (c .before .before .before .before .before .before) (l .q) (c .before .before .before .before .before .loop-test .taken) in
     let miss : atSlots (edgesCross (ring-of s)) (s .args .order .now) (o .pairs .p) (l .q) ≡ false =
     ⊎-elim (λ w. sym is ∙ (sym (w .1 .ensures) ∙ w .2 .left)) (λ w. sym is ∙ c .before .is-level .ensures (w .left)) (c .if2 .came) in
-    inner-next (atSlots (edgesCross (ring-of s)) (s .args .order .now)) (s .args .n) (o .pairs .p) (l .q) (l .found) (c .before .before .before .before .before .loop-test .taken) (l .inv) miss
+    inner-next (atSlots (edgesCross (ring-of s)) (s .args .order .now)) (s .args .n) (o .pairs .p) (l .q) (l .found) (c .before .before .before .before .before .loop-test .taken)
+    (l .inv) miss
 
 add-p : tie.Need-add-p Inv-loop μ-loop Inv-pairs μ-pairs
 add-p c = search needs
@@ -150,7 +197,8 @@ pairs-again c =
     (λ w. sweep-stop (λ i. key (lowX (ring-of s) i)) (s .args .n) (stops (ring-of s)) (edgesCross (ring-of s)) (sweeps o) (s .args .order .now) (s .pre .1 .positions) (s .pre .1 .sorted)
     (o .pairs .p) (l .q) (l .inv .after) (w .0 .taken) (l .inv .clear) (sym (stop-test (c .before) (l .q) (w .0 .taken)) ∙ w .3 .taken))
     (c .loop-test .came) in
-    outer-next (atSlots (edgesCross (ring-of s)) (s .args .order .now)) (s .args .n) (o .pairs .p) (l .q) (o .pairs .found) (l .found) (c .before .before .before .before .before .before .pairs-test .taken) (o .pairs .inv) (l .inv) rest
+    outer-next (atSlots (edgesCross (ring-of s)) (s .args .order .now)) (s .args .n) (o .pairs .p) (l .q) (o .pairs .found) (l .found)
+    (c .before .before .before .before .before .before .pairs-test .taken) (o .pairs .inv) (l .inv) rest
 
 returns : tie.Need-returns Inv-loop μ-loop Inv-pairs μ-pairs
 returns c =
@@ -167,7 +215,9 @@ returns-2 c =
     let s = c .before .before .before .before .before .before .before .before .before .before .before .before .before .before .before .before .before .before in
     sym (crossing-front (s .args .ring .now) (s .args .n) (s .pre .0 .0)
     ∙ sweep-hit (λ i. key (lowX (ring-of s) i)) (s .args .n) (stops (ring-of s)) (edgesCross (ring-of s)) (sweeps o) (s .args .order .now) (s .pre .1 .positions) (s .pre .1 .sorted)
-    (o .pairs .p) (l .q) (l .inv .after) (c .before .before .before .before .before .before .before .loop-test .taken) (sym (verdict (c .before .before .before .before .before .before .before .before) (l .q) (c .before .before .before .before .before .before .before .loop-test .taken)) ∙ (sym (c .before .edges-cross .ensures) ∙ c .if3 .taken)))
+    (o .pairs .p) (l .q) (l .inv .after) (c .before .before .before .before .before .before .before .loop-test .taken)
+    (sym (verdict (c .before .before .before .before .before .before .before .before) (l .q) (c .before .before .before .before .before .before .before .loop-test .taken)) ∙
+    (sym (c .before .edges-cross .ensures) ∙ c .if3 .taken)))
 
 pub sweep-sorted-spec : {M : Type 1} → statement M
 sweep-sorted-spec =

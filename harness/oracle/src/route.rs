@@ -8,7 +8,7 @@ use tylertoo::tile::TileBounds;
 
 use crate::run::Hints;
 
-pub enum Fate {
+pub enum Route {
     LeftOut,
     Dropped,
     Unchanged,
@@ -21,43 +21,43 @@ const CUT_ISSUE: u8 = 2;
 const FIRST_BRIDGE: u8 = 3;
 
 /// A part of a multipolygon that is neither inside nor dropped as a whole; inside, issues are not looked at.
-pub fn fate_of_part(part: &Polygon<f64>, buffered: &TileBounds, hints: Hints) -> Fate {
+pub fn route_of_part(part: &Polygon<f64>, buffered: &TileBounds, hints: Hints) -> Route {
     match clip::polygon_rect_all_rings(part) {
-        Some((rect, true)) if clip::is_fully_inside(&rect, buffered) => Fate::Unchanged,
-        _ => fate_of_polygon(part, buffered, hints),
+        Some((rect, true)) if clip::is_fully_inside(&rect, buffered) => Route::Unchanged,
+        _ => route_of_polygon(part, buffered, hints),
     }
 }
 
-pub fn fate_of_polygon(polygon: &Polygon<f64>, buffered: &TileBounds, hints: Hints) -> Fate {
+pub fn route_of_polygon(polygon: &Polygon<f64>, buffered: &TileBounds, hints: Hints) -> Route {
     let Some((rect, finite)) = clip::polygon_rect_all_rings(polygon) else {
-        return Fate::LeftOut;
+        return Route::LeftOut;
     };
     if !finite {
-        return Fate::Dropped;
+        return Route::Dropped;
     }
     if !clip::intersects_bounds(&rect, buffered) {
-        return Fate::LeftOut;
+        return Route::LeftOut;
     }
     if clip::has_structural_issues(polygon, hints.assume_simple) {
         return overlay(polygon, INPUT_ISSUE);
     }
     if clip::is_fully_inside(&rect, buffered) {
-        return Fate::Unchanged;
+        return Route::Unchanged;
     }
     let Some(Geometry::Polygon(cut)) = clip_polygon_sh(polygon, buffered) else {
-        return Fate::LeftOut;
+        return Route::LeftOut;
     };
     match reason_against(&cut, buffered, hints) {
         Some(reason) => overlay(polygon, reason),
-        None => Fate::Cut(cut),
+        None => Route::Cut(cut),
     }
 }
 
-fn overlay(polygon: &Polygon<f64>, reason: u8) -> Fate {
+fn overlay(polygon: &Polygon<f64>, reason: u8) -> Route {
     if polygon_representable(polygon) {
-        Fate::Overlay(reason)
+        Route::Overlay(reason)
     } else {
-        Fate::Dropped
+        Route::Dropped
     }
 }
 
@@ -76,12 +76,12 @@ fn reason_against(cut: &Polygon<f64>, buffered: &TileBounds, hints: Hints) -> Op
 /// time: an edge alone is a ring there and back, and a line at NaN is near nothing.
 fn bridge_reason(start: Coord<f64>, end: Coord<f64>, buffered: &TileBounds) -> Option<u8> {
     let edge = Polygon::new(LineString::new(vec![start, end]), Vec::new());
-    let nowhere = TileBounds::new(f64::NAN, f64::NAN, f64::NAN, f64::NAN);
+    let no_line = TileBounds::new(f64::NAN, f64::NAN, f64::NAN, f64::NAN);
     let lines = [
-        TileBounds { lng_min: buffered.lng_min, ..nowhere },
-        TileBounds { lng_max: buffered.lng_max, ..nowhere },
-        TileBounds { lat_min: buffered.lat_min, ..nowhere },
-        TileBounds { lat_max: buffered.lat_max, ..nowhere },
+        TileBounds { lng_min: buffered.lng_min, ..no_line },
+        TileBounds { lng_max: buffered.lng_max, ..no_line },
+        TileBounds { lat_min: buffered.lat_min, ..no_line },
+        TileBounds { lat_max: buffered.lat_max, ..no_line },
     ];
     (FIRST_BRIDGE..)
         .zip(lines)
