@@ -4,12 +4,12 @@ use mathlib.Core.Path.{_≡_, sym}
 use mathlib.Core.Logic.{_↔_, _⊎_, inl, inr}
 use mathlib.Core.Bool.{Bool, true, false, not, _&&_, _||_, cond}
 use Prim.Native.Nat.{ℕ, _+_, _*_, _≤_, _<_, zero-le}
-use native.Mathlib.Nat.{le-refl, le-of-eq, le-of-lt, eq-or-lt-of-le, mul-le-mul-right, le-of-mul-le-mul-right}
+use native.Mathlib.Nat.{le-refl, le-of-eq, le-of-lt, eq-or-lt-of-le}
 use native.Mathlib.Omega.{arith}
 use lib.Dec.{T, ltb, eqb, ltb→lt, lt→ltb, eqb→eq}
 use lib.Ieee.{Float, nan, inf, fin, up, down, below, level, isNan, le}
 use lib.Ieee.Fits.{and-l, and-r, and-i, eq→eqb}
-use lib.Ieee.Positive.{num, den, den-pos}
+use lib.Ieee.Positive.{num, den}
 use lib.Ieee.Scale.{finite}
 use Rattle.binary64.specs.Scaled.{sign}
 
@@ -104,40 +104,6 @@ le-self (fin s m e) h = le-is-fractions (fin s m e) (fin s m e) tt tt .1 (le-ref
 -- what is compared and found in order is at most itself
 pub le-self-of-le : (x y : Float) → T (le x y) → T (le x x) × T (le y y)
 le-self-of-le x y h = (le-self x (le-not-nan x y h .0), le-self y (le-not-nan x y h .1))
-
-lowest : (y : Float) → T (not (isNan y)) → T (le (inf true) y)
-unfolding le isNan
-lowest nan h = h
-lowest (inf true) h = tt
-lowest (inf false) h = tt
-lowest (fin t n d) h = tt
-
-fraction-trans : (x y z : Float) → LeFraction x y → LeFraction y z → LeFraction x z
-fraction-trans x y z h k =
-    let p : (plusNum x * den y + minusNum y * den x) * den z ≤ (plusNum y * den x + minusNum x * den y) * den z = mul-le-mul-right (den z) h in
-    let q : (plusNum y * den z + minusNum z * den y) * den x ≤ (plusNum z * den y + minusNum y * den z) * den x = mul-le-mul-right (den x) k in
-    le-of-mul-le-mul-right {k = den y} (omega arith) (den-pos y)
-
-pub le-trans : (x y z : Float) → T (le x y) → T (le y z) → T (le x z)
-unfolding le
-le-trans nan y z h k = absurd h
-le-trans (inf true) y z h k = lowest z (le-not-nan y z k .1)
-le-trans (inf false) nan z h k = absurd h
-le-trans (inf false) (inf true) z h k = absurd h
-le-trans (inf false) (inf false) z h k = k
-le-trans (inf false) (fin t n d) z h k = absurd h
-le-trans (fin s m e) nan z h k = absurd h
-le-trans (fin s m e) (inf true) z h k = absurd h
-le-trans (fin s m e) (inf false) nan h k = absurd k
-le-trans (fin s m e) (inf false) (inf true) h k = absurd k
-le-trans (fin s m e) (inf false) (inf false) h k = tt
-le-trans (fin s m e) (inf false) (fin r o g) h k = absurd k
-le-trans (fin s m e) (fin t n d) nan h k = absurd k
-le-trans (fin s m e) (fin t n d) (inf true) h k = absurd k
-le-trans (fin s m e) (fin t n d) (inf false) h k = tt
-le-trans (fin s m e) (fin t n d) (fin r o g) h k =
-    le-is-fractions (fin s m e) (fin r o g) tt tt .1
-    (fraction-trans (fin s m e) (fin t n d) (fin r o g) (le-is-fractions (fin s m e) (fin t n d) tt tt .0 h) (le-is-fractions (fin t n d) (fin r o g) tt tt .0 k))
 
 -- what lies between finite numbers is finite
 pub finite-between : (l x h : Float) → T (finite l) → T (finite h) → T (le l x) → T (le x h) → T (finite x)

@@ -130,7 +130,7 @@ Le-of-le {f} {x} {y} hx hy h =
     let b = scaled hy hx in
     le-of-mul-le-mul-right {k = den x * den y} (omega arith) (mul-pos (den-pos x) (den-pos y))
 
-pub le-of-Le : {f : Format} {x y : Float} → Number f x → Number f y → Le f x y → T (le x y)
+le-of-Le : {f : Format} {x y : Float} → Number f x → Number f y → Le f x y → T (le x y)
 le-of-Le {f} {x} {y} hx hy h =
     let g : (plus f x + minus f y) * (den x * den y) ≤ (plus f y + minus f x) * (den x * den y) = mul-le-mul-right (den x * den y) h in
     let a = scaled hx hy in

@@ -25,7 +25,7 @@ use Rattle.tile.specs.Ring.{coords, closed, close}
 use Rattle.tile.proofs.Rings.{coords-take, count-closed, count-open}
 use Rattle.sutherland_hodgman.specs.Lines.{fixed, free, place, bound, isLow, inside, crossing}
 use Rattle.sutherland_hodgman.specs.Clip.{pass, passes, finish, clipRing}
-use Rattle.sutherland_hodgman.specs.Promise.{Every, LatitudeInBounds, atMost256, BoundsAtMost256, CoordAtMost256, LongitudeNearBounds, Promise}
+use Rattle.sutherland_hodgman.specs.Promise.{Every, LatitudeInBounds, atMost256, CoordAtMost256, LongitudeNearBounds, Promise}
 use Rattle.sutherland_hodgman.proofs.Growth.{clipRing-grows}
 use Rattle.sutherland_hodgman.proofs.Turns.{Turns, every-take, every-finish, every-map, every-both, every-of-all, passed}
 

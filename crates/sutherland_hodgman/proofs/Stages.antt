@@ -1,6 +1,6 @@
 -- Four passes in turn over two slices: after each the ring so far stands at the front of a slice, within its growth. Assumes nothing.
 use mathlib.Core.Path.{_≡_, refl, sym, _∙_, ap}
-use mathlib.Core.List.{List, _++_}
+use mathlib.Core.List.{List}
 use Prim.Native.Nat.{ℕ, suc, _+_, _*_, _≤_}
 use native.Mathlib.Nat.{le-trans, le-of-eq}
 use native.Mathlib.Omega.{arith}
@@ -13,7 +13,7 @@ use Rattle.tile.specs.declared.Edge.{Edge}
 use Rattle.tile.specs.Ring.{coords, flat, Written}
 use Rattle.tile.proofs.Rings.{length-flat, length-front, coords-front}
 use Rattle.sutherland_hodgman.specs.Clip.{pass, finish}
-use Rattle.sutherland_hodgman.specs.Growth.{halfGrowth, fourHalfGrowths, B}
+use Rattle.sutherland_hodgman.specs.Growth.{halfGrowth, B}
 use Rattle.sutherland_hodgman.proofs.Growth.{pass-grows, halfGrowth-mono, grown, le-four, grown-four, room-pass, room-close}
 
 -- after j passes over n vertices: the ring r, k vertices long, at the front of d

@@ -1,11 +1,11 @@
 -- Laws between rings as lists of coordinates and as flat lists of numbers, and of closing. Assumes nothing.
 use mathlib.Core.Path.{_≡_, refl, sym, _∙_, ap}
-use mathlib.Core.Bool.{Bool, true, false, true≢false}
-use mathlib.Core.List.{List, [], _∷_, _++_, append-assoc}
+use mathlib.Core.Bool.{true, false, true≢false}
+use mathlib.Core.List.{List, [], _∷_, _++_}
 use Prim.Native.Nat.{ℕ, zero, suc, _+_, _*_, _-_, _<_, _≤_}
 use native.Mathlib.Numerals.{add-one}
 use native.Mathlib.Omega.{arith}
-use lib.ListN.{length, getD, take, drop, length-append, take-append-drop}
+use lib.ListN.{length, getD, take, length-append, take-append-drop}
 use lib.Seq.{sets, sets-eq, take-take, getD-take, length-take-le, take-at}
 use lib.Ieee.{Float, nan}
 use Rattle.tile.specs.declared.Coord.{Coord}

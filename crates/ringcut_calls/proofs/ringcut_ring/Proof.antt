@@ -1,6 +1,5 @@
 -- `ringcut_ring` meets its contract, by that of the ring call. Assumes nothing.
-use mathlib.Core.Path.{_≡_, sym, _∙_, ap}
-use lib.IntN.{pos}
+use mathlib.Core.Path.{sym, _∙_, ap}
 use mir.Syntax.{w64}
 use mir.Val.{SFits}
 use mir.Facts.{toZ-ofZ}

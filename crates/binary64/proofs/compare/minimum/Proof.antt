@@ -1,5 +1,4 @@
 -- `compare::minimum` meets its contract: each return rewrites the definition by the tests that led there. Assumes nothing.
-use mathlib.Core.Path.{sym}
 use Rattle.binary64.specs.Compare as S
 use Rattle.binary64.proofs.Comparisons.{ne-self}
 use Rattle.binary64.proofs.compare.minimum.Statement.{statement}

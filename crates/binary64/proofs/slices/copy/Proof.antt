@@ -1,11 +1,11 @@
 -- `slices::copy` meets its contract. The invariant: the first i numbers are copied. Assumes nothing.
-use mathlib.Core.Path.{_≡_, refl, sym, _∙_}
+use mathlib.Core.Path.{_≡_, sym}
 use Prim.Native.Nat.{_-_, _≤_}
 use native.Mathlib.Omega.{arith}
 use borrow.Author.Needs.{needs}
 use denote.Ref.{now}
 use lib.Ieee.{nan}
-use lib.ListN.{length, take}
+use lib.ListN.{take}
 use lib.Seq.{getD-take, length-take-le}
 use Rattle.binary64.proofs.Fill.{Upto, upto-start, upto-step, upto-end}
 use Rattle.binary64.proofs.slices.copy.Statement.{statement}

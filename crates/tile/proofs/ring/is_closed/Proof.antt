@@ -1,5 +1,5 @@
 -- `ring::is_closed` meets its contract. Assumes nothing.
-use mathlib.Core.Path.{refl, sym, _∙_, ap₂}
+use mathlib.Core.Path.{_∙_, ap₂}
 use native.Mathlib.Omega.{arith}
 use denote.Ref.{now}
 use Rattle.tile.specs.Ring as S
