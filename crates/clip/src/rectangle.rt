@@ -1,0 +1,107 @@
+// The rectangle of all rings of a polygon, and where it lies: the source's `polygon_rect_all_rings`, `intersects_bounds` and `is_fully_inside`.
+ghost use mathlib.Core.Path.{_≡_};
+ghost use Prim.Native.Nat.{_*_, _≤_};
+ghost use lib.ListN.{length, take};
+ghost use Rattle.tile.specs.Ring.{coords};
+ghost use Rattle.clip.specs.Rectangle as S;
+use binary64::compare::is_finite;
+use binary64::compare::maximum;
+use binary64::compare::minimum;
+use tile::Coord;
+use tile::TileBounds;
+use tile::ring::coord_at;
+
+// Of no coordinate, of one that is not finite, or west, south, east and north.
+pub enum Rect {
+    Nothing,
+    NotFinite,
+    Box(f64, f64, f64, f64),
+}
+
+fn is_finite_coord(p: Coord) -> bool
+    ensures { λ r. ⌜ r ≡ S.isFiniteCoord p ⌝ }
+{
+    is_finite(p.x) && is_finite(p.y)
+}
+
+// The rectangle with one more coordinate.
+fn with_coord(r: Rect, p: Coord) -> Rect
+    ensures { λ a. ⌜ a ≡ S.withCoord r p ⌝ }
+{
+    match r {
+        Rect::NotFinite => Rect::NotFinite,
+        Rect::Nothing => {
+            if is_finite_coord(p) {
+                return Rect::Box(p.x, p.y, p.x, p.y);
+            }
+            Rect::NotFinite
+        }
+        Rect::Box(w, s, e, n) => {
+            if is_finite_coord(p) {
+                let west = minimum(w, p.x);
+                let south = minimum(s, p.y);
+                let east = maximum(e, p.x);
+                let north = maximum(n, p.y);
+                return Rect::Box(west, south, east, north);
+            }
+            Rect::NotFinite
+        }
+    }
+}
+
+// The rectangle with the n coordinates at the front of a slice.
+pub fn with_ring(r: Rect, ring: &[f64], n: usize) -> Rect
+    requires { ⌜ 2 * n ≤ length (now ring) ⌝ }
+    ensures { λ a. ⌜ a ≡ S.withRing r (coords (take (2 * n) (now (ring .entry)))) ⌝ }
+{
+    let mut rect = r;
+    let mut i = 0usize;
+    while i < n {
+        let p = coord_at(ring, i);
+        rect = with_coord(rect, p);
+        i += 1;
+    }
+    rect
+}
+
+// Whether the numbers from low to high and those from one bound to the other are not apart.
+fn reaches(low: f64, high: f64, from: f64, to: f64) -> bool
+    ensures { λ a. ⌜ a ≡ S.reaches low high from to ⌝ }
+{
+    high >= from && low <= to
+}
+
+// Whether the numbers from low to high lie between the bounds.
+fn lies_between(low: f64, high: f64, from: f64, to: f64) -> bool
+    ensures { λ a. ⌜ a ≡ S.liesBetween low high from to ⌝ }
+{
+    low >= from && high <= to
+}
+
+// Whether the rectangle and the bounds are not apart.
+pub fn intersects_bounds(r: Rect, bounds: TileBounds) -> bool
+    ensures { λ a. ⌜ a ≡ S.intersectsBounds r bounds ⌝ }
+{
+    match r {
+        Rect::Nothing => false,
+        Rect::NotFinite => false,
+        Rect::Box(w, s, e, n) => {
+            let across = reaches(w, e, bounds.lng_min, bounds.lng_max);
+            across && reaches(s, n, bounds.lat_min, bounds.lat_max)
+        }
+    }
+}
+
+// Whether the rectangle lies in the bounds, edges included.
+pub fn is_fully_inside(r: Rect, bounds: TileBounds) -> bool
+    ensures { λ a. ⌜ a ≡ S.isFullyInside r bounds ⌝ }
+{
+    match r {
+        Rect::Nothing => false,
+        Rect::NotFinite => false,
+        Rect::Box(w, s, e, n) => {
+            let across = lies_between(w, e, bounds.lng_min, bounds.lng_max);
+            across && lies_between(s, n, bounds.lat_min, bounds.lat_max)
+        }
+    }
+}
