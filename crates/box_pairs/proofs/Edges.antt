@@ -5,6 +5,7 @@ use mathlib.Core.List.{List}
 use Prim.Native.Nat.{ℕ, _+_, _*_, _-_, _≤_, _<_}
 use native.Mathlib.Omega.{arith}
 use lib.Dec.{T}
+use borrow.Author.Tests.{not-false}
 use lib.Ieee.{Float, nan, binary64, fits, isNan, lt}
 use lib.ListN.{length, getD, set, drop, length-set}
 use lib.Seq.{getD-set-same, getD-set-other, drop-set-lt, drop-drop, getD-take}
@@ -18,9 +19,9 @@ use Rattle.tile.specs.Ring.{coordAt, coords}
 use Rattle.tile.proofs.Rings.{front-at, length-front}
 use Rattle.box_pairs.specs.Cross.{cross}
 use Rattle.box_pairs.specs.Sort.{keyAt, Kept, Sorted}
-use Rattle.box_pairs.specs.Pairs.{front, at, edgesCross, anyBelow, anyPair, crossing, lowX, highX, Noted, Swept}
+use Rattle.box_pairs.specs.Pairs.{front, at, edgesCross, anyBelow, anyPair, crossing, edgesAt, mayMeetInY, lowX, highX, Noted, Swept}
 use Rattle.box_pairs.specs.Issue.{Unused}
-use Rattle.box_pairs.proofs.Crossing.{cross-mirror, cross-numbers, apart-left, minimum-is-number, refuted, never-both}
+use Rattle.box_pairs.proofs.Crossing.{cross-mirror, cross-numbers, apart-left, apart-y, minimum-is-number, refuted, never-both}
 use Rattle.box_pairs.proofs.Sweep.{Sweeps}
 
 -- ---- the n edges of the ring of n + 1 coordinates at the front of s
@@ -47,6 +48,11 @@ module _ (s : List Float) (n : ℕ) (room : 2 * (n + 1) ≤ length s) where
 
   low-fits : ((i : ℕ) → T (fits binary64 (getD s i nan))) → (i : ℕ) → i < n → T (fits binary64 (lowX (front s (n + 1)) i))
   low-fits f i l = rw (← low-front i l) (ends-low (λ z. T (fits binary64 z)) (ends (coordAt s i .x) (coordAt s (i + 1) .x)) (f (2 * i)) (f (2 * (i + 1))))
+
+-- edges whose boxes are separate in y do not cross
+pub never-meet : (s : List Float) (i j : ℕ) → mayMeetInY s i j ≡ false → edgesAt s i j ≡ false
+unfolding mayMeetInY
+never-meet s i j e = apart-y (coordAt s i) (coordAt s (i + 1)) (coordAt s j) (coordAt s (j + 1)) (not-false _ e)
 
 -- ---- the sweep's law
 

@@ -1,7 +1,6 @@
 -- When two edges cross (document 01, "Unchanged"; the source's `edges_intersect_properly`, `cross_product_sign`). Definitions only.
-use mathlib.Core.Path.{_≡_}
-use mathlib.Core.Bool.{Bool, false, not, _&&_, _||_}
-use lib.Ieee.{Float, binary64, isNan, lt, sub, mul, ofBits}
+use mathlib.Core.Bool.{Bool, not, cond, _&&_, _||_}
+use lib.Ieee.{Float, binary64, lt, sub, mul, ofBits}
 use Rattle.binary64.specs.Compare.{minimum, maximum, near}
 use Rattle.tile.specs.declared.Coord.{Coord}
 
@@ -16,7 +15,7 @@ crossProduct a b c =
 unfoldable pub aboveBelow : Float → Float → Bool
 aboveBelow d e = lt zero64 d && lt e zero64
 
--- the ends c and d of an edge lie on both sides of the edge from a to b
+-- the ends c and d of an edge lie strictly on opposite sides of the line through a and b, in floats
 unfoldable pub splits : Coord → Coord → Coord → Coord → Bool
 splits a b c d = aboveBelow (crossProduct a b c) (crossProduct a b d) || aboveBelow (crossProduct a b d) (crossProduct a b c)
 
@@ -39,9 +38,16 @@ apart a1 a2 b1 b2 = apartOn (a1 .x) (a2 .x) (b1 .x) (b2 .x) || apartOn (a1 .y) (
 unfoldable pub cross : Coord → Coord → Coord → Coord → Bool
 cross a1 a2 b1 b2 = not (apart a1 a2 b1 b2) && (not (short a1 a2 || short b1 b2) && properly a1 a2 b1 b2)
 
--- none of four is a NaN
-pub record Numbers (a b c d : Float) : Type 0 where
-  pub first : isNan a ≡ false
-  pub second : isNan b ≡ false
-  pub third : isNan c ≡ false
-  pub fourth : isNan d ≡ false
+-- ---- the test of the boxes in an axis, as it is computed
+
+-- the lower of two numbers; a where one of them is NaN
+unfoldable pub lower : Float → Float → Float
+lower a b = cond (lt b a) b a
+
+-- the higher of two numbers; a where one of them is NaN
+unfoldable pub higher : Float → Float → Float
+higher a b = cond (lt a b) b a
+
+-- the lower of the two high ends is below the higher of the two low ends; where none of the four is NaN, this is `apartOn`
+unfoldable pub separate : Float → Float → Float → Float → Bool
+separate a1 a2 b1 b2 = lt (lower (higher b1 b2) (higher a1 a2)) (higher (lower b1 b2) (lower a1 a2))

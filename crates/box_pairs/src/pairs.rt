@@ -1,6 +1,5 @@
 // Whether two edges of a ring cross: all pairs for a short ring, and a sweep over the edges by their lowest x for a long one.
 ghost use mathlib.Core.Path.{_≡_};
-ghost use mathlib.Core.Bool.{false};
 ghost use Prim.Native.Nat.{_+_, _*_, _<_, _≤_};
 ghost use lib.ListN.{length};
 ghost use Rattle.box_pairs.specs.Pairs as S;
@@ -15,10 +14,10 @@ use tile::ring::coord_at;
 // Rings of more edges than this are swept.
 const SCANNED: usize = 32;
 
-// Whether the boxes of the edges i and j may meet in y: one comparison, small enough to stand in the loops. Most pairs are gone with it.
+// Whether the boxes of the edges i and j may meet in y. It is kept small so that it can be inlined into the loops; that is not proved.
 fn is_level(ring: &[f64], i: usize, j: usize) -> bool
     requires { ⌜ (2 * i + 3 < length (now ring)) × (2 * j + 3 < length (now ring)) ⌝ }
-    ensures { λ r. ⌜ (r ≡ false → S.edgesAt (now (ring .entry)) i j ≡ false) ⌝ }
+    ensures { λ r. ⌜ r ≡ S.mayMeetInY (now (ring .entry)) i j ⌝ }
 {
     let a1 = coord_at(ring, i);
     let a2 = coord_at(ring, i + 1);
@@ -49,6 +48,7 @@ pub fn scan_pairs(ring: &[f64], n: usize) -> bool
     'pairs: while i < n {
         let mut j = i + 1;
         while j < n {
+            // `edges_cross` repeats this test of y: for speed, as most pairs end at the inlined test.
             if is_level(ring, i, j) {
                 if edges_cross(ring, i, j) {
                     found = true;
@@ -96,6 +96,7 @@ fn sweep_sorted(ring: &[f64], lows: &[f64], order: &[u32], n: usize) -> bool
             if lows[j] > high {
                 break;
             }
+            // for speed, as in `scan_pairs`
             if is_level(ring, i, j) {
                 if edges_cross(ring, i, j) {
                     found = true;

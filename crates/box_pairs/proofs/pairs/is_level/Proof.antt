@@ -1,7 +1,7 @@
--- `pairs::is_level` meets its contract: edges that are apart in y do not cross. Assumes nothing.
-use mathlib.Core.Path.{sym, _∙_}
-use borrow.Author.Tests.{not-false}
-use Rattle.box_pairs.proofs.Crossing.{apart-y}
+-- `pairs::is_level` meets its contract. Assumes nothing.
+use mathlib.Core.Path.{ap, _∙_}
+use mathlib.Core.Bool.{not}
+use Rattle.box_pairs.specs.Pairs.{mayMeetInY}
 use borrow.Author.Needs.{needs}
 use Rattle.box_pairs.proofs.pairs.is_level.Statement.{statement}
 use Rattle.box_pairs.proofs.pairs.is_level.Tie as tie
@@ -28,11 +28,10 @@ is-apart-requires : tie.Need-is-apart-requires
 is-apart-requires c κs = search needs
 
 returns : tie.Need-returns
+unfolding mayMeetInY
 returns c =
-    λ e.
-    let p = apart-y (c .before .before .before .before .coord-at .result) (c .before .before .before .coord-at2 .result) (c .before .before .coord-at3 .result)
-    (c .before .coord-at4 .result) (λ n. sym (not-false (c .is-apart .result) e) ∙ c .is-apart .ensures n) in
-    rw (c .before .before .before .before .coord-at .ensures, c .before .before .before .coord-at2 .ensures, c .before .before .coord-at3 .ensures, c .before .coord-at4 .ensures) at p
+    ap not (c .is-apart .ensures) ∙ rw
+    (c .before .before .before .before .coord-at .ensures, c .before .before .before .coord-at2 .ensures, c .before .before .coord-at3 .ensures, c .before .coord-at4 .ensures)
 
 pub is-level-spec : {M : Type 1} → statement M
 is-level-spec =

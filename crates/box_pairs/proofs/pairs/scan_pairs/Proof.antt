@@ -6,7 +6,7 @@ use Prim.Native.Nat.{_+_, _-_}
 use native.Mathlib.Omega.{arith}
 use Rattle.box_pairs.specs.Pairs.{front, edgesCross}
 use Rattle.box_pairs.proofs.Sweep.{Inner, Outer, outer-start, inner-start, inner-next, outer-next, scan-done, pair-here}
-use Rattle.box_pairs.proofs.Edges.{crossing-front, edges-front}
+use Rattle.box_pairs.proofs.Edges.{crossing-front, edges-front, never-meet}
 use borrow.Author.Needs.{needs}
 use Rattle.box_pairs.proofs.pairs.scan_pairs.Statement.{statement}
 use Rattle.box_pairs.proofs.pairs.scan_pairs.Tie as tie
@@ -54,7 +54,7 @@ loop-again c =
     let s = c .before .before .before .before .before .before .before in
     let is = edges-front (s .args .ring .now) (s .args .n) (s .pre) (o .pairs .i) (l .j) (c .before .before .before .before .pairs-test .taken) (c .before .before .loop-test .taken) in
     let miss : edgesCross (front (s .args .ring .now) (s .args .n + 1)) (o .pairs .i) (l .j) ≡ false =
-    ⊎-elim (λ w. sym is ∙ (sym (w .1 .ensures) ∙ w .2 .left)) (λ w. sym is ∙ c .before .is-level .ensures (w .left)) (c .if1 .came) in
+    ⊎-elim (λ w. sym is ∙ (sym (w .1 .ensures) ∙ w .2 .left)) (λ w. sym is ∙ never-meet _ _ _ (sym (c .before .is-level .ensures) ∙ w .left)) (c .if1 .came) in
     inner-next (edgesCross (front (s .args .ring .now) (s .args .n + 1))) (s .args .n) (o .pairs .i) (l .j) (l .found) (c .before .before .loop-test .taken) (l .inv) miss
 
 add-i : tie.Need-add-i Inv-loop μ-loop Inv-pairs μ-pairs

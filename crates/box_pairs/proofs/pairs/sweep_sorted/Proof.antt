@@ -11,7 +11,7 @@ use Rattle.binary64.specs.TotalOrder.{key}
 use Rattle.tile.specs.declared.Coord.{Coord}
 use Rattle.box_pairs.specs.Pairs.{front, edgesCross, edgesAt, lowX}
 use Rattle.box_pairs.proofs.Sweep.{Inner, Outer, Clear, atSlots, Sweeps, outer-start, inner-start, inner-next, outer-next, sweep-hit, sweep-stop, sweep-done}
-use Rattle.box_pairs.proofs.Edges.{crossing-front, edges-front, high-front, stops, edge-sweeps}
+use Rattle.box_pairs.proofs.Edges.{crossing-front, edges-front, never-meet, high-front, stops, edge-sweeps}
 use borrow.Author.Needs.{needs}
 use Rattle.box_pairs.proofs.pairs.sweep_sorted.Statement.{statement}
 use Rattle.box_pairs.proofs.pairs.sweep_sorted.Tie as tie
@@ -177,7 +177,7 @@ loop-again c =
     let s = c .before .before .before .before .before .before .before .before .before .before .before .before .before .before .before .before in
     let is = verdict (c .before .before .before .before .before .before) (l .q) (c .before .before .before .before .before .loop-test .taken) in
     let miss : atSlots (edgesCross (ring-of s)) (s .args .order .now) (o .pairs .p) (l .q) ≡ false =
-    ⊎-elim (λ w. sym is ∙ (sym (w .1 .ensures) ∙ w .2 .left)) (λ w. sym is ∙ c .before .is-level .ensures (w .left)) (c .if2 .came) in
+    ⊎-elim (λ w. sym is ∙ (sym (w .1 .ensures) ∙ w .2 .left)) (λ w. sym is ∙ never-meet _ _ _ (sym (c .before .is-level .ensures) ∙ w .left)) (c .if2 .came) in
     inner-next (atSlots (edgesCross (ring-of s)) (s .args .order .now)) (s .args .n) (o .pairs .p) (l .q) (l .found) (c .before .before .before .before .before .loop-test .taken)
     (l .inv) miss
 
