@@ -12,7 +12,7 @@ pub mod cross;
 pub mod merge;
 pub mod pairs;
 
-// What is wrong with an exterior: nothing, too few coordinates, two neighbours that are one, two edges that cross.
+// What is wrong with an exterior: nothing, fewer than 4 coordinates, two neighbours less than 1e-10 apart in x and in y (the last segment excepted), two edges that cross.
 pub enum Issue {
     Sound,
     Short,
@@ -37,7 +37,7 @@ fn has_repeated(ring: &[f64], n: usize) -> bool
     false
 }
 
-// What is wrong with the ring of n coordinates at the front of a slice. The crossing test is left out where the ring is known to be simple.
+// What is wrong with the ring of n coordinates at the front of a slice. The crossing test is left out where the ring is assumed to be simple.
 pub fn find_issue(
     ring: &[f64],
     n: usize,
