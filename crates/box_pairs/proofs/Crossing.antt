@@ -5,7 +5,7 @@ use lib.Ieee.{Float, binary64, isNan, lt, sub, mul}
 use Rattle.binary64.specs.Compare.{minimum, maximum}
 use Rattle.binary64.proofs.FloatOrder.{lt-not-above, lt-left, lt-right, lt-asym, sub-numbers, mul-numbers, ends, ends-order, ends-low, ends-high}
 use Rattle.tile.specs.declared.Coord.{Coord}
-use Rattle.box_pairs.specs.Cross.{crossProduct, zero64, aboveBelow, splits, properly, short, apartOn, apart, cross, lower, higher, separate}
+use Rattle.box_pairs.specs.Cross.{crossProductSign, zero64, aboveBelow, splits, intersectProperly, short, apartOn, apart, cross, lower, higher, separate}
 
 -- ---- of flags
 
@@ -28,7 +28,7 @@ and-comm false false = refl
 -- ---- symmetric
 
 pub cross-mirror : (a1 a2 b1 b2 : Coord) → cross a1 a2 b1 b2 ≡ cross b1 b2 a1 a2
-unfolding cross apart apartOn properly
+unfolding cross apart apartOn intersectProperly
 cross-mirror a1 a2 b1 b2 =
     rw (
       or-comm (lt (maximum (a1 .x) (a2 .x)) (minimum (b1 .x) (b2 .x))) (lt (maximum (b1 .x) (b2 .x)) (minimum (a1 .x) (a2 .x))),
@@ -85,8 +85,8 @@ record Sides (a b c : Coord) : Type 0 where
   cx : isNan (c .x) ≡ false
   cy : isNan (c .y) ≡ false
 
-product-numbers : (a b c : Coord) → isNan (crossProduct a b c) ≡ false → Sides a b c
-unfolding crossProduct
+product-numbers : (a b c : Coord) → isNan (crossProductSign a b c) ≡ false → Sides a b c
+unfolding crossProductSign
 product-numbers a b c h =
     let both = sub-numbers (mul binary64 (sub binary64 (b .x) (a .x)) (sub binary64 (c .y) (a .y))) (mul binary64 (sub binary64 (b .y) (a .y)) (sub binary64 (c .x) (a .x))) h in
     let one = mul-numbers (sub binary64 (b .x) (a .x)) (sub binary64 (c .y) (a .y)) (both .0) in
@@ -100,7 +100,7 @@ product-numbers a b c h =
 splits-numbers : (a b c d : Coord) → splits a b c d ≡ true → NoNan (a .x) (b .x) (c .x) (d .x) × NoNan (a .y) (b .y) (c .y) (d .y)
 unfolding splits
 splits-numbers a b c d h =
-    let n = sides-numbers (crossProduct a b c) (crossProduct a b d) h in
+    let n = sides-numbers (crossProductSign a b c) (crossProductSign a b d) h in
     let p = product-numbers a b c (n .0) in
     let q = product-numbers a b d (n .1) in
     (record { first = p .ax; second = p .bx; third = p .cx; fourth = q .cx }, record { first = p .ay; second = p .by; third = p .cy; fourth = q .cy })
@@ -113,8 +113,8 @@ refuted false h = refl
 pub never-both : {b : Bool} → b ≡ true → b ≡ false → ⊥
 never-both t f = true≢false (sym t ∙ f)
 
-properly-numbers : (a1 a2 b1 b2 : Coord) → properly a1 a2 b1 b2 ≡ true → NoNan (a1 .x) (a2 .x) (b1 .x) (b2 .x) × NoNan (a1 .y) (a2 .y) (b1 .y) (b2 .y)
-unfolding properly
+properly-numbers : (a1 a2 b1 b2 : Coord) → intersectProperly a1 a2 b1 b2 ≡ true → NoNan (a1 .x) (a2 .x) (b1 .x) (b2 .x) × NoNan (a1 .y) (a2 .y) (b1 .y) (b2 .y)
+unfolding intersectProperly
 properly-numbers a1 a2 b1 b2 h = splits-numbers a1 a2 b1 b2 (second (splits b1 b2 a1 a2) (splits a1 a2 b1 b2) h)
   where
     second : (p q : Bool) → (p && q) ≡ true → q ≡ true
@@ -183,16 +183,16 @@ separate-apart a1 a2 b1 b2 n =
 
 -- ---- the ways to the verdict
 
-pub not-properly : (a1 a2 b1 b2 : Coord) → properly a1 a2 b1 b2 ≡ false → cross a1 a2 b1 b2 ≡ false
+pub not-properly : (a1 a2 b1 b2 : Coord) → intersectProperly a1 a2 b1 b2 ≡ false → cross a1 a2 b1 b2 ≡ false
 unfolding cross
 not-properly a1 a2 b1 b2 h = rw (h, and-no (not (short a1 a2 || short b1 b2))) (and-no (not (apart a1 a2 b1 b2)))
 
 -- edges that the comparison finds apart in an axis do not cross
 pub apart-x : (a1 a2 b1 b2 : Coord) → separate (a1 .x) (a2 .x) (b1 .x) (b2 .x) ≡ true → cross a1 a2 b1 b2 ≡ false
 unfolding apart
-apart-x a1 a2 b1 b2 h = go (properly a1 a2 b1 b2) refl
+apart-x a1 a2 b1 b2 h = go (intersectProperly a1 a2 b1 b2) refl
   where
-    go : (p : Bool) → properly a1 a2 b1 b2 ≡ p → cross a1 a2 b1 b2 ≡ false
+    go : (p : Bool) → intersectProperly a1 a2 b1 b2 ≡ p → cross a1 a2 b1 b2 ≡ false
     go true e =
         let t : apartOn (a1 .x) (a2 .x) (b1 .x) (b2 .x) ≡ true = sym (separate-apart (a1 .x) (a2 .x) (b1 .x) (b2 .x) (properly-numbers a1 a2 b1 b2 e .0)) ∙ h in
         cross-apart a1 a2 b1 b2 (rw t)
@@ -200,16 +200,16 @@ apart-x a1 a2 b1 b2 h = go (properly a1 a2 b1 b2) refl
 
 pub apart-y : (a1 a2 b1 b2 : Coord) → separate (a1 .y) (a2 .y) (b1 .y) (b2 .y) ≡ true → cross a1 a2 b1 b2 ≡ false
 unfolding apart
-apart-y a1 a2 b1 b2 h = go (properly a1 a2 b1 b2) refl
+apart-y a1 a2 b1 b2 h = go (intersectProperly a1 a2 b1 b2) refl
   where
-    go : (p : Bool) → properly a1 a2 b1 b2 ≡ p → cross a1 a2 b1 b2 ≡ false
+    go : (p : Bool) → intersectProperly a1 a2 b1 b2 ≡ p → cross a1 a2 b1 b2 ≡ false
     go true e =
         let t : apartOn (a1 .y) (a2 .y) (b1 .y) (b2 .y) ≡ true = sym (separate-apart (a1 .y) (a2 .y) (b1 .y) (b2 .y) (properly-numbers a1 a2 b1 b2 e .1)) ∙ h in
         cross-apart a1 a2 b1 b2 (rw t (or-comm (apartOn (a1 .x) (a2 .x) (b1 .x) (b2 .x)) true))
     go false e = not-properly a1 a2 b1 b2 e
 
 -- edges that split each other, and whose boxes are not apart, cross if they are long enough
-pub cross-properly : (a1 a2 b1 b2 : Coord) → properly a1 a2 b1 b2 ≡ true
+pub cross-properly : (a1 a2 b1 b2 : Coord) → intersectProperly a1 a2 b1 b2 ≡ true
     → separate (a1 .x) (a2 .x) (b1 .x) (b2 .x) ≡ false → separate (a1 .y) (a2 .y) (b1 .y) (b2 .y) ≡ false
     → cross a1 a2 b1 b2 ≡ not (short a1 a2 || short b1 b2)
 unfolding cross apart
@@ -225,8 +225,8 @@ cross-properly a1 a2 b1 b2 e hx hy =
 
 -- "no crossing where a coordinate is NaN": edges that cross hold numbers only
 pub cross-numbers : (a1 a2 b1 b2 : Coord) → cross a1 a2 b1 b2 ≡ true → NoNan (a1 .x) (a2 .x) (b1 .x) (b2 .x) × NoNan (a1 .y) (a2 .y) (b1 .y) (b2 .y)
-cross-numbers a1 a2 b1 b2 h = properly-numbers a1 a2 b1 b2 (go (properly a1 a2 b1 b2) refl)
+cross-numbers a1 a2 b1 b2 h = properly-numbers a1 a2 b1 b2 (go (intersectProperly a1 a2 b1 b2) refl)
   where
-    go : (p : Bool) → properly a1 a2 b1 b2 ≡ p → properly a1 a2 b1 b2 ≡ true
+    go : (p : Bool) → intersectProperly a1 a2 b1 b2 ≡ p → intersectProperly a1 a2 b1 b2 ≡ true
     go true e = e
     go false e = absurd (never-both h (not-properly a1 a2 b1 b2 e))

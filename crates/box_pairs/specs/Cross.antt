@@ -8,8 +8,8 @@ abbrev pub zero64 : Float
 zero64 = ofBits binary64 0
 
 -- which side of the line from a to b the point c lies on, by the sign; each operation rounded once, in the source's order
-unfoldable pub crossProduct : Coord → Coord → Coord → Float
-crossProduct a b c =
+unfoldable pub crossProductSign : Coord → Coord → Coord → Float
+crossProductSign a b c =
     sub binary64 (mul binary64 (sub binary64 (b .x) (a .x)) (sub binary64 (c .y) (a .y))) (mul binary64 (sub binary64 (b .y) (a .y)) (sub binary64 (c .x) (a .x)))
 
 unfoldable pub aboveBelow : Float → Float → Bool
@@ -17,11 +17,11 @@ aboveBelow d e = lt zero64 d && lt e zero64
 
 -- the ends c and d of an edge lie strictly on opposite sides of the line through a and b, in floats
 unfoldable pub splits : Coord → Coord → Coord → Coord → Bool
-splits a b c d = aboveBelow (crossProduct a b c) (crossProduct a b d) || aboveBelow (crossProduct a b d) (crossProduct a b c)
+splits a b c d = aboveBelow (crossProductSign a b c) (crossProductSign a b d) || aboveBelow (crossProductSign a b d) (crossProductSign a b c)
 
 -- "`edges_intersect_properly` says so in floats"
-unfoldable pub properly : Coord → Coord → Coord → Coord → Bool
-properly a1 a2 b1 b2 = splits b1 b2 a1 a2 && splits a1 a2 b1 b2
+unfoldable pub intersectProperly : Coord → Coord → Coord → Coord → Bool
+intersectProperly a1 a2 b1 b2 = splits b1 b2 a1 a2 && splits a1 a2 b1 b2
 
 -- "shorter than 1e-10 in both axes"; of neighbours: "differ by less than 1e-10 in x and in y"
 unfoldable pub short : Coord → Coord → Bool
@@ -36,7 +36,7 @@ apart a1 a2 b1 b2 = apartOn (a1 .x) (a2 .x) (b1 .x) (b2 .x) || apartOn (a1 .y) (
 
 -- "Two edges cross if their boxes are not apart, neither is shorter than 1e-10 in both axes, and `edges_intersect_properly` says so"
 unfoldable pub cross : Coord → Coord → Coord → Coord → Bool
-cross a1 a2 b1 b2 = not (apart a1 a2 b1 b2) && (not (short a1 a2 || short b1 b2) && properly a1 a2 b1 b2)
+cross a1 a2 b1 b2 = not (apart a1 a2 b1 b2) && (not (short a1 a2 || short b1 b2) && intersectProperly a1 a2 b1 b2)
 
 -- ---- the test of the boxes in an axis, as it is computed
 

@@ -6,7 +6,7 @@ use tile::Coord;
 
 // Which side of the line from a to b the point c lies on, by the sign.
 fn cross_product_sign(a: Coord, b: Coord, c: Coord) -> f64
-    ensures { λ r. ⌜ r ≡ S.crossProduct a b c ⌝ }
+    ensures { λ r. ⌜ r ≡ S.crossProductSign a b c ⌝ }
 {
     (b.x - a.x) * (c.y - a.y) - (b.y - a.y) * (c.x - a.x)
 }
@@ -27,7 +27,7 @@ fn splits(a: Coord, b: Coord, c: Coord, d: Coord) -> bool
 }
 
 fn edges_intersect_properly(a1: Coord, a2: Coord, b1: Coord, b2: Coord) -> bool
-    ensures { λ r. ⌜ r ≡ S.properly a1 a2 b1 b2 ⌝ }
+    ensures { λ r. ⌜ r ≡ S.intersectProperly a1 a2 b1 b2 ⌝ }
 {
     splits(b1, b2, a1, a2) && splits(a1, a2, b1, b2)
 }

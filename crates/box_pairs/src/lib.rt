@@ -1,8 +1,7 @@
 // Predicates and sweep: whether two edges of a ring cross, and what is wrong with an exterior.
 // `cross` tests two edges, `pairs` finds a pair of edges that cross, `merge` sorts the edges for the sweep.
 ghost use mathlib.Core.Path.{_≡_};
-ghost use mathlib.Core.Bool.{true, false};
-ghost use Prim.Native.Nat.{_+_, _*_, _≤_};
+ghost use Prim.Native.Nat.{_*_, _≤_};
 ghost use lib.ListN.{length};
 ghost use Rattle.box_pairs.specs.Pairs.{front};
 ghost use Rattle.box_pairs.specs.Issue as S;
@@ -45,7 +44,7 @@ pub fn find_issue(
     work: &mut [f64],
     order: &mut [u32],
 ) -> Issue
-    requires { ⌜ S.Room n (now ring) (now work) (now order) ⌝ }
+    requires { ⌜ S.IssueRoom n (now ring) (now work) (now order) ⌝ }
     ensures { λ r. ⌜ r ≡ S.issueOf «assume_simple» (front (now (ring .entry)) n) ⌝ }
     ensures { λ _. ⌜ S.Unused n (now (work .entry)) (now (order .entry)) (now (work .exit)) (now (order .exit)) ⌝ }
 {

@@ -1,7 +1,7 @@
 -- `cross::crosses` meets its contract: each way out by its law. Assumes nothing.
 use mathlib.Core.Path.{_≡_, sym, _∙_}
 use mathlib.Core.Bool.{true}
-use Rattle.box_pairs.specs.Cross.{properly}
+use Rattle.box_pairs.specs.Cross.{intersectProperly}
 use Rattle.box_pairs.proofs.Crossing.{apart-x, apart-y, not-properly, cross-properly}
 use borrow.Author.Needs.{needs}
 use Rattle.box_pairs.proofs.cross.crosses.Statement.{statement}
@@ -32,7 +32,7 @@ is-short-requires c κs = search needs
 returns-3 : tie.Need-returns-3
 returns-3 c =
     let a = c .before .before .before .before .before .before .before .before .args in
-    let p : properly (a .a1) (a .a2) (a .b1) (a .b2) ≡ true = sym (c .before .before .before .edges-intersect-properly .ensures) ∙ c .before .before .if3 .taken in
+    let p : intersectProperly (a .a1) (a .a2) (a .b1) (a .b2) ≡ true = sym (c .before .before .before .edges-intersect-properly .ensures) ∙ c .before .before .if3 .taken in
     sym (cross-properly (a .a1) (a .a2) (a .b1) (a .b2) p (sym (c .before .before .before .before .before .is-apart2 .ensures) ∙ c .before .before .before .before .if2 .left)
     (sym (c .before .before .before .before .before .before .before .is-apart .ensures) ∙ c .before .before .before .before .before .before .if1 .left)
     ∙ rw (← c .before .is-short .ensures, c .if4 .taken))
@@ -43,7 +43,7 @@ is-short-requires-2 c κs = search needs
 returns-4 : tie.Need-returns-4
 returns-4 c =
     let a = c .before .before .before .before .before .before .before .before .before .args in
-    let p : properly (a .a1) (a .a2) (a .b1) (a .b2) ≡ true = sym (c .before .before .before .before .edges-intersect-properly .ensures) ∙ c .before .before .before .if3 .taken in
+    let p : intersectProperly (a .a1) (a .a2) (a .b1) (a .b2) ≡ true = sym (c .before .before .before .before .edges-intersect-properly .ensures) ∙ c .before .before .before .if3 .taken in
     sym (cross-properly (a .a1) (a .a2) (a .b1) (a .b2) p
     (sym (c .before .before .before .before .before .before .is-apart2 .ensures) ∙ c .before .before .before .before .before .if2 .left)
     (sym (c .before .before .before .before .before .before .before .before .is-apart .ensures) ∙ c .before .before .before .before .before .before .before .if1 .left)

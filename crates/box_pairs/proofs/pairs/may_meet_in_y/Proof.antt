@@ -1,10 +1,10 @@
--- `pairs::is_level` meets its contract. Assumes nothing.
+-- `pairs::may_meet_in_y` meets its contract. Assumes nothing.
 use mathlib.Core.Path.{ap, _∙_}
 use mathlib.Core.Bool.{not}
 use Rattle.box_pairs.specs.Pairs.{mayMeetInY}
 use borrow.Author.Needs.{needs}
-use Rattle.box_pairs.proofs.pairs.is_level.Statement.{statement}
-use Rattle.box_pairs.proofs.pairs.is_level.Tie as tie
+use Rattle.box_pairs.proofs.pairs.may_meet_in_y.Statement.{statement}
+use Rattle.box_pairs.proofs.pairs.may_meet_in_y.Tie as tie
 
 coord-at-requires : tie.Need-coord-at-requires
 coord-at-requires c κs = search needs
@@ -33,8 +33,8 @@ returns c =
     ap not (c .is-apart .ensures) ∙ rw
     (c .before .before .before .before .coord-at .ensures, c .before .before .before .coord-at2 .ensures, c .before .before .coord-at3 .ensures, c .before .coord-at4 .ensures)
 
-pub is-level-spec : {M : Type 1} → statement M
-is-level-spec =
+pub may-meet-in-y-spec : {M : Type 1} → statement M
+may-meet-in-y-spec =
     tie.close
     (tie.spec
     coord-at-requires
