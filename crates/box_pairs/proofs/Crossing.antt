@@ -149,7 +149,7 @@ spread la ha lb hb na nb nh oa ob = go (lt ha hb) refl (lt lb la) refl
         rw (p, q, ob, x, y)
 
 -- the lower and the higher of two are `minimum` and `maximum`, where the first is no NaN
-lower-minimum : (a b : Float) → isNan a ≡ false → lower a b ≡ minimum a b
+pub lower-minimum : (a b : Float) → isNan a ≡ false → lower a b ≡ minimum a b
 unfolding lower minimum
 lower-minimum a b n = go (lt b a) refl
   where
@@ -157,7 +157,7 @@ lower-minimum a b n = go (lt b a) refl
     go true e = rw e
     go false e = rw (e, n)
 
-higher-maximum : (a b : Float) → isNan a ≡ false → higher a b ≡ maximum a b
+pub higher-maximum : (a b : Float) → isNan a ≡ false → higher a b ≡ maximum a b
 unfolding higher maximum
 higher-maximum a b n = go (lt a b) refl
   where
@@ -172,7 +172,7 @@ maximum-is-number : (a b : Float) → isNan a ≡ false → isNan b ≡ false �
 maximum-is-number a b na nb = ends-high (λ z. isNan z ≡ false) (ends a b) na nb
 
 -- of numbers, the one comparison says whether the boxes are apart
-separate-apart : (a1 a2 b1 b2 : Float) → NoNan a1 a2 b1 b2 → separate a1 a2 b1 b2 ≡ apartOn a1 a2 b1 b2
+pub separate-apart : (a1 a2 b1 b2 : Float) → NoNan a1 a2 b1 b2 → separate a1 a2 b1 b2 ≡ apartOn a1 a2 b1 b2
 unfolding separate apartOn
 separate-apart a1 a2 b1 b2 n =
     let na = minimum-is-number a1 a2 (n .first) (n .second) in
