@@ -5,7 +5,7 @@ use lib.Ieee.{Float, binary64, isNan, lt, sub, mul}
 use Rattle.binary64.specs.Compare.{minimum, maximum}
 use Rattle.binary64.proofs.FloatOrder.{lt-not-above, lt-left, lt-right, lt-asym, sub-numbers, mul-numbers, ends, ends-order, ends-low, ends-high}
 use Rattle.tile.specs.declared.Coord.{Coord}
-use Rattle.box_pairs.specs.Cross.{crossProduct, zero64, aboveBelow, splits, properly, short, apartOn, apart, cross, Numbers}
+use Rattle.box_pairs.specs.Cross.{crossProductSign, zero64, aboveBelow, splits, intersectProperly, short, apartOn, apart, cross, lower, higher, separate}
 
 -- ---- of flags
 
@@ -28,7 +28,7 @@ and-comm false false = refl
 -- ---- symmetric
 
 pub cross-mirror : (a1 a2 b1 b2 : Coord) → cross a1 a2 b1 b2 ≡ cross b1 b2 a1 a2
-unfolding cross apart apartOn properly
+unfolding cross apart apartOn intersectProperly
 cross-mirror a1 a2 b1 b2 =
     rw (
       or-comm (lt (maximum (a1 .x) (a2 .x)) (minimum (b1 .x) (b2 .x))) (lt (maximum (b1 .x) (b2 .x)) (minimum (a1 .x) (a2 .x))),
@@ -50,6 +50,13 @@ unfolding apart apartOn
 apart-left a1 a2 b1 b2 e = cross-apart a1 a2 b1 b2 (rw e)
 
 -- ---- NaN: edges that split each other hold none
+
+-- none of four is a NaN
+pub record NoNan (a b c d : Float) : Type 0 where
+  pub first : isNan a ≡ false
+  pub second : isNan b ≡ false
+  pub third : isNan c ≡ false
+  pub fourth : isNan d ≡ false
 
 above-numbers : (d e : Float) → aboveBelow d e ≡ true → (isNan d ≡ false) × (isNan e ≡ false)
 unfolding aboveBelow
@@ -78,8 +85,8 @@ record Sides (a b c : Coord) : Type 0 where
   cx : isNan (c .x) ≡ false
   cy : isNan (c .y) ≡ false
 
-product-numbers : (a b c : Coord) → isNan (crossProduct a b c) ≡ false → Sides a b c
-unfolding crossProduct
+product-numbers : (a b c : Coord) → isNan (crossProductSign a b c) ≡ false → Sides a b c
+unfolding crossProductSign
 product-numbers a b c h =
     let both = sub-numbers (mul binary64 (sub binary64 (b .x) (a .x)) (sub binary64 (c .y) (a .y))) (mul binary64 (sub binary64 (b .y) (a .y)) (sub binary64 (c .x) (a .x))) h in
     let one = mul-numbers (sub binary64 (b .x) (a .x)) (sub binary64 (c .y) (a .y)) (both .0) in
@@ -90,10 +97,10 @@ product-numbers a b c h =
     let w = sub-numbers (c .x) (a .x) (two .1) in
     record { ax = x .1; ay = y .1; bx = x .0; by = z .0; cx = w .0; cy = y .0 }
 
-splits-numbers : (a b c d : Coord) → splits a b c d ≡ true → Numbers (a .x) (b .x) (c .x) (d .x) × Numbers (a .y) (b .y) (c .y) (d .y)
+splits-numbers : (a b c d : Coord) → splits a b c d ≡ true → NoNan (a .x) (b .x) (c .x) (d .x) × NoNan (a .y) (b .y) (c .y) (d .y)
 unfolding splits
 splits-numbers a b c d h =
-    let n = sides-numbers (crossProduct a b c) (crossProduct a b d) h in
+    let n = sides-numbers (crossProductSign a b c) (crossProductSign a b d) h in
     let p = product-numbers a b c (n .0) in
     let q = product-numbers a b d (n .1) in
     (record { first = p .ax; second = p .bx; third = p .cx; fourth = q .cx }, record { first = p .ay; second = p .by; third = p .cy; fourth = q .cy })
@@ -106,8 +113,8 @@ refuted false h = refl
 pub never-both : {b : Bool} → b ≡ true → b ≡ false → ⊥
 never-both t f = true≢false (sym t ∙ f)
 
-properly-numbers : (a1 a2 b1 b2 : Coord) → properly a1 a2 b1 b2 ≡ true → Numbers (a1 .x) (a2 .x) (b1 .x) (b2 .x) × Numbers (a1 .y) (a2 .y) (b1 .y) (b2 .y)
-unfolding properly
+properly-numbers : (a1 a2 b1 b2 : Coord) → intersectProperly a1 a2 b1 b2 ≡ true → NoNan (a1 .x) (a2 .x) (b1 .x) (b2 .x) × NoNan (a1 .y) (a2 .y) (b1 .y) (b2 .y)
+unfolding intersectProperly
 properly-numbers a1 a2 b1 b2 h = splits-numbers a1 a2 b1 b2 (second (splits b1 b2 a1 a2) (splits a1 a2 b1 b2) h)
   where
     second : (p q : Bool) → (p && q) ≡ true → q ≡ true
@@ -117,7 +124,8 @@ properly-numbers a1 a2 b1 b2 h = splits-numbers a1 a2 b1 b2 (second (splits b1 b
 -- ---- the boxes of numbers, by one comparison
 
 spread : (la ha lb hb : Float) → isNan la ≡ false → isNan lb ≡ false → isNan hb ≡ false → lt ha la ≡ false → lt hb lb ≡ false
-    → lt (cond (lt ha hb) ha hb) (cond (lt lb la) la lb) ≡ lt ha lb || lt hb la
+    → lt (lower hb ha) (higher lb la) ≡ lt ha lb || lt hb la
+unfolding lower higher
 spread la ha lb hb na nb nh oa ob = go (lt ha hb) refl (lt lb la) refl
   where
     or-no : (b : Bool) → (b || false) ≡ b
@@ -140,80 +148,85 @@ spread la ha lb hb na nb nh oa ob = go (lt ha hb) refl (lt lb la) refl
         let y : lt hb la ≡ false = refuted (lt hb la) (λ e. never-both (lt-not-above hb la lb nb e q) ob) in
         rw (p, q, ob, x, y)
 
--- the higher of the two lows and the lower of the two highs, where they are numbers
-pub minimum-number : (a b : Float) → isNan a ≡ false → minimum a b ≡ cond (lt b a) b a
-unfolding minimum
-minimum-number a b n = go (lt b a) refl
+-- the lower and the higher of two are `minimum` and `maximum`, where the first is no NaN
+pub lower-minimum : (a b : Float) → isNan a ≡ false → lower a b ≡ minimum a b
+unfolding lower minimum
+lower-minimum a b n = go (lt b a) refl
   where
-    go : (t : Bool) → lt b a ≡ t → cond (lt b a || isNan a) b a ≡ cond (lt b a) b a
+    go : (t : Bool) → lt b a ≡ t → cond (lt b a) b a ≡ cond (lt b a || isNan a) b a
     go true e = rw e
     go false e = rw (e, n)
 
-pub maximum-number : (a b : Float) → isNan a ≡ false → maximum a b ≡ cond (lt a b) b a
-unfolding maximum
-maximum-number a b n = go (lt a b) refl
+pub higher-maximum : (a b : Float) → isNan a ≡ false → higher a b ≡ maximum a b
+unfolding higher maximum
+higher-maximum a b n = go (lt a b) refl
   where
-    go : (t : Bool) → lt a b ≡ t → cond (lt a b || isNan a) b a ≡ cond (lt a b) b a
+    go : (t : Bool) → lt a b ≡ t → cond (lt a b) b a ≡ cond (lt a b || isNan a) b a
     go true e = rw e
     go false e = rw (e, n)
 
 pub minimum-is-number : (a b : Float) → isNan a ≡ false → isNan b ≡ false → isNan (minimum a b) ≡ false
 minimum-is-number a b na nb = ends-low (λ z. isNan z ≡ false) (ends a b) na nb
 
-pub maximum-is-number : (a b : Float) → isNan a ≡ false → isNan b ≡ false → isNan (maximum a b) ≡ false
+maximum-is-number : (a b : Float) → isNan a ≡ false → isNan b ≡ false → isNan (maximum a b) ≡ false
 maximum-is-number a b na nb = ends-high (λ z. isNan z ≡ false) (ends a b) na nb
 
-pub apart-once : (a1 a2 b1 b2 : Float) → Numbers a1 a2 b1 b2
-    → lt (minimum (maximum b1 b2) (maximum a1 a2)) (maximum (minimum b1 b2) (minimum a1 a2)) ≡ apartOn a1 a2 b1 b2
-unfolding apartOn
-apart-once a1 a2 b1 b2 n =
+-- of numbers, the one comparison says whether the boxes are apart
+pub separate-apart : (a1 a2 b1 b2 : Float) → NoNan a1 a2 b1 b2 → separate a1 a2 b1 b2 ≡ apartOn a1 a2 b1 b2
+unfolding separate apartOn
+separate-apart a1 a2 b1 b2 n =
     let na = minimum-is-number a1 a2 (n .first) (n .second) in
     let nb = minimum-is-number b1 b2 (n .third) (n .fourth) in
     let nh = maximum-is-number b1 b2 (n .third) (n .fourth) in
-    rw (minimum-number (maximum b1 b2) (maximum a1 a2) nh, maximum-number (minimum b1 b2) (minimum a1 a2) nb)
+    rw (lower-minimum a1 a2 (n .first), higher-maximum a1 a2 (n .first), lower-minimum b1 b2 (n .third), higher-maximum b1 b2 (n .third))
     (spread (minimum a1 a2) (maximum a1 a2) (minimum b1 b2) (maximum b1 b2) na nb nh (ends-order (ends a1 a2)) (ends-order (ends b1 b2)))
 
 -- ---- the ways to the verdict
 
-pub not-properly : (a1 a2 b1 b2 : Coord) → properly a1 a2 b1 b2 ≡ false → cross a1 a2 b1 b2 ≡ false
+pub not-properly : (a1 a2 b1 b2 : Coord) → intersectProperly a1 a2 b1 b2 ≡ false → cross a1 a2 b1 b2 ≡ false
 unfolding cross
 not-properly a1 a2 b1 b2 h = rw (h, and-no (not (short a1 a2 || short b1 b2))) (and-no (not (apart a1 a2 b1 b2)))
 
--- edges that are apart in an axis, if they are numbers there, do not cross
-pub apart-x : (a1 a2 b1 b2 : Coord) → (Numbers (a1 .x) (a2 .x) (b1 .x) (b2 .x) → true ≡ apartOn (a1 .x) (a2 .x) (b1 .x) (b2 .x)) → cross a1 a2 b1 b2 ≡ false
+-- edges that the comparison finds apart in an axis do not cross
+pub apart-x : (a1 a2 b1 b2 : Coord) → separate (a1 .x) (a2 .x) (b1 .x) (b2 .x) ≡ true → cross a1 a2 b1 b2 ≡ false
 unfolding apart
-apart-x a1 a2 b1 b2 h = go (properly a1 a2 b1 b2) refl
+apart-x a1 a2 b1 b2 h = go (intersectProperly a1 a2 b1 b2) refl
   where
-    go : (p : Bool) → properly a1 a2 b1 b2 ≡ p → cross a1 a2 b1 b2 ≡ false
-    go true e = cross-apart a1 a2 b1 b2 (rw (← h (properly-numbers a1 a2 b1 b2 e .0)))
+    go : (p : Bool) → intersectProperly a1 a2 b1 b2 ≡ p → cross a1 a2 b1 b2 ≡ false
+    go true e =
+        let t : apartOn (a1 .x) (a2 .x) (b1 .x) (b2 .x) ≡ true = sym (separate-apart (a1 .x) (a2 .x) (b1 .x) (b2 .x) (properly-numbers a1 a2 b1 b2 e .0)) ∙ h in
+        cross-apart a1 a2 b1 b2 (rw t)
     go false e = not-properly a1 a2 b1 b2 e
 
-pub apart-y : (a1 a2 b1 b2 : Coord) → (Numbers (a1 .y) (a2 .y) (b1 .y) (b2 .y) → true ≡ apartOn (a1 .y) (a2 .y) (b1 .y) (b2 .y)) → cross a1 a2 b1 b2 ≡ false
+pub apart-y : (a1 a2 b1 b2 : Coord) → separate (a1 .y) (a2 .y) (b1 .y) (b2 .y) ≡ true → cross a1 a2 b1 b2 ≡ false
 unfolding apart
-apart-y a1 a2 b1 b2 h = go (properly a1 a2 b1 b2) refl
+apart-y a1 a2 b1 b2 h = go (intersectProperly a1 a2 b1 b2) refl
   where
-    go : (p : Bool) → properly a1 a2 b1 b2 ≡ p → cross a1 a2 b1 b2 ≡ false
-    go true e = cross-apart a1 a2 b1 b2 (rw (← h (properly-numbers a1 a2 b1 b2 e .1)) (or-comm (apartOn (a1 .x) (a2 .x) (b1 .x) (b2 .x)) true))
+    go : (p : Bool) → intersectProperly a1 a2 b1 b2 ≡ p → cross a1 a2 b1 b2 ≡ false
+    go true e =
+        let t : apartOn (a1 .y) (a2 .y) (b1 .y) (b2 .y) ≡ true = sym (separate-apart (a1 .y) (a2 .y) (b1 .y) (b2 .y) (properly-numbers a1 a2 b1 b2 e .1)) ∙ h in
+        cross-apart a1 a2 b1 b2 (rw t (or-comm (apartOn (a1 .x) (a2 .x) (b1 .x) (b2 .x)) true))
     go false e = not-properly a1 a2 b1 b2 e
 
 -- edges that split each other, and whose boxes are not apart, cross if they are long enough
-pub cross-properly : (a1 a2 b1 b2 : Coord) → properly a1 a2 b1 b2 ≡ true
-    → (Numbers (a1 .x) (a2 .x) (b1 .x) (b2 .x) → false ≡ apartOn (a1 .x) (a2 .x) (b1 .x) (b2 .x))
-    → (Numbers (a1 .y) (a2 .y) (b1 .y) (b2 .y) → false ≡ apartOn (a1 .y) (a2 .y) (b1 .y) (b2 .y))
+pub cross-properly : (a1 a2 b1 b2 : Coord) → intersectProperly a1 a2 b1 b2 ≡ true
+    → separate (a1 .x) (a2 .x) (b1 .x) (b2 .x) ≡ false → separate (a1 .y) (a2 .y) (b1 .y) (b2 .y) ≡ false
     → cross a1 a2 b1 b2 ≡ not (short a1 a2 || short b1 b2)
 unfolding cross apart
 cross-properly a1 a2 b1 b2 e hx hy =
     let n = properly-numbers a1 a2 b1 b2 e in
-    rw (← hx (n .0), ← hy (n .1), e) (and-yes (not (short a1 a2 || short b1 b2)))
+    let x : apartOn (a1 .x) (a2 .x) (b1 .x) (b2 .x) ≡ false = sym (separate-apart (a1 .x) (a2 .x) (b1 .x) (b2 .x) (n .0)) ∙ hx in
+    let y : apartOn (a1 .y) (a2 .y) (b1 .y) (b2 .y) ≡ false = sym (separate-apart (a1 .y) (a2 .y) (b1 .y) (b2 .y) (n .1)) ∙ hy in
+    rw (x, y, e) (and-yes (not (short a1 a2 || short b1 b2)))
   where
     and-yes : (b : Bool) → (b && true) ≡ b
     and-yes true = refl
     and-yes false = refl
 
 -- "no crossing where a coordinate is NaN": edges that cross hold numbers only
-pub cross-numbers : (a1 a2 b1 b2 : Coord) → cross a1 a2 b1 b2 ≡ true → Numbers (a1 .x) (a2 .x) (b1 .x) (b2 .x) × Numbers (a1 .y) (a2 .y) (b1 .y) (b2 .y)
-cross-numbers a1 a2 b1 b2 h = properly-numbers a1 a2 b1 b2 (go (properly a1 a2 b1 b2) refl)
+pub cross-numbers : (a1 a2 b1 b2 : Coord) → cross a1 a2 b1 b2 ≡ true → NoNan (a1 .x) (a2 .x) (b1 .x) (b2 .x) × NoNan (a1 .y) (a2 .y) (b1 .y) (b2 .y)
+cross-numbers a1 a2 b1 b2 h = properly-numbers a1 a2 b1 b2 (go (intersectProperly a1 a2 b1 b2) refl)
   where
-    go : (p : Bool) → properly a1 a2 b1 b2 ≡ p → properly a1 a2 b1 b2 ≡ true
+    go : (p : Bool) → intersectProperly a1 a2 b1 b2 ≡ p → intersectProperly a1 a2 b1 b2 ≡ true
     go true e = e
     go false e = absurd (never-both h (not-properly a1 a2 b1 b2 e))

@@ -5,6 +5,7 @@ use mathlib.Core.List.{List}
 use Prim.Native.Nat.{ℕ, _+_, _*_, _-_, _≤_, _<_}
 use native.Mathlib.Omega.{arith}
 use lib.Dec.{T}
+use borrow.Author.Tests.{not-false}
 use lib.Ieee.{Float, nan, binary64, fits, isNan, lt}
 use lib.ListN.{length, getD, set, drop, length-set}
 use lib.Seq.{getD-set-same, getD-set-other, drop-set-lt, drop-drop, getD-take}
@@ -18,10 +19,14 @@ use Rattle.tile.specs.Ring.{coordAt, coords}
 use Rattle.tile.proofs.Rings.{front-at, length-front}
 use Rattle.box_pairs.specs.Cross.{cross}
 use Rattle.box_pairs.specs.Sort.{keyAt, Kept, Sorted}
-use Rattle.box_pairs.specs.Pairs.{front, at, edgesCross, anyBelow, anyPair, crossing, lowX, highX, Noted, Swept}
+use Rattle.box_pairs.specs.Pairs.{front, at, edgesCross, anyBelow, anyPair, selfIntersecting, edgesAt, mayMeetInY, lowX, Noted, Swept}
 use Rattle.box_pairs.specs.Issue.{Unused}
-use Rattle.box_pairs.proofs.Crossing.{cross-mirror, cross-numbers, apart-left, minimum-is-number, refuted, never-both}
+use Rattle.box_pairs.proofs.Crossing.{cross-mirror, cross-numbers, apart-left, apart-y, minimum-is-number, refuted, never-both}
 use Rattle.box_pairs.proofs.Sweep.{Sweeps}
+
+-- the highest x of an edge
+unfoldable pub highX : List Coord → ℕ → Float
+highX r i = maximum (at r i .x) (at r (i + 1) .x)
 
 -- ---- the n edges of the ring of n + 1 coordinates at the front of s
 
@@ -29,8 +34,8 @@ module _ (s : List Float) (n : ℕ) (room : 2 * (n + 1) ≤ length s) where
   at-front : (i : ℕ) → i < n + 1 → at (front s (n + 1)) i ≡ coordAt s i
   at-front i l = front-at s (n + 1) i (record { x = nan; y = nan }) room l
 
-  pub crossing-front : crossing (front s (n + 1)) ≡ anyPair (edgesCross (front s (n + 1))) n
-  unfolding crossing
+  pub crossing-front : selfIntersecting (front s (n + 1)) ≡ anyPair (edgesCross (front s (n + 1))) n
+  unfolding selfIntersecting
   crossing-front = let e : length (front s (n + 1)) - 1 ≡ n = omega (arith, length-front s (n + 1) room) in rw e
 
   pub edges-front : (i j : ℕ) → i < n → j < n → cross (coordAt s i) (coordAt s (i + 1)) (coordAt s j) (coordAt s (j + 1)) ≡ edgesCross (front s (n + 1)) i j
@@ -47,6 +52,11 @@ module _ (s : List Float) (n : ℕ) (room : 2 * (n + 1) ≤ length s) where
 
   low-fits : ((i : ℕ) → T (fits binary64 (getD s i nan))) → (i : ℕ) → i < n → T (fits binary64 (lowX (front s (n + 1)) i))
   low-fits f i l = rw (← low-front i l) (ends-low (λ z. T (fits binary64 z)) (ends (coordAt s i .x) (coordAt s (i + 1) .x)) (f (2 * i)) (f (2 * (i + 1))))
+
+-- edges whose boxes are separate in y do not cross
+pub never-meet : (s : List Float) (i j : ℕ) → mayMeetInY s i j ≡ false → edgesAt s i j ≡ false
+unfolding mayMeetInY
+never-meet s i j e = apart-y (coordAt s i) (coordAt s (i + 1)) (coordAt s j) (coordAt s (j + 1)) (not-false _ e)
 
 -- ---- the sweep's law
 
@@ -130,11 +140,11 @@ module _ (n : ℕ) (r : List Coord) (w₀ w₁ w₂ : List Float) (o₀ o₁ : L
 
 -- ---- a ring of no coordinate
 
-pub crossing-none : (s : List Float) → crossing (front s 0) ≡ false
-unfolding crossing anyPair anyBelow coords
+pub crossing-none : (s : List Float) → selfIntersecting (front s 0) ≡ false
+unfolding selfIntersecting anyPair anyBelow coords
 crossing-none s = refl
 
 -- a ring of n coordinates has one edge less
 pub by-edges : (n : ℕ) (s w w′ : List Float) (o o′ : List ℕ) (b : Bool) → (n ≡ 0 → ⊥)
-    → (b ≡ crossing (front s (n - 1 + 1))) × Unused (n - 1 + 1) w o w′ o′ → (b ≡ crossing (front s n)) × Unused n w o w′ o′
-by-edges n s w w′ o o′ b h p = let q : n - 1 + 1 ≡ n = omega arith in subst (λ (m : ℕ). (b ≡ crossing (front s m)) × Unused m w o w′ o′) q p
+    → (b ≡ selfIntersecting (front s (n - 1 + 1))) × Unused (n - 1 + 1) w o w′ o′ → (b ≡ selfIntersecting (front s n)) × Unused n w o w′ o′
+by-edges n s w w′ o o′ b h p = let q : n - 1 + 1 ≡ n = omega arith in subst (λ (m : ℕ). (b ≡ selfIntersecting (front s m)) × Unused m w o w′ o′) q p

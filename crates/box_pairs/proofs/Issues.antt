@@ -14,7 +14,7 @@ use Rattle.tile.specs.Ring.{coordAt}
 use Rattle.tile.proofs.Rings.{front-at, length-front}
 use Rattle.box_pairs.specs.declared.Issue.the-variants.{Sound, Short, Repeated, Crossing}
 use Rattle.box_pairs.specs.Cross.{short}
-use Rattle.box_pairs.specs.Pairs.{front, crossing}
+use Rattle.box_pairs.specs.Pairs.{front, selfIntersecting}
 use Rattle.box_pairs.specs.Issue.{repeated, issueOf}
 
 -- ---- neighbours
@@ -45,7 +45,7 @@ module _ (s : List Float) (n : ℕ) (room : 2 * n ≤ length s) where
   unfolding issueOf
   issue-short b l = rw (length-front s n room, lt-ltb n 4 l)
 
-  long : 4 ≤ n → (b : Bool) → issueOf b (front s n) ≡ cond (repeated (front s n)) Repeated (cond (not b && crossing (front s n)) Crossing Sound)
+  long : 4 ≤ n → (b : Bool) → issueOf b (front s n) ≡ cond (repeated (front s n)) Repeated (cond (not b && selfIntersecting (front s n)) Crossing Sound)
   unfolding issueOf
   long l b = rw (length-front s n room, le-ltb n 4 l)
 
@@ -55,8 +55,8 @@ module _ (s : List Float) (n : ℕ) (room : 2 * n ≤ length s) where
   pub issue-simple : (b : Bool) → 4 ≤ n → repeated (front s n) ≡ false → b ≡ true → issueOf b (front s n) ≡ Sound
   issue-simple b l e t = long l b ∙ rw (e, t)
 
-  pub issue-crossing : (b : Bool) → 4 ≤ n → repeated (front s n) ≡ false → b ≡ false → crossing (front s n) ≡ true → issueOf b (front s n) ≡ Crossing
+  pub issue-crossing : (b : Bool) → 4 ≤ n → repeated (front s n) ≡ false → b ≡ false → selfIntersecting (front s n) ≡ true → issueOf b (front s n) ≡ Crossing
   issue-crossing b l e t x = long l b ∙ rw (e, t, x)
 
-  pub issue-sound : (b : Bool) → 4 ≤ n → repeated (front s n) ≡ false → b ≡ false → crossing (front s n) ≡ false → issueOf b (front s n) ≡ Sound
+  pub issue-sound : (b : Bool) → 4 ≤ n → repeated (front s n) ≡ false → b ≡ false → selfIntersecting (front s n) ≡ false → issueOf b (front s n) ≡ Sound
   issue-sound b l e t x = long l b ∙ rw (e, t, x)

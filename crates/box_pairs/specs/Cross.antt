@@ -1,7 +1,6 @@
 -- When two edges cross (document 01, "Unchanged"; the source's `edges_intersect_properly`, `cross_product_sign`). Definitions only.
-use mathlib.Core.Path.{_≡_}
-use mathlib.Core.Bool.{Bool, false, not, _&&_, _||_}
-use lib.Ieee.{Float, binary64, isNan, lt, sub, mul, ofBits}
+use mathlib.Core.Bool.{Bool, not, cond, _&&_, _||_}
+use lib.Ieee.{Float, binary64, lt, sub, mul, ofBits}
 use Rattle.binary64.specs.Compare.{minimum, maximum, near}
 use Rattle.tile.specs.declared.Coord.{Coord}
 
@@ -9,20 +8,20 @@ abbrev pub zero64 : Float
 zero64 = ofBits binary64 0
 
 -- which side of the line from a to b the point c lies on, by the sign; each operation rounded once, in the source's order
-unfoldable pub crossProduct : Coord → Coord → Coord → Float
-crossProduct a b c =
+unfoldable pub crossProductSign : Coord → Coord → Coord → Float
+crossProductSign a b c =
     sub binary64 (mul binary64 (sub binary64 (b .x) (a .x)) (sub binary64 (c .y) (a .y))) (mul binary64 (sub binary64 (b .y) (a .y)) (sub binary64 (c .x) (a .x)))
 
 unfoldable pub aboveBelow : Float → Float → Bool
 aboveBelow d e = lt zero64 d && lt e zero64
 
--- the ends c and d of an edge lie on both sides of the edge from a to b
+-- the ends c and d of an edge lie strictly on opposite sides of the line through a and b, in floats
 unfoldable pub splits : Coord → Coord → Coord → Coord → Bool
-splits a b c d = aboveBelow (crossProduct a b c) (crossProduct a b d) || aboveBelow (crossProduct a b d) (crossProduct a b c)
+splits a b c d = aboveBelow (crossProductSign a b c) (crossProductSign a b d) || aboveBelow (crossProductSign a b d) (crossProductSign a b c)
 
 -- "`edges_intersect_properly` says so in floats"
-unfoldable pub properly : Coord → Coord → Coord → Coord → Bool
-properly a1 a2 b1 b2 = splits b1 b2 a1 a2 && splits a1 a2 b1 b2
+unfoldable pub intersectProperly : Coord → Coord → Coord → Coord → Bool
+intersectProperly a1 a2 b1 b2 = splits b1 b2 a1 a2 && splits a1 a2 b1 b2
 
 -- "shorter than 1e-10 in both axes"; of neighbours: "differ by less than 1e-10 in x and in y"
 unfoldable pub short : Coord → Coord → Bool
@@ -37,11 +36,18 @@ apart a1 a2 b1 b2 = apartOn (a1 .x) (a2 .x) (b1 .x) (b2 .x) || apartOn (a1 .y) (
 
 -- "Two edges cross if their boxes are not apart, neither is shorter than 1e-10 in both axes, and `edges_intersect_properly` says so"
 unfoldable pub cross : Coord → Coord → Coord → Coord → Bool
-cross a1 a2 b1 b2 = not (apart a1 a2 b1 b2) && (not (short a1 a2 || short b1 b2) && properly a1 a2 b1 b2)
+cross a1 a2 b1 b2 = not (apart a1 a2 b1 b2) && (not (short a1 a2 || short b1 b2) && intersectProperly a1 a2 b1 b2)
 
--- none of four is a NaN
-pub record Numbers (a b c d : Float) : Type 0 where
-  pub first : isNan a ≡ false
-  pub second : isNan b ≡ false
-  pub third : isNan c ≡ false
-  pub fourth : isNan d ≡ false
+-- ---- the test of the boxes in an axis, as it is computed
+
+-- the lower of two numbers; a where one of them is NaN
+unfoldable pub lower : Float → Float → Float
+lower a b = cond (lt b a) b a
+
+-- the higher of two numbers; a where one of them is NaN
+unfoldable pub higher : Float → Float → Float
+higher a b = cond (lt a b) b a
+
+-- the lower of the two high ends is below the higher of the two low ends; where none of the four is NaN, this is `apartOn`
+unfoldable pub separate : Float → Float → Float → Float → Bool
+separate a1 a2 b1 b2 = lt (lower (higher b1 b2) (higher a1 a2)) (higher (lower b1 b2) (lower a1 a2))

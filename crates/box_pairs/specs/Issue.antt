@@ -1,6 +1,6 @@
 -- What is wrong with an exterior (document 01, "Unchanged"). Definitions only.
 use mathlib.Core.Path.{_≡_}
-use mathlib.Core.Bool.{Bool, false, not, cond, _&&_, _||_}
+use mathlib.Core.Bool.{Bool, true, false, not, cond, _&&_, _||_}
 use mathlib.Core.List.{List, [], _∷_}
 use Prim.Native.Nat.{ℕ, _*_, _<_, _≤_, _^_}
 use lib.Dec.{ltb}
@@ -10,7 +10,7 @@ use Rattle.tile.specs.declared.Coord.{Coord}
 use Rattle.box_pairs.specs.declared.Issue.{Issue}
 use Rattle.box_pairs.specs.declared.Issue.the-variants.{Sound, Short, Repeated, Crossing}
 use Rattle.box_pairs.specs.Cross.{short}
-use Rattle.box_pairs.specs.Pairs.{crossing}
+use Rattle.box_pairs.specs.Pairs.{selfIntersecting}
 
 -- "two neighbours differ by less than 1e-10 in x and in y, the last segment excepted"
 unfoldable pub repeated : List Coord → Bool
@@ -21,10 +21,21 @@ repeated (p ∷ q ∷ s ∷ r) = short p q || repeated (q ∷ s ∷ r)
 
 -- "An exterior has an issue if it has fewer than 4 coordinates; or two neighbours ..; or, unless `assume_simple` is set, two edges cross"
 unfoldable pub issueOf : Bool → List Coord → Issue
-issueOf simple r = cond (ltb (length r) 4) Short (cond (repeated r) Repeated (cond (not simple && crossing r) Crossing Sound))
+issueOf simple r = cond (ltb (length r) 4) Short (cond (repeated r) Repeated (cond (not simple && selfIntersecting r) Crossing Sound))
 
--- the room that the work on a ring of n coordinates needs
-pub record Room (n : ℕ) (ring work : List Float) (order : List ℕ) : Type 0 where
+-- whether an exterior whose issue is this one has an issue, in the words of the document
+unfoldable pub hasIssue : Issue → Bool
+-- no issue
+hasIssue Sound = false
+-- "fewer than 4 coordinates"
+hasIssue Short = true
+-- "two neighbours differ by less than 1e-10 in x and in y, the last segment excepted"
+hasIssue Repeated = true
+-- "two edges cross"
+hasIssue Crossing = true
+
+-- the room that the work on a ring of n coordinates needs; `small` is for the positions, which are u32
+pub record IssueRoom (n : ℕ) (ring work : List Float) (order : List ℕ) : Type 0 where
   pub ring-room : 2 * n ≤ length ring
   pub work-room : 2 * n ≤ length work
   pub order-room : n ≤ length order

@@ -1,15 +1,12 @@
 // Whether two edges cross: the source's `edges_intersect_properly`, between edges that are long enough and whose boxes meet.
 ghost use mathlib.Core.Path.{_≡_};
-ghost use mathlib.Core.Bool.{false};
-ghost use lib.Ieee.{isNan};
-ghost use Rattle.binary64.specs.Compare.{minimum, maximum};
 ghost use Rattle.box_pairs.specs.Cross as S;
 use binary64::compare::is_near;
 use tile::Coord;
 
 // Which side of the line from a to b the point c lies on, by the sign.
 fn cross_product_sign(a: Coord, b: Coord, c: Coord) -> f64
-    ensures { λ r. ⌜ r ≡ S.crossProduct a b c ⌝ }
+    ensures { λ r. ⌜ r ≡ S.crossProductSign a b c ⌝ }
 {
     (b.x - a.x) * (c.y - a.y) - (b.y - a.y) * (c.x - a.x)
 }
@@ -20,7 +17,7 @@ fn above_below(d: f64, e: f64) -> bool
     d > 0.0 && e < 0.0
 }
 
-// Whether the ends of the edge from c to d lie on both sides of the edge from a to b.
+// Whether c and d lie strictly on opposite sides of the line through a and b, in floats.
 fn splits(a: Coord, b: Coord, c: Coord, d: Coord) -> bool
     ensures { λ r. ⌜ r ≡ S.splits a b c d ⌝ }
 {
@@ -30,7 +27,7 @@ fn splits(a: Coord, b: Coord, c: Coord, d: Coord) -> bool
 }
 
 fn edges_intersect_properly(a1: Coord, a2: Coord, b1: Coord, b2: Coord) -> bool
-    ensures { λ r. ⌜ r ≡ S.properly a1 a2 b1 b2 ⌝ }
+    ensures { λ r. ⌜ r ≡ S.intersectProperly a1 a2 b1 b2 ⌝ }
 {
     splits(b1, b2, a1, a2) && splits(a1, a2, b1, b2)
 }
@@ -42,9 +39,9 @@ pub fn is_short(a: Coord, b: Coord) -> bool
     is_near(a.x, b.x) && is_near(a.y, b.y)
 }
 
-// The lower and the higher of two numbers, each by one instruction: where the first is no NaN, they are `minimum` and `maximum`.
+// The lower and the higher of two numbers. They have this form, and not that of `minimum` and `maximum`, so that each can be one instruction; that is not proved.
 fn lower(a: f64, b: f64) -> f64
-    ensures { λ r. ⌜ (isNan a ≡ false → r ≡ minimum a b) ⌝ }
+    ensures { λ r. ⌜ r ≡ S.lower a b ⌝ }
 {
     if b < a {
         return b;
@@ -53,7 +50,7 @@ fn lower(a: f64, b: f64) -> f64
 }
 
 fn higher(a: f64, b: f64) -> f64
-    ensures { λ r. ⌜ (isNan a ≡ false → r ≡ maximum a b) ⌝ }
+    ensures { λ r. ⌜ r ≡ S.higher a b ⌝ }
 {
     if a < b {
         return b;
@@ -61,9 +58,9 @@ fn higher(a: f64, b: f64) -> f64
     a
 }
 
-// Whether, of numbers that are no NaN, those from a1 to a2 and those from b1 to b2 are apart: one comparison, which is foreseen more often than two.
+// Whether the numbers from a1 to a2 and those from b1 to b2 are apart, where none of the four is NaN: one branch, which is predicted more often than two.
 pub fn is_apart(a1: f64, a2: f64, b1: f64, b2: f64) -> bool
-    ensures { λ r. ⌜ (S.Numbers a1 a2 b1 b2 → r ≡ S.apartOn a1 a2 b1 b2) ⌝ }
+    ensures { λ r. ⌜ r ≡ S.separate a1 a2 b1 b2 ⌝ }
 {
     let low = higher(lower(b1, b2), lower(a1, a2));
     let high = lower(higher(b1, b2), higher(a1, a2));

@@ -1,8 +1,7 @@
 // Predicates and sweep: whether two edges of a ring cross, and what is wrong with an exterior.
 // `cross` tests two edges, `pairs` finds a pair of edges that cross, `merge` sorts the edges for the sweep.
 ghost use mathlib.Core.Path.{_≡_};
-ghost use mathlib.Core.Bool.{true, false};
-ghost use Prim.Native.Nat.{_+_, _*_, _≤_};
+ghost use Prim.Native.Nat.{_*_, _≤_};
 ghost use lib.ListN.{length};
 ghost use Rattle.box_pairs.specs.Pairs.{front};
 ghost use Rattle.box_pairs.specs.Issue as S;
@@ -12,7 +11,7 @@ pub mod cross;
 pub mod merge;
 pub mod pairs;
 
-// What is wrong with an exterior: nothing, too few coordinates, two neighbours that are one, two edges that cross.
+// What is wrong with an exterior: nothing, fewer than 4 coordinates, two neighbours less than 1e-10 apart in x and in y (the last segment excepted), two edges that cross.
 pub enum Issue {
     Sound,
     Short,
@@ -37,7 +36,7 @@ fn has_repeated(ring: &[f64], n: usize) -> bool
     false
 }
 
-// What is wrong with the ring of n coordinates at the front of a slice. The crossing test is left out where the ring is known to be simple.
+// What is wrong with the ring of n coordinates at the front of a slice. The crossing test is left out where the ring is assumed to be simple.
 pub fn find_issue(
     ring: &[f64],
     n: usize,
@@ -45,7 +44,7 @@ pub fn find_issue(
     work: &mut [f64],
     order: &mut [u32],
 ) -> Issue
-    requires { ⌜ S.Room n (now ring) (now work) (now order) ⌝ }
+    requires { ⌜ S.IssueRoom n (now ring) (now work) (now order) ⌝ }
     ensures { λ r. ⌜ r ≡ S.issueOf «assume_simple» (front (now (ring .entry)) n) ⌝ }
     ensures { λ _. ⌜ S.Unused n (now (work .entry)) (now (order .entry)) (now (work .exit)) (now (order .exit)) ⌝ }
 {

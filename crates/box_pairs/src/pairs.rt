@@ -1,10 +1,9 @@
 // Whether two edges of a ring cross: all pairs for a short ring, and a sweep over the edges by their lowest x for a long one.
 ghost use mathlib.Core.Path.{_≡_};
-ghost use mathlib.Core.Bool.{false};
 ghost use Prim.Native.Nat.{_+_, _*_, _<_, _≤_};
 ghost use lib.ListN.{length};
 ghost use Rattle.box_pairs.specs.Pairs as S;
-ghost use Rattle.box_pairs.specs.Issue.{Room, Unused};
+ghost use Rattle.box_pairs.specs.Issue.{IssueRoom, Unused};
 use super::cross::crosses;
 use super::cross::is_apart;
 use super::merge::sort;
@@ -13,12 +12,12 @@ use binary64::compare::minimum;
 use tile::ring::coord_at;
 
 // Rings of more edges than this are swept.
-const SCANNED: usize = 32;
+const SCAN_LIMIT: usize = 32;
 
-// Whether the boxes of the edges i and j may meet in y: one comparison, small enough to stand in the loops. Most pairs are gone with it.
-fn is_level(ring: &[f64], i: usize, j: usize) -> bool
+// Whether the boxes of the edges i and j may meet in y. It is kept small so that it can be inlined into the loops; that is not proved.
+fn may_meet_in_y(ring: &[f64], i: usize, j: usize) -> bool
     requires { ⌜ (2 * i + 3 < length (now ring)) × (2 * j + 3 < length (now ring)) ⌝ }
-    ensures { λ r. ⌜ (r ≡ false → S.edgesAt (now (ring .entry)) i j ≡ false) ⌝ }
+    ensures { λ r. ⌜ r ≡ S.mayMeetInY (now (ring .entry)) i j ⌝ }
 {
     let a1 = coord_at(ring, i);
     let a2 = coord_at(ring, i + 1);
@@ -39,17 +38,18 @@ fn edges_cross(ring: &[f64], i: usize, j: usize) -> bool
     crosses(a1, a2, b1, b2)
 }
 
-// Whether two of the n edges cross, by a look at all pairs.
-pub fn scan_pairs(ring: &[f64], n: usize) -> bool
-    requires { ⌜ 2 * (n + 1) ≤ length (now ring) ⌝ }
-    ensures { λ r. ⌜ r ≡ S.crossing (S.front (now (ring .entry)) (n + 1)) ⌝ }
+// Whether two of the first `edges` edges cross, by a look at all pairs.
+pub fn scan_pairs(ring: &[f64], edges: usize) -> bool
+    requires { ⌜ S.HasEdges edges (now ring) ⌝ }
+    ensures { λ r. ⌜ r ≡ S.selfIntersecting (S.front (now (ring .entry)) (edges + 1)) ⌝ }
 {
     let mut found = false;
     let mut i = 0usize;
-    'pairs: while i < n {
+    'pairs: while i < edges {
         let mut j = i + 1;
-        while j < n {
-            if is_level(ring, i, j) {
+        while j < edges {
+            // `edges_cross` repeats this test of y: for speed, as most pairs end at the inlined test.
+            if may_meet_in_y(ring, i, j) {
                 if edges_cross(ring, i, j) {
                     found = true;
                     break 'pairs;
@@ -62,13 +62,13 @@ pub fn scan_pairs(ring: &[f64], n: usize) -> bool
     found
 }
 
-// Notes the lowest x of each of the n edges.
-fn note_lows(ring: &[f64], work: &mut [f64], n: usize)
-    requires { ⌜ (2 * (n + 1) ≤ length (now ring)) × (n ≤ length (now work)) ⌝ }
-    ensures { λ _. ⌜ S.Noted n (S.front (now (ring .entry)) (n + 1)) (now (work .entry)) (now (work .exit)) ⌝ }
+// Notes the lowest x of each of the first `edges` edges.
+fn note_lows(ring: &[f64], work: &mut [f64], edges: usize)
+    requires { ⌜ S.HasEdges edges (now ring) × (edges ≤ length (now work)) ⌝ }
+    ensures { λ _. ⌜ S.Noted edges (S.front (now (ring .entry)) (edges + 1)) (now (work .entry)) (now (work .exit)) ⌝ }
 {
     let mut i = 0usize;
-    while i < n {
+    while i < edges {
         let p = coord_at(ring, i);
         let q = coord_at(ring, i + 1);
         work[i] = minimum(p.x, q.x);
@@ -76,27 +76,28 @@ fn note_lows(ring: &[f64], work: &mut [f64], n: usize)
     }
 }
 
-// Whether two of the n edges cross, by a sweep over the edges in the order of their lowest x, which stand in `lows`:
+// Whether two of the first `edges` edges cross, by a sweep over the edges in the order of their lowest x, which stand in `lows`:
 // past the first that starts beyond an edge's end no other meets it.
-fn sweep_sorted(ring: &[f64], lows: &[f64], order: &[u32], n: usize) -> bool
-    requires { ⌜ (2 * (n + 1) ≤ length (now ring)) × (n ≤ length (now lows)) ⌝ }
-    requires { ⌜ S.Swept n (S.front (now ring) (n + 1)) (now lows) (now order) ⌝ }
-    ensures { λ r. ⌜ r ≡ S.crossing (S.front (now (ring .entry)) (n + 1)) ⌝ }
+fn sweep_sorted(ring: &[f64], lows: &[f64], order: &[u32], edges: usize) -> bool
+    requires { ⌜ S.HasEdges edges (now ring) × (edges ≤ length (now lows)) ⌝ }
+    requires { ⌜ S.Swept edges (S.front (now ring) (edges + 1)) (now lows) (now order) ⌝ }
+    ensures { λ r. ⌜ r ≡ S.selfIntersecting (S.front (now (ring .entry)) (edges + 1)) ⌝ }
 {
     let mut found = false;
     let mut p = 0usize;
-    'pairs: while p < n {
+    'pairs: while p < edges {
         let i = order[p] as usize;
         let a1 = coord_at(ring, i);
         let a2 = coord_at(ring, i + 1);
         let high = maximum(a1.x, a2.x);
         let mut q = p + 1;
-        while q < n {
+        while q < edges {
             let j = order[q] as usize;
             if lows[j] > high {
                 break;
             }
-            if is_level(ring, i, j) {
+            // for speed, as in `scan_pairs`
+            if may_meet_in_y(ring, i, j) {
                 if edges_cross(ring, i, j) {
                     found = true;
                     break 'pairs;
@@ -109,27 +110,27 @@ fn sweep_sorted(ring: &[f64], lows: &[f64], order: &[u32], n: usize) -> bool
     found
 }
 
-// Whether two of the n edges cross, by a sweep.
-pub fn sweep_pairs(ring: &[f64], n: usize, work: &mut [f64], order: &mut [u32]) -> bool
-    requires { ⌜ Room (n + 1) (now ring) (now work) (now order) ⌝ }
-    ensures { λ r. ⌜ r ≡ S.crossing (S.front (now (ring .entry)) (n + 1)) ⌝ }
-    ensures { λ _. ⌜ Unused (n + 1) (now (work .entry)) (now (order .entry)) (now (work .exit)) (now (order .exit)) ⌝ }
+// Whether two of the first `edges` edges cross, by a sweep.
+pub fn sweep_pairs(ring: &[f64], edges: usize, work: &mut [f64], order: &mut [u32]) -> bool
+    requires { ⌜ IssueRoom (edges + 1) (now ring) (now work) (now order) ⌝ }
+    ensures { λ r. ⌜ r ≡ S.selfIntersecting (S.front (now (ring .entry)) (edges + 1)) ⌝ }
+    ensures { λ _. ⌜ Unused (edges + 1) (now (work .entry)) (now (order .entry)) (now (work .exit)) (now (order .exit)) ⌝ }
 {
-    note_lows(ring, work, n);
-    sort(work, order, n);
-    sweep_sorted(ring, work, order, n)
+    note_lows(ring, work, edges);
+    sort(work, order, edges);
+    sweep_sorted(ring, work, order, edges)
 }
 
-// Whether two of the n edges cross.
-pub fn any_edge_pair(ring: &[f64], n: usize, work: &mut [f64], order: &mut [u32]) -> bool
-    requires { ⌜ Room (n + 1) (now ring) (now work) (now order) ⌝ }
-    ensures { λ r. ⌜ r ≡ S.crossing (S.front (now (ring .entry)) (n + 1)) ⌝ }
-    ensures { λ _. ⌜ Unused (n + 1) (now (work .entry)) (now (order .entry)) (now (work .exit)) (now (order .exit)) ⌝ }
+// Whether two of the first `edges` edges cross.
+pub fn any_edge_pair(ring: &[f64], edges: usize, work: &mut [f64], order: &mut [u32]) -> bool
+    requires { ⌜ IssueRoom (edges + 1) (now ring) (now work) (now order) ⌝ }
+    ensures { λ r. ⌜ r ≡ S.selfIntersecting (S.front (now (ring .entry)) (edges + 1)) ⌝ }
+    ensures { λ _. ⌜ Unused (edges + 1) (now (work .entry)) (now (order .entry)) (now (work .exit)) (now (order .exit)) ⌝ }
 {
-    if n <= SCANNED {
-        return scan_pairs(ring, n);
+    if edges <= SCAN_LIMIT {
+        return scan_pairs(ring, edges);
     }
-    sweep_pairs(ring, n, work, order)
+    sweep_pairs(ring, edges, work, order)
 }
 
 // Whether two edges of the ring of n coordinates cross.
@@ -139,8 +140,8 @@ pub fn has_self_intersecting_edges(
     work: &mut [f64],
     order: &mut [u32],
 ) -> bool
-    requires { ⌜ Room n (now ring) (now work) (now order) ⌝ }
-    ensures { λ r. ⌜ r ≡ S.crossing (S.front (now (ring .entry)) n) ⌝ }
+    requires { ⌜ IssueRoom n (now ring) (now work) (now order) ⌝ }
+    ensures { λ r. ⌜ r ≡ S.selfIntersecting (S.front (now (ring .entry)) n) ⌝ }
     ensures { λ _. ⌜ Unused n (now (work .entry)) (now (order .entry)) (now (work .exit)) (now (order .exit)) ⌝ }
 {
     if n == 0 {

@@ -8,8 +8,8 @@ use lib.Dec.{leb, ltb}
 use lib.Ieee.{Float}
 use lib.ListN.{length}
 use borrow.Author.Tests.{leb-true, ltb-true}
-use Rattle.box_pairs.specs.Pairs.{front, crossing}
-use Rattle.box_pairs.specs.Issue.{Room}
+use Rattle.box_pairs.specs.Pairs.{front, selfIntersecting}
+use Rattle.box_pairs.specs.Issue.{IssueRoom}
 use Rattle.probe.specs.Edges.{hasRoom, flagCode}
 
 both : (p q : Bool) → (p && q) ≡ true → (p ≡ true) × (q ≡ true)
@@ -17,7 +17,7 @@ both true true g = (refl, refl)
 both true false g = absurd (false≢true g)
 both false q g = absurd (false≢true g)
 
-pub room-of : (ring work : List Float) (order : List ℕ) → hasRoom (length ring / 2) work order ≡ true → Room (length ring / 2) ring work order
+pub room-of : (ring work : List Float) (order : List ℕ) → hasRoom (length ring / 2) work order ≡ true → IssueRoom (length ring / 2) ring work order
 unfolding hasRoom
 room-of ring work order h =
     let n = length ring / 2 in
@@ -34,5 +34,5 @@ room-of ring work order h =
 pub one-edge-less : (P : ℕ → Type 0) (n : ℕ) → (n ≡ 0 → ⊥) → P n → P (n - 1 + 1)
 one-edge-less P n h p = let q : n ≡ n - 1 + 1 = omega arith in subst P q p
 
-pub same-verdict : (ring : List Float) (n : ℕ) (b : Bool) → (n ≡ 0 → ⊥) → b ≡ crossing (front ring (n - 1 + 1)) → flagCode b ≡ flagCode (crossing (front ring n))
+pub same-verdict : (ring : List Float) (n : ℕ) (b : Bool) → (n ≡ 0 → ⊥) → b ≡ selfIntersecting (front ring (n - 1 + 1)) → flagCode b ≡ flagCode (selfIntersecting (front ring n))
 same-verdict ring n b h e = let q : n - 1 + 1 ≡ n = omega arith in rw (e, q)

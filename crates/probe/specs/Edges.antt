@@ -7,7 +7,7 @@ use lib.Ieee.{Float}
 use lib.ListN.{length}
 use Rattle.box_pairs.specs.declared.Issue.{Issue}
 use Rattle.box_pairs.specs.declared.Issue.the-variants.{Sound, Short, Repeated, Crossing}
-use Rattle.box_pairs.specs.Pairs.{front, crossing}
+use Rattle.box_pairs.specs.Pairs.{front, selfIntersecting}
 use Rattle.box_pairs.specs.Issue.{issueOf}
 
 abbrev pub issueCode : Issue → ℕ
@@ -27,8 +27,8 @@ foundIssue ring simple work order =
     cond (hasRoom (length ring / 2) work order) (issueCode (issueOf (not (eqb simple 0)) (front ring (length ring / 2)))) 255
 
 unfoldable pub scanned : List Float → ℕ
-scanned ring = cond (eqb (length ring / 2) 0) 255 (flagCode (crossing (front ring (length ring / 2))))
+scanned ring = cond (eqb (length ring / 2) 0) 255 (flagCode (selfIntersecting (front ring (length ring / 2))))
 
 unfoldable pub swept : List Float → List Float → List ℕ → ℕ
 swept ring work order =
-    cond (eqb (length ring / 2) 0) 255 (cond (hasRoom (length ring / 2) work order) (flagCode (crossing (front ring (length ring / 2)))) 255)
+    cond (eqb (length ring / 2) 0) 255 (cond (hasRoom (length ring / 2) work order) (flagCode (selfIntersecting (front ring (length ring / 2)))) 255)

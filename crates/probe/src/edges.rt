@@ -1,6 +1,7 @@
-// The issue finder of `box_pairs`, and its scan and sweep apart, so that they can be compared on one ring. Every call tests the room first and answers 255 where it is short.
+// The issue finder of `box_pairs`, and its scan and sweep apart, so that they can be compared on one ring.
+// The issue finder and the sweep test the room of `work` and `order` first and answer 255 where it is short; the scan needs none and tests none.
+// The scan and the sweep answer 255 for a ring of no coordinates. What the calls leave in `work` and `order` is left open here.
 ghost use mathlib.Core.Path.{_≡_};
-ghost use Prim.Native.Nat.{_-_, _/_, _<_};
 ghost use Rattle.probe.specs.Edges as S;
 use box_pairs::Issue;
 

@@ -1,7 +1,7 @@
--- `cross::crosses` meets its contract: each way out by its law. Where a coordinate is NaN the boxes' tests say nothing, and no edges split each other. Assumes nothing.
+-- `cross::crosses` meets its contract: each way out by its law. Assumes nothing.
 use mathlib.Core.Path.{_≡_, sym, _∙_}
 use mathlib.Core.Bool.{true}
-use Rattle.box_pairs.specs.Cross.{properly}
+use Rattle.box_pairs.specs.Cross.{intersectProperly}
 use Rattle.box_pairs.proofs.Crossing.{apart-x, apart-y, not-properly, cross-properly}
 use borrow.Author.Needs.{needs}
 use Rattle.box_pairs.proofs.cross.crosses.Statement.{statement}
@@ -13,7 +13,7 @@ is-apart-requires c κs = search needs
 returns : tie.Need-returns
 returns c =
     let a = c .before .before .args in
-    sym (apart-y (a .a1) (a .a2) (a .b1) (a .b2) (λ n. sym (c .if1 .taken) ∙ c .before .is-apart .ensures n))
+    sym (apart-y (a .a1) (a .a2) (a .b1) (a .b2) (sym (c .before .is-apart .ensures) ∙ c .if1 .taken))
 
 is-apart-requires-2 : tie.Need-is-apart-requires-2
 is-apart-requires-2 c κs = search needs
@@ -21,7 +21,7 @@ is-apart-requires-2 c κs = search needs
 returns-2 : tie.Need-returns-2
 returns-2 c =
     let a = c .before .before .before .before .args in
-    sym (apart-x (a .a1) (a .a2) (a .b1) (a .b2) (λ n. sym (c .if2 .taken) ∙ c .before .is-apart2 .ensures n))
+    sym (apart-x (a .a1) (a .a2) (a .b1) (a .b2) (sym (c .before .is-apart2 .ensures) ∙ c .if2 .taken))
 
 edges-intersect-properly-requires : tie.Need-edges-intersect-properly-requires
 edges-intersect-properly-requires c κs = search needs
@@ -32,9 +32,9 @@ is-short-requires c κs = search needs
 returns-3 : tie.Need-returns-3
 returns-3 c =
     let a = c .before .before .before .before .before .before .before .before .args in
-    let p : properly (a .a1) (a .a2) (a .b1) (a .b2) ≡ true = sym (c .before .before .before .edges-intersect-properly .ensures) ∙ c .before .before .if3 .taken in
-    sym (cross-properly (a .a1) (a .a2) (a .b1) (a .b2) p (λ n. sym (c .before .before .before .before .if2 .left) ∙ c .before .before .before .before .before .is-apart2 .ensures n)
-    (λ n. sym (c .before .before .before .before .before .before .if1 .left) ∙ c .before .before .before .before .before .before .before .is-apart .ensures n)
+    let p : intersectProperly (a .a1) (a .a2) (a .b1) (a .b2) ≡ true = sym (c .before .before .before .edges-intersect-properly .ensures) ∙ c .before .before .if3 .taken in
+    sym (cross-properly (a .a1) (a .a2) (a .b1) (a .b2) p (sym (c .before .before .before .before .before .is-apart2 .ensures) ∙ c .before .before .before .before .if2 .left)
+    (sym (c .before .before .before .before .before .before .before .is-apart .ensures) ∙ c .before .before .before .before .before .before .if1 .left)
     ∙ rw (← c .before .is-short .ensures, c .if4 .taken))
 
 is-short-requires-2 : tie.Need-is-short-requires-2
@@ -43,10 +43,10 @@ is-short-requires-2 c κs = search needs
 returns-4 : tie.Need-returns-4
 returns-4 c =
     let a = c .before .before .before .before .before .before .before .before .before .args in
-    let p : properly (a .a1) (a .a2) (a .b1) (a .b2) ≡ true = sym (c .before .before .before .before .edges-intersect-properly .ensures) ∙ c .before .before .before .if3 .taken in
+    let p : intersectProperly (a .a1) (a .a2) (a .b1) (a .b2) ≡ true = sym (c .before .before .before .before .edges-intersect-properly .ensures) ∙ c .before .before .before .if3 .taken in
     sym (cross-properly (a .a1) (a .a2) (a .b1) (a .b2) p
-    (λ n. sym (c .before .before .before .before .before .if2 .left) ∙ c .before .before .before .before .before .before .is-apart2 .ensures n)
-    (λ n. sym (c .before .before .before .before .before .before .before .if1 .left) ∙ c .before .before .before .before .before .before .before .before .is-apart .ensures n)
+    (sym (c .before .before .before .before .before .before .is-apart2 .ensures) ∙ c .before .before .before .before .before .if2 .left)
+    (sym (c .before .before .before .before .before .before .before .before .is-apart .ensures) ∙ c .before .before .before .before .before .before .before .if1 .left)
     ∙ rw (← c .before .before .is-short .ensures, c .before .if4 .left, ← c .is-short2 .ensures))
 
 returns-5 : tie.Need-returns-5

@@ -15,7 +15,7 @@ abbrev μ-loop : tie.MeasureT-loop
 μ-loop ring work₀ n i₀ work i = n - i
 
 loop-holds : tie.Need-loop-holds Inv-loop μ-loop
-loop-holds c = let s = c .before .before in note-start (s .args .n) (front (s .args .ring .now) (s .args .n + 1)) (s .args .work .now)
+loop-holds c = let s = c .before .before in note-start (s .args .edges) (front (s .args .ring .now) (s .args .edges + 1)) (s .args .work .now)
 
 coord-at-requires : tie.Need-coord-at-requires Inv-loop μ-loop
 coord-at-requires c κs = search needs
@@ -45,9 +45,9 @@ loop-again : tie.Need-loop-again Inv-loop μ-loop
 loop-again c =
     let l = c .before .before .before .before .loop in
     let s = c .before .before .before .before .before .before .before in
-    note-step (s .args .n) (l .i) (front (s .args .ring .now) (s .args .n + 1)) (s .args .work .now) (l .work) (c .minimum .result) (c .before .before .before .loop-test .taken) (s .pre .1)
+    note-step (s .args .edges) (l .i) (front (s .args .ring .now) (s .args .edges + 1)) (s .args .work .now) (l .work) (c .minimum .result) (c .before .before .before .loop-test .taken) (s .pre .1)
     (c .minimum .ensures ∙ rw (c .before .before .coord-at .ensures, c .before .coord-at2 .ensures)
-    (low-front (s .args .ring .now) (s .args .n) (s .pre .0) (l .i) (c .before .before .before .loop-test .taken))) (l .inv)
+    (low-front (s .args .ring .now) (s .args .edges) (s .pre .0) (l .i) (c .before .before .before .loop-test .taken))) (l .inv)
 
 same-length : tie.Need-same-length Inv-loop μ-loop
 same-length c = c .before .loop .inv .same
@@ -56,7 +56,7 @@ returns : tie.Need-returns Inv-loop μ-loop
 returns c =
     let l = c .before .loop in
     let s = c .before .before .before .before in
-    note-end (s .args .n) (l .i) (front (s .args .ring .now) (s .args .n + 1)) (s .args .work .now) (l .work) (c .loop-test .left) (l .inv)
+    note-end (s .args .edges) (l .i) (front (s .args .ring .now) (s .args .edges + 1)) (s .args .work .now) (l .work) (c .loop-test .left) (l .inv)
 
 pub note-lows-spec : {M : Type 1} → statement M
 note-lows-spec =

@@ -21,7 +21,7 @@ sweep-sorted-requires c κs =
         omega
             (arith, s .pre .work-room, c .before .before .before .before .before .before .before .before .before .before .before .note-lows .kept .1 .0, c .before .before .before .before .before .before .sort .ensures .0 .same),
       ),
-      noted-swept (s .args .n) (front (s .args .ring .now) (s .args .n + 1)) (s .args .work .now) _ _ (s .args .order .now) _
+      noted-swept (s .args .edges) (front (s .args .ring .now) (s .args .edges + 1)) (s .args .work .now) _ _ (s .args .order .now) _
           (c .before .before .before .before .before .before .before .before .before .before .before .note-lows .ensures) (c .before .before .before .before .before .before .sort .ensures .0)
           (c .before .before .before .before .before .before .sort .ensures .1),
     )
@@ -36,7 +36,7 @@ returns : tie.Need-returns
 returns c =
     let s = c .before .before .before .before .before .before .before .before .before .before .before .before .before .before .before .before .before in (
       c .sweep-sorted .ensures,
-      noted-unused (s .args .n) (front (s .args .ring .now) (s .args .n + 1)) (s .args .work .now) _ _ (s .args .order .now) _
+      noted-unused (s .args .edges) (front (s .args .ring .now) (s .args .edges + 1)) (s .args .work .now) _ _ (s .args .order .now) _
           (c .before .before .before .before .before .before .before .before .before .before .before .before .note-lows .ensures)
           (c .before .before .before .before .before .before .before .sort .ensures .0) (c .before .before .before .before .before .before .before .sort .ensures .1),
     )

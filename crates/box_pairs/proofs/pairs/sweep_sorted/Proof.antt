@@ -11,7 +11,7 @@ use Rattle.binary64.specs.TotalOrder.{key}
 use Rattle.tile.specs.declared.Coord.{Coord}
 use Rattle.box_pairs.specs.Pairs.{front, edgesCross, edgesAt, lowX}
 use Rattle.box_pairs.proofs.Sweep.{Inner, Outer, Clear, atSlots, Sweeps, outer-start, inner-start, inner-next, outer-next, sweep-hit, sweep-stop, sweep-done}
-use Rattle.box_pairs.proofs.Edges.{crossing-front, edges-front, high-front, stops, edge-sweeps}
+use Rattle.box_pairs.proofs.Edges.{crossing-front, edges-front, never-meet, high-front, stops, edge-sweeps}
 use borrow.Author.Needs.{needs}
 use Rattle.box_pairs.proofs.pairs.sweep_sorted.Statement.{statement}
 use Rattle.box_pairs.proofs.pairs.sweep_sorted.Tie as tie
@@ -30,17 +30,17 @@ abbrev μ-pairs : tie.MeasureT-pairs
 
 -- the ring, and what the sweep asks of its edges
 abbrev ring-of : tie.Start Inv-loop μ-loop Inv-pairs μ-pairs → List Coord
-ring-of s = front (s .args .ring .now) (s .args .n + 1)
+ring-of s = front (s .args .ring .now) (s .args .edges + 1)
 
 sweeps : (o : tie.At-pairs Inv-loop μ-loop Inv-pairs μ-pairs)
-    → Sweeps (λ i. key (lowX (ring-of (o .before .before .before .before)) i)) (o .before .before .before .before .args .n) (stops (ring-of (o .before .before .before .before)))
+    → Sweeps (λ i. key (lowX (ring-of (o .before .before .before .before)) i)) (o .before .before .before .before .args .edges) (stops (ring-of (o .before .before .before .before)))
     (edgesCross (ring-of (o .before .before .before .before)))
 sweeps o =
     let s = o .before .before .before .before in
-    edge-sweeps (s .args .ring .now) (s .args .n) (s .pre .0 .0) (λ i. o .before .before .before .shared-slice-known .given i)
+    edge-sweeps (s .args .ring .now) (s .args .edges) (s .pre .0 .0) (λ i. o .before .before .before .shared-slice-known .given i)
 
 -- the verdict on the positions in the slots p and q
-verdict : (c : tie.At-loop Inv-loop μ-loop Inv-pairs μ-pairs) (q : ℕ) → q < c .before .before .before .before .before .before .before .before .before .before .args .n
+verdict : (c : tie.At-loop Inv-loop μ-loop Inv-pairs μ-pairs) (q : ℕ) → q < c .before .before .before .before .before .before .before .before .before .before .args .edges
     → edgesAt (c .before .before .before .before .before .before .before .before .before .before .args .ring .now)
     (getD (c .before .before .before .before .before .before .before .before .before .before .args .order .now) (c .before .before .before .before .before .before .pairs .p) 0)
     (getD (c .before .before .before .before .before .before .before .before .before .before .args .order .now) q 0)
@@ -49,11 +49,11 @@ verdict : (c : tie.At-loop Inv-loop μ-loop Inv-pairs μ-pairs) (q : ℕ) → q 
 verdict c q l =
     let s = c .before .before .before .before .before .before .before .before .before .before in
     let below = s .pre .1 .positions .below in
-    edges-front (s .args .ring .now) (s .args .n) (s .pre .0 .0) _ _
+    edges-front (s .args .ring .now) (s .args .edges) (s .pre .0 .0) _ _
     (below (c .before .before .before .before .before .before .pairs .p) (c .before .before .before .before .before .pairs-test .taken)) (below q l)
 
 -- the test that breaks the inner loop off
-stop-test : (c : tie.At-loop Inv-loop μ-loop Inv-pairs μ-pairs) (q : ℕ) → q < c .before .before .before .before .before .before .before .before .before .before .args .n
+stop-test : (c : tie.At-loop Inv-loop μ-loop Inv-pairs μ-pairs) (q : ℕ) → q < c .before .before .before .before .before .before .before .before .before .before .args .edges
     → lt (c .before .maximum .result)
     (getD (c .before .before .before .before .before .before .before .before .before .before .args .lows .now)
     (getD (c .before .before .before .before .before .before .before .before .before .before .args .order .now) q 0) nan)
@@ -64,12 +64,12 @@ stop-test c q l =
     let below = s .pre .1 .positions .below in
     ap₂ lt
     (c .before .maximum .ensures ∙ rw (c .before .before .before .coord-at .ensures, c .before .before .coord-at2 .ensures)
-    (high-front (s .args .ring .now) (s .args .n) (s .pre .0 .0) _
+    (high-front (s .args .ring .now) (s .args .edges) (s .pre .0 .0) _
     (below (c .before .before .before .before .before .before .pairs .p) (c .before .before .before .before .before .pairs-test .taken))))
     (s .pre .1 .noted _ (below q l))
 
 pairs-holds : tie.Need-pairs-holds Inv-loop μ-loop Inv-pairs μ-pairs
-pairs-holds c = let s = c .before .before .before in outer-start (atSlots (edgesCross (ring-of s)) (s .args .order .now)) (s .args .n)
+pairs-holds c = let s = c .before .before .before in outer-start (atSlots (edgesCross (ring-of s)) (s .args .order .now)) (s .args .edges)
 
 mul-i : tie.Need-mul-i Inv-loop μ-loop Inv-pairs μ-pairs
 mul-i c = omega (arith, c .before .before .before .before .before .pre .1 .positions .long, c .pairs-test .taken)
@@ -117,7 +117,7 @@ loop-holds : tie.Need-loop-holds Inv-loop μ-loop Inv-pairs μ-pairs
 loop-holds c =
     let o = c .before .before .before .before .before in
     let s = o .before .before .before .before in
-    inner-start (atSlots (edgesCross (ring-of s)) (s .args .order .now)) (s .args .n) (o .pairs .p) (o .pairs .found) (c .before .before .before .before .pairs-test .taken) (o .pairs .inv)
+    inner-start (atSlots (edgesCross (ring-of s)) (s .args .order .now)) (s .args .edges) (o .pairs .p) (o .pairs .found) (c .before .before .before .before .pairs-test .taken) (o .pairs .inv)
 
 mul-j : tie.Need-mul-j Inv-loop μ-loop Inv-pairs μ-pairs
 mul-j c = omega (arith, c .before .before .before .before .before .before .before .before .before .before .before .pre .1 .positions .long, c .loop-test .taken)
@@ -136,8 +136,8 @@ shared-slice-read-if1 : tie.Need-shared-slice-read-if1 Inv-loop μ-loop Inv-pair
 shared-slice-read-if1 c =
     omega (arith, c .before .before .before .before .before .before .before .before .before .before .before .before .before .pre .0 .1, c .before .before .before .before .before .before .before .before .before .before .before .before .before .pre .1 .positions .below (c .before .before .before .loop .q) (c .before .before .loop-test .taken))
 
-is-level-requires : tie.Need-is-level-requires Inv-loop μ-loop Inv-pairs μ-pairs
-is-level-requires c κs =
+may-meet-in-y-requires : tie.Need-may-meet-in-y-requires Inv-loop μ-loop Inv-pairs μ-pairs
+may-meet-in-y-requires c κs =
     let s = c .before .before .before .before .before .before .before .before .before .before .before .before .before .before in
     let below = s .pre .1 .positions .below in (
       omega (
@@ -177,8 +177,8 @@ loop-again c =
     let s = c .before .before .before .before .before .before .before .before .before .before .before .before .before .before .before .before in
     let is = verdict (c .before .before .before .before .before .before) (l .q) (c .before .before .before .before .before .loop-test .taken) in
     let miss : atSlots (edgesCross (ring-of s)) (s .args .order .now) (o .pairs .p) (l .q) ≡ false =
-    ⊎-elim (λ w. sym is ∙ (sym (w .1 .ensures) ∙ w .2 .left)) (λ w. sym is ∙ c .before .is-level .ensures (w .left)) (c .if2 .came) in
-    inner-next (atSlots (edgesCross (ring-of s)) (s .args .order .now)) (s .args .n) (o .pairs .p) (l .q) (l .found) (c .before .before .before .before .before .loop-test .taken)
+    ⊎-elim (λ w. sym is ∙ (sym (w .1 .ensures) ∙ w .2 .left)) (λ w. sym is ∙ never-meet _ _ _ (sym (c .before .may-meet-in-y .ensures) ∙ w .left)) (c .if2 .came) in
+    inner-next (atSlots (edgesCross (ring-of s)) (s .args .order .now)) (s .args .edges) (o .pairs .p) (l .q) (l .found) (c .before .before .before .before .before .loop-test .taken)
     (l .inv) miss
 
 add-p : tie.Need-add-p Inv-loop μ-loop Inv-pairs μ-pairs
@@ -192,29 +192,29 @@ pairs-again c =
     let l = c .before .loop in
     let o = c .before .before .before .before .before .before .before in
     let s = c .before .before .before .before .before .before .before .before .before .before .before in
-    let rest : Clear (atSlots (edgesCross (ring-of s)) (s .args .order .now)) (o .pairs .p) (s .args .n) =
+    let rest : Clear (atSlots (edgesCross (ring-of s)) (s .args .order .now)) (o .pairs .p) (s .args .edges) =
     ⊎-elim (λ w. λ q a b. l .inv .clear q a (omega (arith, w .left)))
-    (λ w. sweep-stop (λ i. key (lowX (ring-of s) i)) (s .args .n) (stops (ring-of s)) (edgesCross (ring-of s)) (sweeps o) (s .args .order .now) (s .pre .1 .positions) (s .pre .1 .sorted)
+    (λ w. sweep-stop (λ i. key (lowX (ring-of s) i)) (s .args .edges) (stops (ring-of s)) (edgesCross (ring-of s)) (sweeps o) (s .args .order .now) (s .pre .1 .positions) (s .pre .1 .sorted)
     (o .pairs .p) (l .q) (l .inv .after) (w .0 .taken) (l .inv .clear) (sym (stop-test (c .before) (l .q) (w .0 .taken)) ∙ w .3 .taken))
     (c .loop-test .came) in
-    outer-next (atSlots (edgesCross (ring-of s)) (s .args .order .now)) (s .args .n) (o .pairs .p) (l .q) (o .pairs .found) (l .found)
+    outer-next (atSlots (edgesCross (ring-of s)) (s .args .order .now)) (s .args .edges) (o .pairs .p) (l .q) (o .pairs .found) (l .found)
     (c .before .before .before .before .before .before .pairs-test .taken) (o .pairs .inv) (l .inv) rest
 
 returns : tie.Need-returns Inv-loop μ-loop Inv-pairs μ-pairs
 returns c =
     let o = c .before in
     let s = c .before .before .before .before .before in
-    sweep-done (λ i. key (lowX (ring-of s) i)) (s .args .n) (stops (ring-of s)) (edgesCross (ring-of s)) (sweeps o) (s .args .order .now) (s .pre .1 .positions) (s .pre .1 .sorted)
+    sweep-done (λ i. key (lowX (ring-of s) i)) (s .args .edges) (stops (ring-of s)) (edgesCross (ring-of s)) (sweeps o) (s .args .order .now) (s .pre .1 .positions) (s .pre .1 .sorted)
     (o .pairs .p) (o .pairs .found) (c .pairs-test .left) (o .pairs .inv)
-    ∙ sym (crossing-front (s .args .ring .now) (s .args .n) (s .pre .0 .0))
+    ∙ sym (crossing-front (s .args .ring .now) (s .args .edges) (s .pre .0 .0))
 
 returns-2 : tie.Need-returns-2 Inv-loop μ-loop Inv-pairs μ-pairs
 returns-2 c =
     let l = c .before .before .before .before .before .before .before .before .loop in
     let o = c .before .before .before .before .before .before .before .before .before .before .before .before .before .before in
     let s = c .before .before .before .before .before .before .before .before .before .before .before .before .before .before .before .before .before .before in
-    sym (crossing-front (s .args .ring .now) (s .args .n) (s .pre .0 .0)
-    ∙ sweep-hit (λ i. key (lowX (ring-of s) i)) (s .args .n) (stops (ring-of s)) (edgesCross (ring-of s)) (sweeps o) (s .args .order .now) (s .pre .1 .positions) (s .pre .1 .sorted)
+    sym (crossing-front (s .args .ring .now) (s .args .edges) (s .pre .0 .0)
+    ∙ sweep-hit (λ i. key (lowX (ring-of s) i)) (s .args .edges) (stops (ring-of s)) (edgesCross (ring-of s)) (sweeps o) (s .args .order .now) (s .pre .1 .positions) (s .pre .1 .sorted)
     (o .pairs .p) (l .q) (l .inv .after) (c .before .before .before .before .before .before .before .loop-test .taken)
     (sym (verdict (c .before .before .before .before .before .before .before .before) (l .q) (c .before .before .before .before .before .before .before .loop-test .taken)) ∙
     (sym (c .before .edges-cross .ensures) ∙ c .if3 .taken)))
@@ -242,7 +242,7 @@ sweep-sorted-spec =
     cast-j
     mul-if1
     shared-slice-read-if1
-    is-level-requires
+    may-meet-in-y-requires
     edges-cross-requires
     add-q-2
     loop-less

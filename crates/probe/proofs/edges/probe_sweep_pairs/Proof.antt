@@ -3,7 +3,7 @@ use mathlib.Core.Path.{sym, _∙_}
 use Prim.Native.Nat.{_/_}
 use lib.ListN.{length}
 use borrow.Author.Tests.{eq-eqb, ne-eqb}
-use Rattle.box_pairs.specs.Issue.{Room}
+use Rattle.box_pairs.specs.Issue.{IssueRoom}
 use Rattle.probe.specs.Edges.{swept}
 use Rattle.probe.proofs.Rooms.{room-of, one-edge-less, same-verdict}
 use borrow.Author.Needs.{needs}
@@ -23,7 +23,7 @@ sub-sweep-pairs c = search needs
 sweep-pairs-requires : tie.Need-sweep-pairs-requires
 sweep-pairs-requires c κs =
     let s = c .before .before .before .before .before .before .before .before .before .before .args in
-    one-edge-less (λ n. Room n (s .ring .now) (s .work .now) (s .order .now)) (length (s .ring .now) / 2) (c .before .before .before .before .before .before .if1 .left)
+    one-edge-less (λ n. IssueRoom n (s .ring .now) (s .work .now) (s .order .now)) (length (s .ring .now) / 2) (c .before .before .before .before .before .before .if1 .left)
     (room-of (s .ring .now) (s .work .now) (s .order .now) (sym (c .before .before .before .has-room .ensures) ∙ c .before .before .if2 .taken))
 
 flag-code-requires : tie.Need-flag-code-requires
