@@ -1,18 +1,14 @@
 -- `clip_ring_against_edge` meets its contract. The invariant: the pass goes on from where the loop started to where it stands. Assumes nothing.
-use mathlib.Core.Path.{_≡_, refl, sym, _∙_, ap}
-use mathlib.Core.Bool.{true, false}
-use mathlib.Core.List.{_++_}
-use Prim.Native.Nat.{ℕ, suc, _+_, _*_, _-_, _≤_, _<_}
-use native.Mathlib.Nat.{le-refl}
+use mathlib.Core.Path.{_≡_, refl, _∙_}
+use mathlib.Core.Bool.{true}
+use Prim.Native.Nat.{_*_, _-_, _≤_}
 use native.Mathlib.Omega.{arith}
 use borrow.Author.Needs.{needs}
 use denote.Ref.{now}
 use lib.ListN.{length, take}
-use lib.Seq.{sets}
-use Rattle.tile.specs.Ring.{coords, flat}
-use Rattle.tile.proofs.Rings.{length-front, front-at}
-use Rattle.sutherland_hodgman.specs.Clip.{around}
-use Rattle.sutherland_hodgman.specs.Walk.{none, before, left, Onward}
+use Rattle.tile.specs.Ring.{coords}
+use Rattle.tile.proofs.Rings.{length-front}
+use Rattle.sutherland_hodgman.specs.Walk.{left, Onward}
 use Rattle.sutherland_hodgman.proofs.Walking.{onward-here, onward-then, walk-end, past-end, pass-around, pass-room, pass-none}
 use Rattle.sutherland_hodgman.proofs.clip_ring_against_edge.Statement.{statement}
 use Rattle.sutherland_hodgman.proofs.clip_ring_against_edge.Tie as tie

@@ -1,18 +1,12 @@
 -- `leave` meets its contract: a run of steps from in to in, and one from in to out. Assumes nothing.
-use mathlib.Core.Path.{_≡_, refl, sym, _∙_, ap}
 use mathlib.Core.Bool.{true, false}
-use mathlib.Core.List.{_++_}
-use Prim.Native.Nat.{ℕ, suc, _+_, _*_, _-_, _≤_, _<_}
-use native.Mathlib.Nat.{le-refl}
+use Prim.Native.Nat.{_+_, _*_, _≤_}
 use native.Mathlib.Omega.{arith}
 use borrow.Author.Needs.{needs}
 use denote.Ref.{now}
 use lib.ListN.{length, take}
-use lib.Seq.{sets}
-use Rattle.tile.specs.Ring.{coords, flat}
-use Rattle.tile.proofs.Rings.{length-front, front-at}
-use Rattle.sutherland_hodgman.specs.Clip.{around}
-use Rattle.sutherland_hodgman.specs.Walk.{none, before, left, Onward}
+use Rattle.tile.specs.Ring.{coords}
+use Rattle.sutherland_hodgman.specs.Walk.{left}
 use Rattle.sutherland_hodgman.proofs.Walking.{onward-then, onward-end, in-out, in-out-room, past-end}
 use Rattle.sutherland_hodgman.proofs.leave.Statement.{statement}
 use Rattle.sutherland_hodgman.proofs.leave.Tie as tie

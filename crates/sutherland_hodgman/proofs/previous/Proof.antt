@@ -1,16 +1,8 @@
 -- `previous` meets its contract. Assumes nothing.
-use mathlib.Core.Path.{_≡_, refl, sym, _∙_, ap}
-use mathlib.Core.Bool.{true, false}
-use mathlib.Core.List.{_++_}
-use Prim.Native.Nat.{ℕ, suc, _+_, _*_, _-_, _≤_, _<_}
-use native.Mathlib.Nat.{le-refl}
+use mathlib.Core.Path.{_∙_}
 use native.Mathlib.Omega.{arith}
 use borrow.Author.Needs.{needs}
 use denote.Ref.{now}
-use lib.ListN.{length, take}
-use Rattle.tile.specs.Ring.{coords, flat}
-use Rattle.tile.proofs.Rings.{length-front, front-at}
-use Rattle.sutherland_hodgman.specs.Walk.{none, before, left, Onward}
 use Rattle.sutherland_hodgman.proofs.Walking.{first-before, later-before}
 use Rattle.sutherland_hodgman.proofs.previous.Statement.{statement}
 use Rattle.sutherland_hodgman.proofs.previous.Tie as tie

@@ -1,16 +1,13 @@
 -- `skip_outside` meets its contract: a step from out to out gives nothing. Assumes nothing.
-use mathlib.Core.Path.{_≡_, refl, sym, _∙_, ap}
+use mathlib.Core.Path.{_≡_, _∙_}
 use mathlib.Core.Bool.{true, false}
-use mathlib.Core.List.{_++_}
-use Prim.Native.Nat.{ℕ, suc, _+_, _*_, _-_, _≤_, _<_}
-use native.Mathlib.Nat.{le-refl}
+use Prim.Native.Nat.{_*_, _-_, _≤_}
 use native.Mathlib.Omega.{arith}
 use borrow.Author.Needs.{needs}
 use denote.Ref.{now}
-use lib.ListN.{length, take}
-use Rattle.tile.specs.Ring.{coords, flat}
-use Rattle.tile.proofs.Rings.{length-front, front-at}
-use Rattle.sutherland_hodgman.specs.Walk.{none, before, left, Onward}
+use lib.ListN.{take}
+use Rattle.tile.specs.Ring.{coords}
+use Rattle.sutherland_hodgman.specs.Walk.{left}
 use Rattle.sutherland_hodgman.proofs.Walking.{out-out, judged}
 use Rattle.sutherland_hodgman.proofs.skip_outside.Statement.{statement}
 use Rattle.sutherland_hodgman.proofs.skip_outside.Tie as tie

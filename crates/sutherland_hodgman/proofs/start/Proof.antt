@@ -1,18 +1,13 @@
 -- `start` meets its contract. Assumes nothing.
-use mathlib.Core.Path.{_≡_, refl, sym, _∙_, ap}
+use mathlib.Core.Path.{ap}
 use mathlib.Core.Bool.{true, false}
-use mathlib.Core.List.{_++_}
-use Prim.Native.Nat.{ℕ, suc, _+_, _*_, _-_, _≤_, _<_}
-use native.Mathlib.Nat.{le-refl}
+use Prim.Native.Nat.{_*_}
 use native.Mathlib.Omega.{arith}
 use borrow.Author.Needs.{needs}
 use denote.Ref.{now}
 use lib.ListN.{length, take}
-use lib.Seq.{sets}
-use Rattle.tile.specs.Ring.{coords, flat}
-use Rattle.tile.proofs.Rings.{length-front, front-at}
-use Rattle.sutherland_hodgman.specs.Clip.{around}
-use Rattle.sutherland_hodgman.specs.Walk.{none, before, left, Onward}
+use Rattle.tile.specs.Ring.{coords}
+use Rattle.sutherland_hodgman.specs.Walk.{left}
 use Rattle.sutherland_hodgman.proofs.Walking.{onward-here, begun, starts, judged}
 use Rattle.sutherland_hodgman.proofs.start.Statement.{statement}
 use Rattle.sutherland_hodgman.proofs.start.Tie as tie
