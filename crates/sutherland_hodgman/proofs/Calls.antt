@@ -1,4 +1,4 @@
--- The ring call: what the checks leave, and what copying in, cutting and copying out make of the lent slices. Assumes nothing.
+-- The ring call: what the checks leave, and what cutting and copying out make of the lent slices. Assumes nothing.
 use mathlib.Core.Path.{_≡_, refl, sym, _∙_}
 use mathlib.Core.Logic.{_⊎_, inl, inr}
 use mathlib.Core.Bool.{Bool, true, false, _||_, true≢false}
@@ -8,7 +8,7 @@ use native.Mathlib.Omega.{arith}
 use lib.Dec.{ltb, eqb}
 use lib.Ieee.{Float}
 use lib.ListN.{length, take, drop}
-use lib.Seq.{take-length, take-at}
+use lib.Seq.{take-length}
 use borrow.Author.Tests.{ltb-false, eqb-false}
 use Rattle.binary64.specs.Slices.{zeros}
 use Rattle.tile.specs.declared.Coord.{Coord}
@@ -24,7 +24,7 @@ use Rattle.sutherland_hodgman.specs.Growth.{halfGrowth, fourHalfGrowths,
 use Rattle.sutherland_hodgman.specs.Clip.{clipRing}
 use Rattle.sutherland_hodgman.specs.Promise.{Promise}
 use Rattle.sutherland_hodgman.specs.Cutter.{Cut}
-use Rattle.sutherland_hodgman.proofs.Growth.{le-four, room-pass, clipRing-grows}
+use Rattle.sutherland_hodgman.proofs.Growth.{clipRing-grows}
 use Rattle.sutherland_hodgman.specs.Call.{refuse, checked, answered, ringAnswer, Done, ClippedTo, scratchAfter}
 
 -- ---- what passes the checks has room
@@ -63,10 +63,6 @@ passes-cuttable numbers a b out e =
       output = ltb-false out room (q4 .0);
     }
 
--- the ring itself has room
-pub cuttable-ring : {numbers a b out : ℕ} → Cuttable numbers a b out → numbers ≤ b
-cuttable-ring {numbers} {b = b} c = let g = room-pass (numbers / 2) b (numbers / 2) (c .second) (le-four (numbers / 2)) in omega (arith, c .even)
-
 -- ---- a cut ring has room in the output
 
 pub promise-room : (b : TileBounds) (r q : List Coord) → Promise b r q → length q ≤ B (length r)
@@ -78,14 +74,14 @@ promise-room b [] q p = go (length q) (p .vertices) (p .growth)
     go n (inr l) g = absurd (omega arith)
 promise-room b (p ∷ r) q h = let g = h .growth in omega arith
 
--- ---- copied in, cut, copied out
+-- ---- cut, copied out
 
 module _ (ring : List Float) (bounds : TileBounds) (numbers : 2 * (length ring / 2) ≡ length ring) where
   ring-length : length (coords ring) ≡ length ring / 2
   ring-length = length-coords (length ring / 2) ring (sym numbers)
 
-  pub copied-in : (b b′ : List Float) → b′ ≡ take (length ring) ring ++ drop (length ring) b → coords (take (2 * (length ring / 2)) b′) ≡ coords ring
-  copied-in b b′ e = rw (e, take-length ring, numbers, take-at ring (drop (length ring) b) (length ring) refl)
+  pub whole-ring : coords (take (2 * (length ring / 2)) ring) ≡ coords ring
+  whole-ring = rw (numbers, take-length ring)
 
   -- what stands at the front of the slice
   cut-ring : (r : ℕ) (after : List Float) → Cut bounds (coords ring) r after → coords (take (2 * r) after) ≡ clipRing bounds (coords ring)

@@ -14,7 +14,7 @@ use Rattle.tile.specs.Ring.{coords, flat, Written}
 use Rattle.tile.proofs.Rings.{length-flat, length-front, coords-front}
 use Rattle.sutherland_hodgman.specs.Clip.{pass, finish}
 use Rattle.sutherland_hodgman.specs.Growth.{halfGrowth, B}
-use Rattle.sutherland_hodgman.proofs.Growth.{pass-grows, halfGrowth-mono, grown, le-four, grown-four, room-pass, room-close}
+use Rattle.sutherland_hodgman.proofs.Growth.{pass-grows, halfGrowth-mono, grown, grown-four, room-pass, room-close}
 
 -- after j passes over n vertices: the ring r, k vertices long, at the front of d
 pub record Stage (j n : ℕ) (r : List Coord) (d : List Float) (k : ℕ) : Type 0 where
@@ -22,9 +22,9 @@ pub record Stage (j n : ℕ) (r : List Coord) (d : List Float) (k : ℕ) : Type 
   pub bounded : k ≤ grown j n
   pub front : coords (take (2 * k) d) ≡ r
 
-pub stage-start : (n : ℕ) (d : List Float) → 2 * B n ≤ length d → Stage 0 n (coords (take (2 * n) d)) d n
+pub stage-start : (n : ℕ) (d : List Float) → 2 * n ≤ length d → Stage 0 n (coords (take (2 * n) d)) d n
 unfolding grown
-stage-start n d h = record { count = sym (length-front d n (room-pass n (length d) n h (le-four n))); bounded = le-of-eq refl; front = refl }
+stage-start n d h = record { count = sym (length-front d n h); bounded = le-of-eq refl; front = refl }
 
 pub stage-next : (l : Edge) (b : TileBounds) {j n : ℕ} {r : List Coord} {d : List Float} {k : ℕ} (d0 d′ : List Float) (k′ : ℕ) → Stage j n r d k
     → Written (pass l b (coords (take (2 * k) d))) d0 k′ d′ → Stage (suc j) n (pass l b r) d′ k′

@@ -1,89 +1,179 @@
--- The loop of a pass: what it has written is the front of the definition's list, and what is left of that list is the steps that are left. Assumes nothing.
+-- The way of a pass from stand to stand: it starts with all of the definition's list left to write, goes on step by step, and ends with nothing left. Assumes nothing.
 use mathlib.Core.Path.{_≡_, refl, sym, _∙_, ap}
-use mathlib.Core.Bool.{Bool}
+use mathlib.Core.Bool.{Bool, true, false}
 use mathlib.Core.List.{List, [], _∷_, _++_}
 use Prim.Native.Nat.{ℕ, zero, suc, _+_, _*_, _-_, _≤_, _<_}
+use native.Mathlib.Nat.{add-zero}
 use native.Mathlib.Numerals.{add-one}
 use native.Mathlib.Omega.{arith}
-use lib.Ieee.{Float, nan}
-use lib.ListN.{length, getD, drop, length-append, length-drop, drop-of-length-le}
-use lib.Seq.{sets, drop-cons}
-use Rattle.binary64.proofs.Fill.{Upto, upto-start, upto-run, upto-end, run-rest, run-room}
+use lib.Ieee.{Float}
+use lib.ListN.{length, getD, take, drop, length-append, drop-of-length-le}
+use lib.Seq.{sets, sets-eq, length-sets, drop-cons}
 use Rattle.tile.specs.declared.Coord.{Coord}
 use Rattle.tile.specs.declared.TileBounds.{TileBounds}
 use Rattle.tile.specs.declared.Edge.{Edge}
-use Rattle.tile.specs.Ring.{flat, last, Written}
-use Rattle.tile.proofs.Rings.{flat-append, length-flat, last-at}
+use Rattle.tile.specs.Ring.{coords, flat, coordAt, last, Written}
+use Rattle.tile.proofs.Rings.{flat-append, length-flat, last-at, length-front, front-at}
 use Rattle.sutherland_hodgman.specs.Lines.{inside, crossing}
 use Rattle.sutherland_hodgman.specs.Clip.{step, steps, leaveOff, around, pass}
+use Rattle.sutherland_hodgman.specs.Walk.{none, before, left, Onward}
 use Rattle.sutherland_hodgman.specs.Growth.{halfGrowth}
 use Rattle.sutherland_hodgman.proofs.Growth.{pass-grows}
 
--- k vertices are written to d, which was d0; the steps go on from s, whose verdict is v, at the vertex i of the ring
-pub record Walking (l : Edge) (b : TileBounds) (ring : List Coord) (d0 : List Float) (d : List Float) (s : Coord) (v : Bool) (k i : ℕ) : Type 0 where
-  pub read : i ≤ length ring
-  pub verdict : v ≡ inside l b s
-  pub upto : Upto (flat (around l b ring)) d0 (2 * k) d
-  pub within : 2 * k ≤ length (flat (around l b ring))
-  pub left : drop (2 * k) (flat (around l b ring)) ≡ flat (steps l b v s (drop i ring))
+sets-append : (d : List Float) (j : ℕ) (a r : List Float) → sets d j (a ++ r) ≡ sets (sets d j a) (j + length a) r
+sets-append d j [] r = rw (add-zero j)
+sets-append d j (x ∷ a) r = let n : j + suc (length a) ≡ suc j + length a = omega arith in rw n (sets-append _ (suc j) a r)
 
-module _ (l : Edge) (b : TileBounds) where
-  -- the pass starts from the last vertex
-  around-from : (ring : List Coord) (n : ℕ) (z : Coord) → length ring ≡ suc n → around l b ring ≡ steps l b (inside l b (getD ring n z)) (getD ring n z) ring
-  unfolding around
-  around-from [] n z e = absurd (omega arith)
-  around-from (p ∷ r) n z e = let h : length r ≡ n = omega arith in rw (last-at p r z, h)
+module _ (l : Edge) (b : TileBounds) (ring : List Coord) where
+  pub onward-here : (v : Bool) (i k : ℕ) (d : List Float) → Onward l b ring v i k d v i k d
+  onward-here v i k d = record { count = refl; numbers = refl }
 
-  pub walking-start : (ring : List Coord) (d0 : List Float) (z s : Coord) (v : Bool) → 0 < length ring → s ≡ getD ring (length ring - 1) z → v ≡ inside l b s → Walking l b ring d0 d0 s v 0 0
-  walking-start ring d0 z s v h es ev =
-      let e = around-from ring (length ring - 1) z (omega arith) in
-      record { read = omega arith; verdict = ev; upto = upto-start _ d0; within = omega arith; left = rw (e, ev, es) }
+  pub onward-then : {v v′ v″ : Bool} {i i′ i″ k k′ k″ : ℕ} {d d′ d″ : List Float} → Onward l b ring v i k d v′ i′ k′ d′ → Onward l b ring v′ i′ k′ d′ v″ i″ k″ d″
+      → Onward l b ring v i k d v″ i″ k″ d″
+  onward-then f g = record { count = f .count ∙ g .count; numbers = f .numbers ∙ g .numbers }
+
+  -- past the last vertex nothing is left, whatever the verdict
+  pub left-none : (v : Bool) (i : ℕ) → length ring ≤ i → left l b ring v i ≡ []
+  unfolding left steps
+  left-none v i h = rw (drop-of-length-le ring h)
+
+  pub onward-end : (v v′ : Bool) (i k : ℕ) (d : List Float) → length ring ≤ i → Onward l b ring v i k d v′ i k d
+  onward-end v v′ i k d h = record { count = rw (left-none v i h, left-none v′ i h); numbers = rw (left-none v i h, left-none v′ i h) }
 
   -- the step to the vertex e, whose verdict is f
-  module _ {ring : List Coord} {d0 d : List Float} {s : Coord} {v : Bool} {k i : ℕ} (w : Walking l b ring d0 d s v k i) (z e : Coord) (f : Bool)
-      (h : i < length ring) (he : e ≡ getD ring i z) (hf : f ≡ inside l b e) where
-    split : drop (2 * k) (flat (around l b ring)) ≡ flat (step v f (crossing l b s e) e) ++ flat (steps l b f e (drop (suc i) ring))
-    unfolding steps
-    split = w .left ∙ rw (drop-cons ring i z h, ← he, ← hf) (flat-append (step v f (crossing l b s e) e) (steps l b f e (drop (suc i) ring)))
+  module _ (v f : Bool) (i : ℕ) (e : Coord) (h : i < length ring) (he : e ≡ getD ring i none) (hf : inside l b e ≡ f) where
+    pub left-step : left l b ring v i ≡ step v f (crossing l b (before ring i) e) e ++ left l b ring f (i + 1)
+    unfolding left steps
+    left-step = rw (add-one, drop-cons ring i none h, ← he, hf)
 
-    pub walking-room : 2 * (k + length (step v f (crossing l b s e) e)) ≤ length (flat (around l b ring))
-    walking-room =
-        omega (arith, run-room (flat (step v f (crossing l b s e) e)) _ (flat (around l b ring)) (2 * k) (w .within) split, length-flat (step v f (crossing l b s e) e))
+    pub step-room : (k space : ℕ) → 2 * (k + length (left l b ring v i)) ≤ space → 2 * (k + length (step v f (crossing l b (before ring i) e) e)) ≤ space
+    step-room k space r = omega (arith, ap length left-step, length-append (step v f (crossing l b (before ring i) e) e) (left l b ring f (i + 1)))
 
-    pub walking-step : (d′ : List Float) (k′ : ℕ) → length (flat (around l b ring)) ≤ length d0 → k′ ≡ k + length (step v f (crossing l b s e) e)
-        → d′ ≡ sets d (2 * k) (flat (step v f (crossing l b s e) e)) → Walking l b ring d0 d′ e f k′ (i + 1)
-    walking-step d′ k′ room hk hd =
-        let F = flat (around l b ring) in
-        let vs = flat (step v f (crossing l b s e) e) in
-        let n : 2 * k′ ≡ 2 * k + length vs = omega (arith, length-flat (step v f (crossing l b s e) e)) in
-        let g = walking-room in
+    pub onward-step : (s : Coord) (k : ℕ) (d : List Float) (k′ : ℕ) (d′ : List Float) → s ≡ before ring i → k′ ≡ k + length (step v f (crossing l b s e) e)
+        → d′ ≡ sets d (2 * k) (flat (step v f (crossing l b s e) e)) → Onward l b ring v i k d f (i + 1) k′ d′
+    onward-step s k d k′ d′ hs hk hd =
+        let st = step v f (crossing l b s e) e in
+        let r = left l b ring f (i + 1) in
+        let q : left l b ring v i ≡ st ++ r = left-step ∙ rw hs in
+        let n : 2 * k′ ≡ 2 * k + length (flat st) = omega (arith, length-flat st) in
         record {
-          read = omega arith;
-          verdict = hf;
-          upto = rw (hd, n) (upto-run nan vs _ (omega arith) split (w .upto));
-          within = rw hk g;
-          left = rw (n, add-one) (run-rest vs _ F (2 * k) split);
+          count = omega (arith, ap length q, length-append st r);
+          numbers = rw (q, flat-append st r, n, hd) (sets-append d (2 * k) (flat st) (flat r));
         }
 
-  pub walking-end : {ring : List Coord} {d0 d : List Float} {s : Coord} {v : Bool} {k i : ℕ} → Walking l b ring d0 d s v k i → length ring ≤ i → Written (around l b ring) d0 k d
-  unfolding steps flat
-  walking-end {ring} {k = k} {i = i} w h =
-      let e : drop (2 * k) (flat (around l b ring)) ≡ [] = w .left ∙ rw (drop-of-length-le ring h) in
-      let n : length (flat (around l b ring)) ≤ 2 * k = omega (arith, length-drop (2 * k) (flat (around l b ring)), ap length e) in
-      let m = w .within in
-      record { count = omega (arith, length-flat (around l b ring)); numbers = upto-end n (w .upto) }
+  -- the pass starts from the last vertex
+  pub around-left : (v : Bool) → 0 < length ring → inside l b (getD ring (length ring - 1) none) ≡ v → around l b ring ≡ left l b ring v 0
+  unfolding around left
+  around-left v h e = go ring refl
+    where
+      go : (r : List Coord) → r ≡ ring → around l b ring ≡ left l b ring v 0
+      go [] q = absurd (omega (arith, ap length q))
+      go (p ∷ r) q =
+          let n : length ring - 1 ≡ length r = omega (arith, ap length q) in
+          let m : getD ring (length ring - 1) none ≡ last p r = rw (n, ← q) (sym (last-at p r none)) in
+          let w : inside l b (last p r) ≡ v = rw m at e in
+          rw (m, ← q, w)
 
-  -- the pass goes around what is left when the closing vertex is left off
-  module _ (r kept : List Coord) (h : kept ≡ leaveOff r) where
-    pub pass-around : pass l b r ≡ around l b kept
-    unfolding pass
-    pass-around = rw h
+  pub onward-skip : (i j k : ℕ) (d : List Float) → left l b ring false i ≡ left l b ring false j → Onward l b ring false i k d false j k d
+  onward-skip i j k d e = record { count = rw e; numbers = rw e }
 
-    pub pass-room : (n space : ℕ) → length r ≡ n → 2 * halfGrowth n ≤ space → length (flat (around l b kept)) ≤ space
-    pass-room n space e g =
-        let k : length (around l b kept) ≤ halfGrowth n = rw (e, pass-around) at (pass-grows l b r) in
-        omega (arith, length-flat (around l b kept))
+  pub begun : (v v′ : Bool) (d : List Float) (i k : ℕ) (d′ : List Float) → around l b ring ≡ left l b ring v 0 → Onward l b ring v 0 0 d v′ i k d′
+      → (length (around l b ring) ≡ k + length (left l b ring v′ i)) × (sets d 0 (flat (around l b ring)) ≡ sets d′ (2 * k) (flat (left l b ring v′ i)))
+  begun v v′ d i k d′ q o = (omega (arith, ap length q, o .count), rw q (o .numbers))
 
-    pub pass-none : (d : List Float) → kept ≡ [] → Written (pass l b r) d 0 d
-    unfolding around flat
-    pass-none d e = let q : pass l b r ≡ [] = pass-around ∙ rw e in record { count = rw q; numbers = rw q }
+  -- it ends where nothing is left
+  pub walk-end : (d0 : List Float) (v : Bool) (i k : ℕ) (d : List Float) → length ring ≤ i → 2 * length (around l b ring) ≤ length d0
+      → length (around l b ring) ≡ k + length (left l b ring v i)
+      → sets d0 0 (flat (around l b ring)) ≡ sets d (2 * k) (flat (left l b ring v i)) → Written (around l b ring) d0 k d
+  unfolding flat
+  walk-end d0 v i k d h room c s =
+      let A = around l b ring in
+      let z = left-none v i h in
+      let n : k ≡ length A = omega (arith, ap length z) in
+      let f : length (flat A) ≡ 2 * k = omega (arith, length-flat A) in
+      let e : sets d0 0 (flat A) ≡ d = s ∙ rw z in
+      let o : 0 + length (flat A) ≡ length (flat A) = omega arith in
+      let p : sets d0 0 (flat A) ≡ flat A ++ drop (length (flat A)) d0 = rw o at (sets-eq (flat A) d0 0 (omega arith)) in
+      record { count = n; numbers = sym e ∙ rw f at p }
+
+-- the vertex before another in the ring of m vertices at the front of a slice
+module _ (s : List Float) (m : ℕ) (fits : 2 * m ≤ length s) where
+  pub first-before : 0 < m → (i : ℕ) → i ≡ 0 → coordAt s (m - 1) ≡ before (coords (take (2 * m) s)) i
+  first-before h i e = rw (e, length-front s m fits) (sym (front-at s m (m - 1) none fits (omega arith)))
+
+  pub later-before : (i : ℕ) → 0 < i → i ≤ m → coordAt s (i - 1) ≡ before (coords (take (2 * m) s)) i
+  later-before zero h k = absurd (omega arith)
+  later-before (suc i) h k = let e : suc i - 1 ≡ i = omega arith in rw e (sym (front-at s m i none fits (omega arith)))
+
+  pub past-end : (i : ℕ) → m ≤ i → length (coords (take (2 * m) s)) ≤ i
+  past-end i h = omega (arith, length-front s m fits)
+
+pub wrote : (d d′ : List Float) (k n : ℕ) (e : Coord) → d′ ≡ sets d (2 * k) (e .x ∷ e .y ∷ []) → length d ≡ n → length d′ ≡ n
+wrote d d′ k n e h q = ap length h ∙ length-sets d (2 * k) (e .x ∷ e .y ∷ []) ∙ q
+
+-- the steps of the ring of m vertices at the front of a slice
+module _ (l : Edge) (b : TileBounds) (s : List Float) (m : ℕ) (fits : 2 * m ≤ length s) where
+  two-more : (n : ℕ) → 2 * (n + 1) ≡ suc (suc (2 * n))
+  two-more n = omega arith
+
+  pub starts : (v : Bool) → 0 < m → inside l b (coordAt s (m - 1)) ≡ v → around l b (coords (take (2 * m) s)) ≡ left l b (coords (take (2 * m) s)) v 0
+  starts v h e =
+      let n = length-front s m fits in
+      around-left l b (coords (take (2 * m) s)) v (omega arith) (rw (n, front-at s m (m - 1) none fits (omega arith)) e)
+
+  module _ (i : ℕ) (h : i < m) where
+    in-ring : i < length (coords (take (2 * m) s))
+    in-ring = omega (arith, length-front s m fits)
+
+    the-vertex : coordAt s i ≡ getD (coords (take (2 * m) s)) i none
+    the-vertex = sym (front-at s m i none fits h)
+
+    pub out-out : inside l b (coordAt s i) ≡ false → left l b (coords (take (2 * m) s)) false i ≡ left l b (coords (take (2 * m) s)) false (i + 1)
+    out-out f = left-step l b (coords (take (2 * m) s)) false false i (coordAt s i) in-ring the-vertex f
+
+    pub in-in-room : inside l b (coordAt s i) ≡ true → (k space : ℕ) → 2 * (k + length (left l b (coords (take (2 * m) s)) true i)) ≤ space → 2 * (k + 1) ≤ space
+    in-in-room f k space r = step-room l b (coords (take (2 * m) s)) true true i (coordAt s i) in-ring the-vertex f k space r
+
+    pub in-out-room : inside l b (coordAt s i) ≡ false → (k space : ℕ) → 2 * (k + length (left l b (coords (take (2 * m) s)) true i)) ≤ space → 2 * (k + 1) ≤ space
+    in-out-room f k space r = step-room l b (coords (take (2 * m) s)) true false i (coordAt s i) in-ring the-vertex f k space r
+
+    pub out-in-room : inside l b (coordAt s i) ≡ true → (k space : ℕ) → 2 * (k + length (left l b (coords (take (2 * m) s)) false i)) ≤ space → 2 * (k + 2) ≤ space
+    out-in-room f k space r = step-room l b (coords (take (2 * m) s)) false true i (coordAt s i) in-ring the-vertex f k space r
+
+    pub in-in : inside l b (coordAt s i) ≡ true → (e : Coord) (k : ℕ) (d d′ : List Float) → e ≡ coordAt s i → d′ ≡ sets d (2 * k) (e .x ∷ e .y ∷ [])
+        → Onward l b (coords (take (2 * m) s)) true i k d true (i + 1) (k + 1) d′
+    unfolding flat
+    in-in f e k d d′ he hd = onward-step l b (coords (take (2 * m) s)) true true i (coordAt s i) in-ring the-vertex f _ k d (k + 1) d′ refl refl (hd ∙ rw he)
+
+    -- a crossing x of the line between the vertex p before and the vertex e
+    module _ (p e x : Coord) (hp : p ≡ before (coords (take (2 * m) s)) i) (he : e ≡ coordAt s i) (hx : x ≡ crossing l b p e) where
+      pub in-out : inside l b (coordAt s i) ≡ false → (k : ℕ) (d d′ : List Float) → d′ ≡ sets d (2 * k) (x .x ∷ x .y ∷ [])
+          → Onward l b (coords (take (2 * m) s)) true i k d false (i + 1) (k + 1) d′
+      unfolding flat
+      in-out f k d d′ hd =
+          let q : x ≡ crossing l b p (coordAt s i) = hx ∙ rw he in
+          onward-step l b (coords (take (2 * m) s)) true false i (coordAt s i) in-ring the-vertex f p k d (k + 1) d′ hp refl (hd ∙ rw q)
+
+      pub out-in : inside l b (coordAt s i) ≡ true → (k : ℕ) (d d₁ d₂ : List Float) → d₁ ≡ sets d (2 * k) (x .x ∷ x .y ∷ []) → d₂ ≡ sets d₁ (2 * (k + 1)) (e .x ∷ e .y ∷ [])
+          → Onward l b (coords (take (2 * m) s)) false i k d true (i + 1) (k + 2) d₂
+      unfolding flat
+      out-in f k d d₁ d₂ h₁ h₂ =
+          let q : x ≡ crossing l b p (coordAt s i) = hx ∙ rw he in
+          onward-step l b (coords (take (2 * m) s)) false true i (coordAt s i) in-ring the-vertex f p k d (k + 2) d₂ hp refl (h₂ ∙ rw (h₁, two-more k, he, q))
+
+-- what is judged is the vertex that was read
+pub judged : (l : Edge) (b : TileBounds) (e p : Coord) (t f : Bool) → e ≡ p → t ≡ inside l b e → t ≡ f → inside l b p ≡ f
+judged l b e p t f he ht hf = ap (inside l b) (sym he) ∙ sym ht ∙ hf
+
+-- the pass goes around what is left when the closing vertex is left off
+module _ (l : Edge) (b : TileBounds) (r kept : List Coord) (h : kept ≡ leaveOff r) where
+  pub pass-around : pass l b r ≡ around l b kept
+  unfolding pass
+  pass-around = rw h
+
+  pub pass-room : (n space : ℕ) → length r ≡ n → 2 * halfGrowth n ≤ space → 2 * length (around l b kept) ≤ space
+  pass-room n space e g = let k : length (around l b kept) ≤ halfGrowth n = rw (e, pass-around) at (pass-grows l b r) in omega arith
+
+  pub pass-none : (d : List Float) → kept ≡ [] → Written (pass l b r) d 0 d
+  unfolding around flat
+  pass-none d e = let q : pass l b r ≡ [] = pass-around ∙ rw e in record { count = rw q; numbers = rw q }

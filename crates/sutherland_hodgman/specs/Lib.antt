@@ -1,5 +1,6 @@
 pub mod Lines
 pub mod Clip
+pub mod Walk
 pub mod Growth
 pub mod Promise
 pub mod Cutter

@@ -74,7 +74,7 @@ pub fn check_ring(numbers: usize, a: usize, b: usize, out: usize) -> Check
     Check::Passes
 }
 
-// Cuts a ring that the checks pass: copies it in, cuts it and copies the result out. The scratch slices are left as the cutter leaves them.
+// Cuts a ring that the checks pass, and copies the result out. The scratch slices are left as the cutter leaves them.
 pub fn clip_lent(
     ring: &[f64],
     bounds: TileBounds,
@@ -85,8 +85,7 @@ pub fn clip_lent(
     requires { ⌜ S.checked (length (now ring)) (length (now a)) (length (now b)) (length (now out)) ≡ Check.Passes ⌝ }
     ensures { λ r. ⌜ S.ClippedTo (now (ring .entry)) bounds (now (out .entry)) r (now (out .exit)) ⌝ }
 {
-    copy(ring, b, ring.len());
-    let n = clip_ring(ring.len() / 2, bounds, a, b);
+    let n = clip_ring(ring, ring.len() / 2, bounds, a, b);
     copy(b, out, 2 * n);
     n
 }

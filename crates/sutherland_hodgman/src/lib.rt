@@ -1,11 +1,13 @@
 // Sutherland-Hodgman cutting of a ring at the four edges of the bounds: one pass, the ring cutter, and the ring call.
 ghost use mathlib.Core.Path.{_≡_};
-ghost use Prim.Native.Nat.{_+_, _*_, _≤_};
+ghost use mathlib.Core.Bool.{true, false};
+ghost use Prim.Native.Nat.{_+_, _*_, _≤_, _<_};
 ghost use lib.ListN.{length, take};
 ghost use lib.Seq.{sets};
-ghost use Rattle.tile.specs.Ring.{coords, flat, Written};
+ghost use Rattle.tile.specs.Ring.{coords, flat, coordAt, Written};
 ghost use Rattle.sutherland_hodgman.specs.Lines as L;
 ghost use Rattle.sutherland_hodgman.specs.Clip as S;
+ghost use Rattle.sutherland_hodgman.specs.Walk as W;
 ghost use Rattle.sutherland_hodgman.specs.Growth.{halfGrowth};
 ghost use Rattle.sutherland_hodgman.specs.Cutter.{Room, Cut};
 use binary64::interpolate;
@@ -72,37 +74,6 @@ struct Pass {
     len: usize,
 }
 
-// One step, from s to e: writes what it gives after the first len vertices, and answers how many there are now.
-fn step(
-    out: &mut [f64],
-    len: usize,
-    s: Coord,
-    s_inside: bool,
-    e: Coord,
-    e_inside: bool,
-    edge: Edge,
-    bounds: TileBounds,
-) -> usize
-    requires { ⌜ 2 * (len + length (S.step «s_inside» «e_inside» (L.crossing edge bounds s e) e)) ≤ length (now out) ⌝ }
-    ensures { λ r. ⌜ (r ≡ len + length (S.step «s_inside» «e_inside» (L.crossing edge bounds s e) e))
-        × (now (out .exit) ≡ sets (now (out .entry)) (2 * len) (flat (S.step «s_inside» «e_inside» (L.crossing edge bounds s e) e))) ⌝ }
-{
-    if s_inside {
-        if e_inside {
-            put(out, len, e);
-            return len + 1;
-        }
-        put(out, len, intersect(s, e, edge, bounds));
-        return len + 1;
-    }
-    if e_inside {
-        put(out, len, intersect(s, e, edge, bounds));
-        put(out, len + 1, e);
-        return len + 2;
-    }
-    len
-}
-
 // How many of the n vertices are left when the closing one is left off.
 fn left_off(ring: &[f64], n: usize) -> usize
     requires { ⌜ 2 * n ≤ length (now ring) ⌝ }
@@ -117,8 +88,127 @@ fn left_off(ring: &[f64], n: usize) -> usize
     n
 }
 
+// Where a pass stands: before the i-th vertex, with len vertices written.
+struct Walk {
+    i: usize,
+    len: usize,
+}
+
+// The vertex before the i-th, around the ring of m vertices.
+fn previous(ring: &[f64], m: usize, i: usize) -> Coord
+    requires { ⌜ (2 * m ≤ length (now ring)) × (0 < m) × (i ≤ m) ⌝ }
+    ensures { λ r. ⌜ r ≡ W.before (coords (take (2 * m) (now (ring .entry)))) i ⌝ }
+{
+    if i == 0 {
+        return coord_at(ring, m - 1);
+    }
+    coord_at(ring, i - 1)
+}
+
+// From a vertex that is in: copies the vertices that follow it as long as they are in, and stands before the first that is not.
+fn copy_inside(
+    ring: &[f64],
+    m: usize,
+    edge: Edge,
+    bounds: TileBounds,
+    out: &mut [f64],
+    at: Walk,
+) -> Walk
+    requires { ⌜ (2 * m ≤ length (now ring)) × (at .i ≤ m)
+        × (2 * (at .len + length (W.left edge bounds (coords (take (2 * m) (now ring))) true (at .i))) ≤ length (now out)) ⌝ }
+    ensures { λ r. ⌜ (at .i ≤ r .i) × (r .i ≤ m) × (r .i < m → L.inside edge bounds (coordAt (now (ring .entry)) (r .i)) ≡ false)
+        × W.Onward edge bounds (coords (take (2 * m) (now (ring .entry)))) true (at .i) (at .len) (now (out .entry)) true (r .i) (r .len) (now (out .exit)) ⌝ }
+{
+    let mut i = at.i;
+    let mut len = at.len;
+    while i < m {
+        let e = coord_at(ring, i);
+        if !is_inside(e, edge, bounds) {
+            return Walk { i, len };
+        }
+        put(out, len, e);
+        len += 1;
+        i += 1;
+    }
+    Walk { i, len }
+}
+
+// From a vertex that is out: the index of the first vertex from i on that is in, or m.
+fn skip_outside(ring: &[f64], m: usize, edge: Edge, bounds: TileBounds, i: usize) -> usize
+    requires { ⌜ (2 * m ≤ length (now ring)) × (i ≤ m) ⌝ }
+    ensures { λ r. ⌜ (i ≤ r) × (r ≤ m) × (r < m → L.inside edge bounds (coordAt (now (ring .entry)) r) ≡ true)
+        × (W.left edge bounds (coords (take (2 * m) (now (ring .entry)))) false i ≡ W.left edge bounds (coords (take (2 * m) (now (ring .entry)))) false r) ⌝ }
+{
+    let mut j = i;
+    while j < m {
+        let e = coord_at(ring, j);
+        if is_inside(e, edge, bounds) {
+            return j;
+        }
+        j += 1;
+    }
+    j
+}
+
+// From a vertex that is in to one that is out, or to the end.
+fn leave(ring: &[f64], m: usize, edge: Edge, bounds: TileBounds, out: &mut [f64], at: Walk) -> Walk
+    requires { ⌜ (2 * m ≤ length (now ring)) × (at .i < m)
+        × (2 * (at .len + length (W.left edge bounds (coords (take (2 * m) (now ring))) true (at .i))) ≤ length (now out)) ⌝ }
+    ensures { λ r. ⌜ (at .i < r .i) × (r .i ≤ m)
+        × W.Onward edge bounds (coords (take (2 * m) (now (ring .entry)))) true (at .i) (at .len) (now (out .entry)) false (r .i) (r .len) (now (out .exit)) ⌝ }
+{
+    let to = copy_inside(ring, m, edge, bounds, out, at);
+    if m <= to.i {
+        return to;
+    }
+    let s = previous(ring, m, to.i);
+    let e = coord_at(ring, to.i);
+    put(out, to.len, intersect(s, e, edge, bounds));
+    Walk {
+        i: to.i + 1,
+        len: to.len + 1,
+    }
+}
+
+// From a vertex that is out to one that is in, or to the end.
+fn enter(ring: &[f64], m: usize, edge: Edge, bounds: TileBounds, out: &mut [f64], at: Walk) -> Walk
+    requires { ⌜ (2 * m ≤ length (now ring)) × (0 < m) × (at .i ≤ m)
+        × (2 * (at .len + length (W.left edge bounds (coords (take (2 * m) (now ring))) false (at .i))) ≤ length (now out)) ⌝ }
+    ensures { λ r. ⌜ (at .i ≤ r .i) × (r .i ≤ m)
+        × W.Onward edge bounds (coords (take (2 * m) (now (ring .entry)))) false (at .i) (at .len) (now (out .entry)) true (r .i) (r .len) (now (out .exit)) ⌝ }
+{
+    let j = skip_outside(ring, m, edge, bounds, at.i);
+    if m <= j {
+        return Walk { i: j, len: at.len };
+    }
+    let s = previous(ring, m, j);
+    let e = coord_at(ring, j);
+    put(out, at.len, intersect(s, e, edge, bounds));
+    put(out, at.len + 1, e);
+    Walk {
+        i: j + 1,
+        len: at.len + 2,
+    }
+}
+
+// From the last vertex, before the first: nothing is done where it is in, else goes on to a vertex that is in, or to the end.
+fn start(ring: &[f64], m: usize, edge: Edge, bounds: TileBounds, out: &mut [f64]) -> Walk
+    requires { ⌜ (2 * m ≤ length (now ring)) × (0 < m)
+        × (2 * length (S.around edge bounds (coords (take (2 * m) (now ring)))) ≤ length (now out)) ⌝ }
+    ensures { λ r. ⌜ (r .i ≤ m)
+        × (length (S.around edge bounds (coords (take (2 * m) (now (ring .entry))))) ≡ r .len + length (W.left edge bounds (coords (take (2 * m) (now (ring .entry)))) true (r .i)))
+        × (sets (now (out .entry)) 0 (flat (S.around edge bounds (coords (take (2 * m) (now (ring .entry))))))
+        ≡ sets (now (out .exit)) (2 * r .len) (flat (W.left edge bounds (coords (take (2 * m) (now (ring .entry)))) true (r .i)))) ⌝ }
+{
+    let first = Walk { i: 0, len: 0 };
+    if is_inside(coord_at(ring, m - 1), edge, bounds) {
+        return first;
+    }
+    enter(ring, m, edge, bounds, out, first)
+}
+
 // Cuts the ring of n vertices at the front of a slice at one edge, and writes the result to the front of another.
-// The verdict on each vertex is carried from the step that ends in it to the one that starts there.
+// The verdict on the vertex before is where the code stands: in at the head of the loop, out between its two calls.
 fn clip_ring_against_edge(
     ring: &[f64],
     n: usize,
@@ -133,19 +223,12 @@ fn clip_ring_against_edge(
     if m == 0 {
         return Pass { len: 0 };
     }
-    let mut s = coord_at(ring, m - 1);
-    let mut s_inside = is_inside(s, edge, bounds);
-    let mut len = 0usize;
-    let mut i = 0usize;
-    while i < m {
-        let e = coord_at(ring, i);
-        let e_inside = is_inside(e, edge, bounds);
-        len = step(out, len, s, s_inside, e, e_inside, edge, bounds);
-        s = e;
-        s_inside = e_inside;
-        i += 1;
+    let mut at = start(ring, m, edge, bounds, out);
+    while at.i < m {
+        let outside = leave(ring, m, edge, bounds, out, at);
+        at = enter(ring, m, edge, bounds, out, outside);
     }
-    Pass { len }
+    Pass { len: at.len }
 }
 
 // Fewer than three vertices are none; else the ring is closed.
@@ -159,13 +242,13 @@ fn finish(ring: &mut [f64], n: usize) -> usize
     close(ring, n)
 }
 
-// Cuts the ring of n vertices at the front of b at all four edges; the result stands at the front of b, and the answer is its length. Demand 3 holds of it.
+// Cuts the ring of n vertices at the front of a slice at all four edges; the result stands at the front of b, and the answer is its length. Demand 3 holds of it.
 // What lies past it in b, and all of a, is left open.
-pub fn clip_ring(n: usize, bounds: TileBounds, a: &mut [f64], b: &mut [f64]) -> usize
-    requires { ⌜ Room n (length (now a)) (length (now b)) ⌝ }
-    ensures { λ r. ⌜ Cut bounds (coords (take (2 * n) (now (b .entry)))) r (now (b .exit)) ⌝ }
+pub fn clip_ring(ring: &[f64], n: usize, bounds: TileBounds, a: &mut [f64], b: &mut [f64]) -> usize
+    requires { ⌜ (2 * n ≤ length (now ring)) × Room n (length (now a)) (length (now b)) ⌝ }
+    ensures { λ r. ⌜ Cut bounds (coords (take (2 * n) (now (ring .entry)))) r (now (b .exit)) ⌝ }
 {
-    let left = clip_ring_against_edge(b, n, Edge::Left, bounds, a);
+    let left = clip_ring_against_edge(ring, n, Edge::Left, bounds, a);
     let right = clip_ring_against_edge(a, left.len, Edge::Right, bounds, b);
     let bottom = clip_ring_against_edge(b, right.len, Edge::Bottom, bounds, a);
     let top = clip_ring_against_edge(a, bottom.len, Edge::Top, bounds, b);

@@ -1,10 +1,8 @@
 -- `clip_ring` meets its contract: four stages, then the closing. Assumes nothing.
-use mathlib.Core.Path.{_≡_, refl, sym, _∙_, ap}
-use mathlib.Core.List.{List}
-use Prim.Native.Nat.{ℕ, _+_, _*_, _≤_}
+use Prim.Native.Nat.{_*_}
 use native.Mathlib.Omega.{arith}
 use denote.Ref.{now}
-use lib.ListN.{length, take}
+use lib.ListN.{take}
 use Rattle.tile.specs.declared.Edge.the-variants.{Left, Right, Bottom, Top}
 use Rattle.tile.specs.Ring.{coords}
 use Rattle.tile.proofs.Rings.{coords-flat}
@@ -18,21 +16,21 @@ use Rattle.sutherland_hodgman.proofs.clip_ring.Tie as tie
 clip-ring-against-edge-requires : tie.Need-clip-ring-against-edge-requires
 clip-ring-against-edge-requires c κs =
     let a = c .before .before .before .before in
-    stage-room _ _ (omega arith) (a .pre .second) (a .pre .first) (stage-start (a .args .n) (now (a .args .b)) (a .pre .second))
+    (a .pre .0, stage-room _ _ (omega arith) (a .pre .1 .first) (a .pre .1 .first) (stage-start (a .args .n) (now (a .args .ring)) (a .pre .0)) .1)
 
 clip-ring-against-edge-requires-2 : tie.Need-clip-ring-against-edge-requires-2
 clip-ring-against-edge-requires-2 c κs =
     let a = c .before .before .before .before .before .before .before .before .before in
-    let p = a .pre in
-    let s0 = stage-start (a .args .n) (now (a .args .b)) (p .second) in
+    let p = a .pre .1 in
+    let s0 = stage-start (a .args .n) (now (a .args .ring)) (a .pre .0) in
     let s1 = stage-next Left (a .args .bounds) _ _ _ s0 (c .before .before .before .before .clip-ring-against-edge .ensures) in
     stage-room _ _ (omega arith) (omega arith) (omega arith) s1
 
 clip-ring-against-edge-requires-3 : tie.Need-clip-ring-against-edge-requires-3
 clip-ring-against-edge-requires-3 c κs =
     let a = c .before .before .before .before .before .before .before .before .before .before .before .before .before .before in
-    let p = a .pre in
-    let s0 = stage-start (a .args .n) (now (a .args .b)) (p .second) in
+    let p = a .pre .1 in
+    let s0 = stage-start (a .args .n) (now (a .args .ring)) (a .pre .0) in
     let s1 = stage-next Left (a .args .bounds) _ _ _ s0 (c .before .before .before .before .before .before .before .before .before .clip-ring-against-edge .ensures) in
     let s2 = stage-next Right (a .args .bounds) _ _ _ s1 (c .before .before .before .before .clip-ring-against-edge2 .ensures) in
     stage-room _ _ (omega arith) (omega arith) (omega arith) s2
@@ -40,8 +38,8 @@ clip-ring-against-edge-requires-3 c κs =
 clip-ring-against-edge-requires-4 : tie.Need-clip-ring-against-edge-requires-4
 clip-ring-against-edge-requires-4 c κs =
     let a = c .before .before .before .before .before .before .before .before .before .before .before .before .before .before .before .before .before .before .before in
-    let p = a .pre in
-    let s0 = stage-start (a .args .n) (now (a .args .b)) (p .second) in
+    let p = a .pre .1 in
+    let s0 = stage-start (a .args .n) (now (a .args .ring)) (a .pre .0) in
     let s1 = stage-next Left (a .args .bounds) _ _ _ s0 (c .before .before .before .before .before .before .before .before .before .before .before .before .before .before .clip-ring-against-edge .ensures) in
     let s2 = stage-next Right (a .args .bounds) _ _ _ s1 (c .before .before .before .before .before .before .before .before .before .clip-ring-against-edge2 .ensures) in
     let s3 = stage-next Bottom (a .args .bounds) _ _ _ s2 (c .before .before .before .before .clip-ring-against-edge3 .ensures) in
@@ -50,8 +48,8 @@ clip-ring-against-edge-requires-4 c κs =
 finish-requires : tie.Need-finish-requires
 finish-requires c κs =
     let a = c .before .before .before .before .before .before .before .before .before .before .before .before .before .before .before .before .before .before .before .before .before .before .before in
-    let p = a .pre in
-    let s0 = stage-start (a .args .n) (now (a .args .b)) (p .second) in
+    let p = a .pre .1 in
+    let s0 = stage-start (a .args .n) (now (a .args .ring)) (a .pre .0) in
     let s1 = stage-next Left (a .args .bounds) _ _ _ s0 (c .before .before .before .before .before .before .before .before .before .before .before .before .before .before .before .before .before .before .clip-ring-against-edge .ensures) in
     let s2 = stage-next Right (a .args .bounds) _ _ _ s1 (c .before .before .before .before .before .before .before .before .before .before .before .before .before .clip-ring-against-edge2 .ensures) in
     let s3 = stage-next Bottom (a .args .bounds) _ _ _ s2 (c .before .before .before .before .before .before .before .before .clip-ring-against-edge3 .ensures) in
@@ -68,15 +66,15 @@ returns : tie.Need-returns
 unfolding clipRing passes
 returns c =
     let a = c .before .before .before .before .before .before .before .before .before .before .before .before .before .before .before .before .before .before .before .before .before .before .before .before .before .before in
-    let p = a .pre in
-    let s0 = stage-start (a .args .n) (now (a .args .b)) (p .second) in
+    let p = a .pre .1 in
+    let s0 = stage-start (a .args .n) (now (a .args .ring)) (a .pre .0) in
     let s1 = stage-next Left (a .args .bounds) _ _ _ s0 (c .before .before .before .before .before .before .before .before .before .before .before .before .before .before .before .before .before .before .before .before .before .clip-ring-against-edge .ensures) in
     let s2 = stage-next Right (a .args .bounds) _ _ _ s1 (c .before .before .before .before .before .before .before .before .before .before .before .before .before .before .before .before .clip-ring-against-edge2 .ensures) in
     let s3 = stage-next Bottom (a .args .bounds) _ _ _ s2 (c .before .before .before .before .before .before .before .before .before .before .before .clip-ring-against-edge3 .ensures) in
     let s4 = stage-next Top (a .args .bounds) _ _ _ s3 (c .before .before .before .before .before .before .clip-ring-against-edge4 .ensures) in
     let f = stage-finish _ _ s4 (c .before .before .finish .ensures) in
     let h : HeldBounds (a .args .bounds) = (search needs, search needs, search needs, search needs) in
-    record { count = f .0; numbers = f .1; promise = rw (f .1, coords-flat) (promise (a .args .bounds) (coords (take (2 * a .args .n) (now (a .args .b)))) h (held-front (now (a .args .b)) (a .args .n) (c .before .before .before .before .before .before .before .before .before .before .before .before .before .before .before .before .before .before .before .before .before .before .before .before .slice-known2 .given))) }
+    record { count = f .0; numbers = f .1; promise = rw (f .1, coords-flat) (promise (a .args .bounds) (coords (take (2 * a .args .n) (now (a .args .ring)))) h (held-front (now (a .args .ring)) (a .args .n) (c .before .before .before .before .before .before .before .before .before .before .before .before .before .before .before .before .before .before .before .before .before .before .before .before .before .shared-slice-known .given))) }
 
 pub clip-ring-spec : {M : Type 1} → statement M
 clip-ring-spec =

@@ -1,0 +1,110 @@
+-- `copy_inside` meets its contract: a step from in to in gives its end. Assumes nothing.
+use mathlib.Core.Path.{_≡_, refl, sym}
+use mathlib.Core.Bool.{Bool, true, false, not, true≢false}
+use Prim.Native.Nat.{_+_, _*_, _-_, _≤_}
+use native.Mathlib.Omega.{arith}
+use borrow.Author.Needs.{needs}
+use denote.Ref.{now}
+use lib.ListN.{length, take}
+use Rattle.tile.specs.Ring.{coords}
+use Rattle.sutherland_hodgman.specs.Walk.{left, Onward}
+use Rattle.sutherland_hodgman.proofs.Walking.{onward-here, onward-then, in-in, in-in-room, judged, wrote}
+use Rattle.sutherland_hodgman.proofs.copy_inside.Statement.{statement}
+use Rattle.sutherland_hodgman.proofs.copy_inside.Tie as tie
+
+not-true : (t : Bool) → not t ≡ true → t ≡ false
+not-true true e = absurd (true≢false (sym e))
+not-true false e = refl
+
+not-false : (t : Bool) → not t ≡ false → t ≡ true
+not-false true e = refl
+not-false false e = absurd (true≢false e)
+
+abbrev Inv-loop : tie.InvT-loop
+Inv-loop ring m edge bounds out₀ i₀ len₀ out i len = (i₀ ≤ i) × (i ≤ m) × (length out ≡ length out₀) × Onward edge bounds (coords (take (2 * m) ring)) true i₀ len₀ out₀ true i len out
+
+abbrev μ-loop : tie.MeasureT-loop
+μ-loop ring m edge bounds out₀ i₀ len₀ out i len = m - i
+
+loop-holds : tie.Need-loop-holds Inv-loop μ-loop
+loop-holds c =
+    let a = c .before .before in
+    (search needs, search needs, refl, onward-here (a .args .edge) (a .args .bounds) (coords (take (2 * a .args .m) (now (a .args .ring)))) true _ _ _)
+
+coord-at-requires : tie.Need-coord-at-requires Inv-loop μ-loop
+coord-at-requires c κs = search needs
+
+is-inside-requires : tie.Need-is-inside-requires Inv-loop μ-loop
+is-inside-requires c κs = search needs
+
+same-length : tie.Need-same-length Inv-loop μ-loop
+same-length c = search needs
+
+returns : tie.Need-returns Inv-loop μ-loop
+returns c =
+    let a = c .before .before .before .before .before .before .before in
+    let l = c .before .before .before .before .loop in
+    (search needs, search needs, λ _. judged (a .args .edge) (a .args .bounds) _ _ _ false (c .before .before .coord-at .ensures) (c .before .is-inside .ensures) (not-true _ (c .if1 .taken)), l .inv .3)
+
+put-requires : tie.Need-put-requires Inv-loop μ-loop
+put-requires c κs =
+    let a = c .before .before .before .before .before .before .before .before in
+    let l = c .before .before .before .before .before .loop in
+    let s = now (a .args .ring) in
+    let m = a .args .m in
+    let o = l .inv .3 .count in
+    let u : length (l .out) ≡ length (now (a .args .out)) = l .inv .2 in
+    let r : 2 * (l .len + length (left (a .args .edge) (a .args .bounds) (coords (take (2 * m) s)) true (l .i))) ≤ length (l .out) = omega (arith, a .pre .2) in
+    let f = judged (a .args .edge) (a .args .bounds) _ _ _ true (c .before .before .before .coord-at .ensures) (c .before .before .is-inside .ensures) (not-false _ (c .before .if1 .left)) in
+    omega (arith, in-in-room (a .args .edge) (a .args .bounds) s m (a .pre .0) (l .i) (c .before .before .before .before .loop-test .taken) f (l .len) _ r)
+
+add-len : tie.Need-add-len Inv-loop μ-loop
+add-len c = search needs
+
+add-i : tie.Need-add-i Inv-loop μ-loop
+add-i c = search needs
+
+loop-less : tie.Need-loop-less Inv-loop μ-loop
+loop-less c = search needs
+
+loop-again : tie.Need-loop-again Inv-loop μ-loop
+loop-again c =
+    let a = c .before .before .before .before .before .before .before .before .before .before .before in
+    let l = c .before .before .before .before .before .before .before .before .loop in
+    let s = now (a .args .ring) in
+    let m = a .args .m in
+    let f = judged (a .args .edge) (a .args .bounds) _ _ _ true (c .before .before .before .before .before .before .coord-at .ensures) (c .before .before .before .before .before .is-inside .ensures) (not-false _ (c .before .before .before .before .if1 .left)) in
+    let p = c .before .before .put .ensures in (
+      search needs,
+      search needs,
+      wrote (l .out) _ (l .len) _ (c .before .before .before .before .before .before .coord-at .result) p (l .inv .2),
+      onward-then (a .args .edge) (a .args .bounds) (coords (take (2 * m) s)) (l .inv .3)
+          (in-in (a .args .edge) (a .args .bounds) s m (a .pre .0) (l .i) (c .before .before .before .before .before .before .before .loop-test .taken) f _ (l .len) (l .out) _ (c .before .before .before .before .before .before .coord-at .ensures) p),
+    )
+
+same-length-2 : tie.Need-same-length-2 Inv-loop μ-loop
+same-length-2 c = search needs
+
+returns-2 : tie.Need-returns-2 Inv-loop μ-loop
+returns-2 c =
+    let l = c .before .loop in
+    (search needs, search needs, λ h. absurd (omega arith), l .inv .3)
+
+pub copy-inside-spec : {M : Type 1} → statement M
+copy-inside-spec =
+    tie.close
+    (tie.spec
+    Inv-loop
+    μ-loop
+    loop-holds
+    coord-at-requires
+    is-inside-requires
+    same-length
+    returns
+    put-requires
+    add-len
+    add-i
+    loop-less
+    loop-again
+    same-length-2
+    returns-2)

@@ -1,0 +1,70 @@
+-- `skip_outside` meets its contract: a step from out to out gives nothing. Assumes nothing.
+use mathlib.Core.Path.{_≡_, _∙_}
+use mathlib.Core.Bool.{true, false}
+use Prim.Native.Nat.{_*_, _-_, _≤_}
+use native.Mathlib.Omega.{arith}
+use borrow.Author.Needs.{needs}
+use denote.Ref.{now}
+use lib.ListN.{take}
+use Rattle.tile.specs.Ring.{coords}
+use Rattle.sutherland_hodgman.specs.Walk.{left}
+use Rattle.sutherland_hodgman.proofs.Walking.{out-out, judged}
+use Rattle.sutherland_hodgman.proofs.skip_outside.Statement.{statement}
+use Rattle.sutherland_hodgman.proofs.skip_outside.Tie as tie
+
+abbrev Inv-loop : tie.InvT-loop
+Inv-loop ring m edge bounds i j₀ j = (i ≤ j) × (j ≤ m) × (left edge bounds (coords (take (2 * m) ring)) false i ≡ left edge bounds (coords (take (2 * m) ring)) false j)
+
+abbrev μ-loop : tie.MeasureT-loop
+μ-loop ring m edge bounds i j₀ j = m - j
+
+loop-holds : tie.Need-loop-holds Inv-loop μ-loop
+loop-holds c = search needs
+
+coord-at-requires : tie.Need-coord-at-requires Inv-loop μ-loop
+coord-at-requires c κs = search needs
+
+is-inside-requires : tie.Need-is-inside-requires Inv-loop μ-loop
+is-inside-requires c κs = search needs
+
+returns : tie.Need-returns Inv-loop μ-loop
+returns c =
+    let a = c .before .before .before .before .before .before in
+    let l = c .before .before .before .before .loop in
+    (search needs, search needs, λ _. judged (a .args .edge) (a .args .bounds) _ _ _ true (c .before .before .coord-at .ensures) (c .before .is-inside .ensures) (c .if1 .taken), l .inv .2)
+
+add-j : tie.Need-add-j Inv-loop μ-loop
+add-j c = search needs
+
+loop-less : tie.Need-loop-less Inv-loop μ-loop
+loop-less c = search needs
+
+loop-again : tie.Need-loop-again Inv-loop μ-loop
+loop-again c =
+    let a = c .before .before .before .before .before .before in
+    let l = c .before .before .before .before .loop in (
+      search needs,
+      search needs,
+      l .inv .2 ∙ out-out (a .args .edge) (a .args .bounds) (now (a .args .ring)) (a .args .m) (a .pre .0) (l .j) (c .before .before .before .loop-test .taken)
+          (judged (a .args .edge) (a .args .bounds) _ _ _ false (c .before .before .coord-at .ensures) (c .before .is-inside .ensures) (c .if1 .left)),
+    )
+
+returns-2 : tie.Need-returns-2 Inv-loop μ-loop
+returns-2 c =
+    let l = c .before .loop in
+    (search needs, search needs, λ h. absurd (omega arith), l .inv .2)
+
+pub skip-outside-spec : {M : Type 1} → statement M
+skip-outside-spec =
+    tie.close
+    (tie.spec
+    Inv-loop
+    μ-loop
+    loop-holds
+    coord-at-requires
+    is-inside-requires
+    returns
+    add-j
+    loop-less
+    loop-again
+    returns-2)
