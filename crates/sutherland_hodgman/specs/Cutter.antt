@@ -11,8 +11,9 @@ use Rattle.sutherland_hodgman.specs.Growth.{B}
 use Rattle.sutherland_hodgman.specs.Clip.{clipRing}
 use Rattle.sutherland_hodgman.specs.Promise.{Promise}
 
--- a ring of n vertices can be cut in two slices of these lengths
-pub record Room (n a b : ℕ) : Type 0 where
+-- a ring of n vertices at the front of a slice can be cut in two others: the lengths of the three
+pub record Room (n ring a b : ℕ) : Type 0 where
+  pub vertices : 2 * n ≤ ring
   pub first : 2 * B n ≤ a
   pub second : 2 * B n ≤ b
 

@@ -245,7 +245,7 @@ fn finish(ring: &mut [f64], n: usize) -> usize
 // Cuts the ring of n vertices at the front of a slice at all four edges; the result stands at the front of b, and the answer is its length. Demand 3 holds of it.
 // What lies past it in b, and all of a, is left open.
 pub fn clip_ring(ring: &[f64], n: usize, bounds: TileBounds, a: &mut [f64], b: &mut [f64]) -> usize
-    requires { ⌜ (2 * n ≤ length (now ring)) × Room n (length (now a)) (length (now b)) ⌝ }
+    requires { ⌜ Room n (length (now ring)) (length (now a)) (length (now b)) ⌝ }
     ensures { λ r. ⌜ Cut bounds (coords (take (2 * n) (now (ring .entry)))) r (now (b .exit)) ⌝ }
 {
     let left = clip_ring_against_edge(ring, n, Edge::Left, bounds, a);

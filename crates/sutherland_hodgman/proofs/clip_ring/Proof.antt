@@ -16,21 +16,21 @@ use Rattle.sutherland_hodgman.proofs.clip_ring.Tie as tie
 clip-ring-against-edge-requires : tie.Need-clip-ring-against-edge-requires
 clip-ring-against-edge-requires c κs =
     let a = c .before .before .before .before in
-    (a .pre .0, stage-room _ _ (omega arith) (a .pre .1 .first) (a .pre .1 .first) (stage-start (a .args .n) (now (a .args .ring)) (a .pre .0)) .1)
+    (a .pre .vertices, stage-room _ _ (omega arith) (a .pre .first) (a .pre .first) (stage-start (a .args .n) (now (a .args .ring)) (a .pre .vertices)) .1)
 
 clip-ring-against-edge-requires-2 : tie.Need-clip-ring-against-edge-requires-2
 clip-ring-against-edge-requires-2 c κs =
     let a = c .before .before .before .before .before .before .before .before .before in
-    let p = a .pre .1 in
-    let s0 = stage-start (a .args .n) (now (a .args .ring)) (a .pre .0) in
+    let p = a .pre in
+    let s0 = stage-start (a .args .n) (now (a .args .ring)) (a .pre .vertices) in
     let s1 = stage-next Left (a .args .bounds) _ _ _ s0 (c .before .before .before .before .clip-ring-against-edge .ensures) in
     stage-room _ _ (omega arith) (omega arith) (omega arith) s1
 
 clip-ring-against-edge-requires-3 : tie.Need-clip-ring-against-edge-requires-3
 clip-ring-against-edge-requires-3 c κs =
     let a = c .before .before .before .before .before .before .before .before .before .before .before .before .before .before in
-    let p = a .pre .1 in
-    let s0 = stage-start (a .args .n) (now (a .args .ring)) (a .pre .0) in
+    let p = a .pre in
+    let s0 = stage-start (a .args .n) (now (a .args .ring)) (a .pre .vertices) in
     let s1 = stage-next Left (a .args .bounds) _ _ _ s0 (c .before .before .before .before .before .before .before .before .before .clip-ring-against-edge .ensures) in
     let s2 = stage-next Right (a .args .bounds) _ _ _ s1 (c .before .before .before .before .clip-ring-against-edge2 .ensures) in
     stage-room _ _ (omega arith) (omega arith) (omega arith) s2
@@ -38,8 +38,8 @@ clip-ring-against-edge-requires-3 c κs =
 clip-ring-against-edge-requires-4 : tie.Need-clip-ring-against-edge-requires-4
 clip-ring-against-edge-requires-4 c κs =
     let a = c .before .before .before .before .before .before .before .before .before .before .before .before .before .before .before .before .before .before .before in
-    let p = a .pre .1 in
-    let s0 = stage-start (a .args .n) (now (a .args .ring)) (a .pre .0) in
+    let p = a .pre in
+    let s0 = stage-start (a .args .n) (now (a .args .ring)) (a .pre .vertices) in
     let s1 = stage-next Left (a .args .bounds) _ _ _ s0 (c .before .before .before .before .before .before .before .before .before .before .before .before .before .before .clip-ring-against-edge .ensures) in
     let s2 = stage-next Right (a .args .bounds) _ _ _ s1 (c .before .before .before .before .before .before .before .before .before .clip-ring-against-edge2 .ensures) in
     let s3 = stage-next Bottom (a .args .bounds) _ _ _ s2 (c .before .before .before .before .clip-ring-against-edge3 .ensures) in
@@ -48,8 +48,8 @@ clip-ring-against-edge-requires-4 c κs =
 finish-requires : tie.Need-finish-requires
 finish-requires c κs =
     let a = c .before .before .before .before .before .before .before .before .before .before .before .before .before .before .before .before .before .before .before .before .before .before .before in
-    let p = a .pre .1 in
-    let s0 = stage-start (a .args .n) (now (a .args .ring)) (a .pre .0) in
+    let p = a .pre in
+    let s0 = stage-start (a .args .n) (now (a .args .ring)) (a .pre .vertices) in
     let s1 = stage-next Left (a .args .bounds) _ _ _ s0 (c .before .before .before .before .before .before .before .before .before .before .before .before .before .before .before .before .before .before .clip-ring-against-edge .ensures) in
     let s2 = stage-next Right (a .args .bounds) _ _ _ s1 (c .before .before .before .before .before .before .before .before .before .before .before .before .before .clip-ring-against-edge2 .ensures) in
     let s3 = stage-next Bottom (a .args .bounds) _ _ _ s2 (c .before .before .before .before .before .before .before .before .clip-ring-against-edge3 .ensures) in
@@ -66,8 +66,8 @@ returns : tie.Need-returns
 unfolding clipRing passes
 returns c =
     let a = c .before .before .before .before .before .before .before .before .before .before .before .before .before .before .before .before .before .before .before .before .before .before .before .before .before .before in
-    let p = a .pre .1 in
-    let s0 = stage-start (a .args .n) (now (a .args .ring)) (a .pre .0) in
+    let p = a .pre in
+    let s0 = stage-start (a .args .n) (now (a .args .ring)) (a .pre .vertices) in
     let s1 = stage-next Left (a .args .bounds) _ _ _ s0 (c .before .before .before .before .before .before .before .before .before .before .before .before .before .before .before .before .before .before .before .before .before .clip-ring-against-edge .ensures) in
     let s2 = stage-next Right (a .args .bounds) _ _ _ s1 (c .before .before .before .before .before .before .before .before .before .before .before .before .before .before .before .before .clip-ring-against-edge2 .ensures) in
     let s3 = stage-next Bottom (a .args .bounds) _ _ _ s2 (c .before .before .before .before .before .before .before .before .before .before .before .clip-ring-against-edge3 .ensures) in

@@ -12,7 +12,7 @@ use Rattle.sutherland_hodgman.proofs.call.clip_lent.Statement.{statemen
 use Rattle.sutherland_hodgman.proofs.call.clip_lent.Tie as tie
 
 clip-ring-requires : tie.Need-clip-ring-requires
-clip-ring-requires c κs = let p = passes-cuttable _ _ _ _ (c .before .before .before .before .before .before .pre) in (omega (arith, p .even), record { first = p .first; second = p .second })
+clip-ring-requires c κs = let p = passes-cuttable _ _ _ _ (c .before .before .before .before .before .before .pre) in record { vertices = omega (arith, p .even); first = p .first; second = p .second }
 
 mul-copy : tie.Need-mul-copy
 mul-copy c =
