@@ -1,2 +1,6 @@
+pub mod Closing
+pub mod Cuts
+pub mod LentRings
+pub mod Negations
 pub mod Rectangles
 pub mod Walks

@@ -1,3 +1,5 @@
 pub mod Bridge
+pub mod Polygon
 pub mod Rectangle
 pub mod Representable
+pub mod Rings

@@ -12,3 +12,8 @@ hugeCoord p = huge (p .x) || huge (p .y)
 unfoldable pub anyHuge : List Coord → Bool
 anyHuge [] = false
 anyHuge (p ∷ r) = hugeCoord p || anyHuge r
+
+-- of all rings
+unfoldable pub anyHugeRing : List (List Coord) → Bool
+anyHugeRing [] = false
+anyHugeRing (r ∷ rs) = anyHuge r || anyHugeRing rs

@@ -1,4 +1,5 @@
-// Routing of one polygon: what becomes of it at a tile.
+// Routing of one polygon: what becomes of it at a tile. `polygon` decides by the exterior and cuts rings.
 pub mod bridge;
+pub mod polygon;
 pub mod rectangle;
 pub mod representable;

@@ -1,16 +1,18 @@
 -- Leaving off the closing vertex, and finishing a ring after the four passes, by the tests that the code makes. Assumes nothing.
-use mathlib.Core.Path.{_≡_, refl, sym, _∙_}
-use mathlib.Core.Bool.{true, false}
-use mathlib.Core.List.{List, [], _∷_}
+use mathlib.Core.Path.{_≡_, refl, sym, _∙_, ap}
+use mathlib.Core.Bool.{Bool, true, false, true≢false}
+use mathlib.Core.List.{List, [], _∷_, _++_}
 use Prim.Native.Nat.{ℕ, _*_, _-_, _≤_, _<_}
 use native.Mathlib.Omega.{arith}
-use lib.Ieee.{Float}
-use lib.ListN.{length, take}
+use lib.Ieee.{Float, nan}
+use lib.ListN.{length, getD, take, length-append}
+use lib.Seq.{take-at}
 use borrow.Author.Tests.{le-leb, lt-leb}
 use Rattle.tile.specs.declared.Coord.{Coord}
+use Rattle.tile.specs.declared.TileBounds.{TileBounds}
 use Rattle.tile.specs.Ring.{coords, flat, closed, close, Written}
-use Rattle.tile.proofs.Rings.{front-front, length-front}
-use Rattle.sutherland_hodgman.specs.Clip.{leaveOff, finish}
+use Rattle.tile.proofs.Rings.{front-front, length-front, close-closed, close-open}
+use Rattle.sutherland_hodgman.specs.Clip.{leaveOff, pass, passes, finish, clipRing}
 
 leaveOff-few : (r : List Coord) → length r < 2 → leaveOff r ≡ r
 unfolding leaveOff
@@ -50,3 +52,28 @@ module _ (s : List Float) (n : ℕ) (h : 2 * n ≤ length s) where
   pub finish-close : 3 ≤ n → finish (coords (take (2 * n) s)) ≡ close (coords (take (2 * n) s))
   unfolding finish
   finish-close l = rw (le-leb 3 (length (coords (take (2 * n) s))) (omega (arith, length-front s n h)))
+
+-- ---- a ring that closing closes is cut as it is lent: what closing appends is left off again
+
+close-more : (l : List Coord) → closed l ≡ false → 2 ≤ length (close l)
+unfolding closed close
+close-more [] f = absurd (true≢false f)
+close-more (p ∷ l) f = rw f (omega (arith, length-append (p ∷ l) (p ∷ [])))
+
+leaveOff-close : (r : List Coord) → closed (close r) ≡ true → leaveOff (close r) ≡ leaveOff r
+leaveOff-close r e = go (closed r) refl
+  where
+    go : (t : Bool) → closed r ≡ t → leaveOff (close r) ≡ leaveOff r
+    go true h = rw (close-closed r h)
+    go false h =
+        let z : Coord = record { x = nan; y = nan } in
+        let q = getD r 0 z ∷ [] in
+        let o = close-open r z h in
+        let n = length-append r q in
+        let m : length (r ++ q) - 1 ≡ length r = omega arith in
+        let k = leaveOff-closed (close r) (close-more r h) e in
+        k ∙ rw (o, m) (take-at r q (length r) refl) ∙ sym (leaveOff-open r h)
+
+pub clip-close : (b : TileBounds) (r : List Coord) → closed (close r) ≡ true → clipRing b (close r) ≡ clipRing b r
+unfolding clipRing passes pass
+clip-close b r e = rw (leaveOff-close r e)

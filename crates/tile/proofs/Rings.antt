@@ -1,6 +1,6 @@
 -- Laws between rings as lists of coordinates and as flat lists of numbers, and of closing. Assumes nothing.
 use mathlib.Core.Path.{_≡_, refl, sym, _∙_, ap}
-use mathlib.Core.Bool.{true, false, true≢false}
+use mathlib.Core.Bool.{Bool, true, false, cond, true≢false}
 use mathlib.Core.List.{List, [], _∷_, _++_}
 use Prim.Native.Nat.{ℕ, zero, suc, _+_, _*_, _-_, _<_, _≤_}
 use native.Mathlib.Numerals.{add-one}
@@ -103,15 +103,38 @@ closed-front s n h l =
     let e : length (coords (take (2 * n) s)) ≡ suc (n - 1) = length-front s n h ∙ omega arith in
     closed-at (coords (take (2 * n) s)) (n - 1) z e ∙ rw (front-at s n 0 z h l, front-at s n (n - 1) z h (omega arith))
 
-close-closed : (l : List Coord) → closed l ≡ true → close l ≡ l
+pub close-closed : (l : List Coord) → closed l ≡ true → close l ≡ l
 unfolding close
 close-closed [] e = refl
 close-closed (p ∷ r) e = rw e
 
-close-open : (l : List Coord) (z : Coord) → closed l ≡ false → close l ≡ l ++ (getD l 0 z ∷ [])
+pub close-open : (l : List Coord) (z : Coord) → closed l ≡ false → close l ≡ l ++ (getD l 0 z ∷ [])
 unfolding close closed
 close-open [] z e = absurd (true≢false e)
 close-open (p ∷ r) z e = rw e
+
+last-append : (p : Coord) (r : List Coord) (q : Coord) → last p (r ++ (q ∷ [])) ≡ q
+unfolding last
+last-append p [] q = refl
+last-append p (s ∷ r) q = last-append s r q
+
+-- closing closes a ring whose first coordinate equals itself
+pub close-closes : (p : Coord) (r : List Coord) → same p p ≡ true → closed (close (p ∷ r)) ≡ true
+unfolding close closed
+close-closes p r e = go (closed (p ∷ r)) refl
+  where
+    go : (t : Bool) → closed (p ∷ r) ≡ t → closed (cond t (p ∷ r) ((p ∷ r) ++ (p ∷ []))) ≡ true
+    go true h = h
+    go false h = rw (last-append p r p) e
+
+pub length-close : (l : List Coord) → length l ≤ length (close l)
+unfolding close
+length-close [] = omega arith
+length-close (p ∷ r) = go (closed (p ∷ r))
+  where
+    go : (t : Bool) → length (p ∷ r) ≤ length (cond t (p ∷ r) ((p ∷ r) ++ (p ∷ [])))
+    go true = omega arith
+    go false = omega (arith, length-append (p ∷ r) (p ∷ []))
 
 pub count-closed : (l : List Coord) → closed l ≡ true → length (close l) ≡ length l
 count-closed l e = rw (close-closed l e)

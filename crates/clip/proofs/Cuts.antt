@@ -1,0 +1,101 @@
+-- A lent ring that is cut, and closed again: the room that it takes, and what stands at the front of the slice. Assumes nothing.
+use mathlib.Core.Path.{_≡_, refl, sym, _∙_, ap}
+use mathlib.Core.Logic.{_⊎_, inl, inr}
+use mathlib.Core.Bool.{Bool, true, false, cond}
+use mathlib.Core.List.{List, [], _∷_, _++_}
+use Prim.Native.Nat.{ℕ, zero, suc, _+_, _*_, _<_, _≤_, _^_}
+use native.Mathlib.Omega.{arith}
+use lib.Ieee.{Float}
+use lib.ListN.{length, take, drop, length-append}
+use lib.Seq.{take-at, length-take-le}
+use Rattle.tile.specs.declared.Coord.{Coord}
+use Rattle.tile.specs.declared.TileBounds.{TileBounds}
+use Rattle.tile.specs.Ring.{coords, flat, closed, close, Written}
+use Rattle.tile.proofs.Rings.{length-front, length-flat, coords-flat, coords-front, length-close}
+use Rattle.sutherland_hodgman.specs.Growth.{halfGrowth, fourHalfGrowths, B}
+use Rattle.sutherland_hodgman.specs.Clip.{clipRing}
+use Rattle.sutherland_hodgman.specs.Promise.{Promise}
+use Rattle.sutherland_hodgman.specs.Cutter.{Room, Cut}
+use Rattle.sutherland_hodgman.proofs.Growth.{halfGrowth-mono, B-positive, le-four}
+use Rattle.sutherland_hodgman.proofs.LeavingOff.{clip-close}
+use Rattle.clip.specs.Polygon.{RingRoom, Stands}
+
+-- ---- room
+
+pub B-mono : (m n : ℕ) → m ≤ n → B m ≤ B n
+unfolding B fourHalfGrowths
+B-mono zero n h = omega arith
+B-mono (suc m) zero h = absurd (omega arith)
+B-mono (suc m) (suc n) h = omega (arith, halfGrowth-mono (halfGrowth-mono (halfGrowth-mono (halfGrowth-mono h))))
+
+pub le-B : (n : ℕ) → n ≤ B n
+unfolding B
+le-B zero = omega arith
+le-B (suc n) = omega (arith, le-four (suc n))
+
+-- the room of a ring with coordinates is for at least two more than it has
+pub two-more : (n : ℕ) → 0 < n → n + 2 ≤ B n
+two-more n h = omega (arith, le-four n, B-positive n (λ e. omega arith))
+
+close-most : (l : List Coord) → length (close l) ≤ suc (length l)
+unfolding close
+close-most [] = omega arith
+close-most (p ∷ r) = go (closed (p ∷ r))
+  where
+    go : (t : Bool) → length (cond t (p ∷ r) ((p ∷ r) ++ (p ∷ []))) ≤ suc (length (p ∷ r))
+    go true = omega arith
+    go false = omega (arith, length-append (p ∷ r) (p ∷ []))
+
+-- a cut ring with coordinates can be closed once more
+promise-more : (b : TileBounds) (r q : List Coord) → Promise b r q → 0 < length q → suc (length q) ≤ B (length r)
+unfolding B fourHalfGrowths halfGrowth
+promise-more b [] q p h = go (length q) h (p .vertices) (p .growth)
+  where
+    go : (n : ℕ) → 0 < n → (n ≡ 0) ⊎ (3 ≤ n) → n ≤ suc (fourHalfGrowths 0) → suc n ≤ 0
+    go n h (inl e) g = absurd (omega arith)
+    go n h (inr l) g = absurd (omega arith)
+promise-more b (p ∷ r) q h l = let g = h .growth in omega arith
+
+-- ---- what a slice holds
+
+pub written-front : (ring : List Coord) (before after : List Float) (r : ℕ) → Written ring before r after → coords (take (2 * r) after) ≡ ring
+written-front ring before after r w = coords-front ring (drop (2 * r) before) after r (w .count) (w .numbers)
+
+pub written-stands : (ring : List Coord) (before after : List Float) (r : ℕ) → Written ring before r after → Stands ring r after
+written-stands ring before after r w = record {
+  count = w .count;
+  numbers = rw (w .numbers) (take-at (flat ring) (drop (2 * r) before) (2 * r) (length-flat ring ∙ rw (w .count)));
+}
+
+pub copied-front : (k : ℕ) (from to to′ : List Float) → k ≤ length from → to′ ≡ take k from ++ drop k to → take k to′ ≡ take k from
+copied-front k from to to′ h e = rw e (take-at (take k from) (drop k to) k (length-take-le k from h))
+
+-- ---- a lent ring, closed and cut
+
+module _ (n : ℕ) (s : List Float) (a b : ℕ) (room : RingRoom n s a b) where
+  pub lent-count : n ≤ length (close (coords (take (2 * n) s)))
+  lent-count = omega (arith, length-front s n (room .lent), length-close (coords (take (2 * n) s)))
+
+  pub cutter-room : Room n (length s) a b
+  cutter-room = let m = B-mono n (length (close (coords (take (2 * n) s)))) lent-count in record { vertices = room .lent; first = omega (arith, room .first); second = omega (arith, room .second) }
+
+  module _ (bounds : TileBounds) (k : ℕ) (after : List Float) (c : Cut bounds (coords (take (2 * n) s)) k after) where
+    pub cut-ring : coords (take (2 * k) after) ≡ clipRing bounds (close (coords (take (2 * n) s)))
+    cut-ring = rw (c .numbers) (coords-flat (clipRing bounds (coords (take (2 * n) s)))) ∙ sym (clip-close bounds (coords (take (2 * n) s)) (room .closes))
+
+    pub cut-count : k ≡ length (clipRing bounds (close (coords (take (2 * n) s))))
+    cut-count = c .count ∙ rw (clip-close bounds (coords (take (2 * n) s)) (room .closes))
+
+    pub cut-fits : 0 < k → suc k ≤ B (length (close (coords (take (2 * n) s))))
+    cut-fits h =
+        let q = coords (take (2 * k) after) in
+        let e : length q ≡ k = rw cut-ring (sym cut-count) in
+        omega (arith, promise-more bounds (coords (take (2 * n) s)) q (c .promise) (omega arith), length-front s n (room .lent), B-mono n (length (close (coords (take (2 * n) s)))) lent-count, ap B (length-front s n (room .lent)))
+
+    -- closed by the domain rule
+    module _ (r : ℕ) (after′ : List Float) (w : Written (close (coords (take (2 * k) after))) after r after′) where
+      pub closed-written : Written (close (clipRing bounds (close (coords (take (2 * n) s))))) after r after′
+      closed-written = rw cut-ring at w
+
+      pub closed-fits : 0 < k → r ≤ B (length (close (coords (take (2 * n) s))))
+      closed-fits h = omega (arith, closed-written .count, cut-count, cut-fits h, close-most (clipRing bounds (close (coords (take (2 * n) s)))))

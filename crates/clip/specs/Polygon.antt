@@ -1,0 +1,155 @@
+-- What becomes of one polygon at a tile, in document 01's order ("Nothing, or dropped", "Unchanged", "Cut rings", "Overlay wanted"). Definitions only.
+use mathlib.Core.Path.{_≡_}
+use mathlib.Core.Bool.{true, _&&_, cond}
+use mathlib.Core.List.{List, [], _∷_}
+use Prim.Native.Nat.{ℕ, _*_, _≤_}
+use lib.Dec.{ltb}
+use lib.Ieee.{Float}
+use lib.ListN.{length, take}
+use Rattle.tile.specs.declared.Coord.{Coord}
+use Rattle.tile.specs.declared.TileBounds.{TileBounds}
+use Rattle.tile.specs.declared.Edge.{Edge}
+use Rattle.tile.specs.declared.Edge.the-variants.{Left, Right, Bottom, Top}
+use Rattle.tile.specs.Ring.{coords, flat, closed, close}
+use Rattle.box_pairs.specs.declared.Issue.{Issue}
+use Rattle.box_pairs.specs.Issue.{issueOf, hasIssue}
+use Rattle.sutherland_hodgman.specs.Growth.{B, mostCoordinates}
+use Rattle.sutherland_hodgman.specs.Clip.{clipRing}
+use Rattle.clip.specs.declared.bridge.Bridge.{Bridge}
+use Rattle.clip.specs.declared.bridge.Bridge.the-variants.{Apart, Along}
+use Rattle.clip.specs.declared.rectangle.Rect.{Rect}
+use Rattle.clip.specs.declared.rectangle.Rect.the-variants as Rects
+use Rattle.clip.specs.declared.polygon.Flags.{Flags}
+use Rattle.clip.specs.declared.polygon.Reason.{Reason}
+use Rattle.clip.specs.declared.polygon.Reason.the-variants as Because
+use Rattle.clip.specs.declared.polygon.Route.{Route}
+use Rattle.clip.specs.declared.polygon.Route.the-variants as To
+use Rattle.clip.specs.Bridge.{firstBridge}
+use Rattle.clip.specs.Rectangle.{rectangle, intersectsBounds, isFullyInside}
+use Rattle.clip.specs.Representable.{anyHugeRing}
+
+-- ---- the exterior decides
+
+-- an exterior with an issue wants an overlay
+abbrev pub overlayIfIssue : Issue → Reason → Route → Route
+overlayIfIssue issue reason route = cond (hasIssue issue) (To.Overlay reason) route
+
+-- "This last test is skipped only if both flags are set."
+unfoldable pub bridgeUnlessSkipped : Flags → TileBounds → List Coord → Bridge
+bridgeUnlessSkipped flags b r = cond (flags .«assume_simple» && flags .«skip_boundary_fallback») Apart (firstBridge b r)
+
+-- "Reasons 3 to 6: no issue, but an edge of the cut exterior .."
+abbrev pub overlayIfBridge : Bridge → Route → Route
+overlayIfBridge (Along edge) route = To.Overlay (Because.Bridge edge)
+overlayIfBridge Apart route = route
+
+-- the cut exterior as the polygon holds it: "This also applies to cut rings"
+abbrev pub cutExterior : TileBounds → List Coord → List Coord
+cutExterior b r = close (clipRing b r)
+
+-- "An empty exterior: nothing." "Reason 2: the cut exterior has one."
+unfoldable pub routeCut : Flags → TileBounds → List Coord → Route
+routeCut flags b r =
+    let cut = cutExterior b r in
+    let issue = issueOf (flags .«assume_simple») cut in
+    cond (ltb 0 (length (clipRing b r))) (overlayIfIssue issue (Because.Cut issue) (overlayIfBridge (bridgeUnlessSkipped flags b cut) (To.Cut (length cut)))) To.Nothing
+
+-- "Rectangle and buffered bounds apart: nothing." "Reason 1: the input exterior has an issue." "No issue and rectangle inside the bounds (edges included): unchanged."
+unfoldable pub routeExterior : Flags → Rect → TileBounds → List Coord → Route
+routeExterior flags rect b r =
+    let issue = issueOf (flags .«assume_simple») r in
+    cond (intersectsBounds rect b) (overlayIfIssue issue (Because.Input issue) (cond (isFullyInside rect b) To.Unchanged (routeCut flags b r))) To.Nothing
+
+-- ---- all rings
+
+-- "A cut hole under 4 coordinates is left out."
+unfoldable pub cutHole : TileBounds → List Coord → List Coord
+cutHole b r = cond (ltb (length (clipRing b r)) 4) [] (close (clipRing b r))
+
+-- a ring that is not left out, before others
+abbrev pub unlessNone : List Coord → List (List Coord) → List (List Coord)
+unlessNone [] rings = rings
+unlessNone (p ∷ r) rings = (p ∷ r) ∷ rings
+
+unfoldable pub cutHoles : TileBounds → List (List Coord) → List (List Coord)
+cutHoles b [] = []
+cutHoles b (r ∷ rs) = unlessNone (cutHole b r) (cutHoles b rs)
+
+-- the rings of a cut, exterior first
+unfoldable pub cutRings : TileBounds → List (List Coord) → List (List Coord)
+cutRings b [] = []
+cutRings b (r ∷ rs) = cutExterior b r ∷ cutHoles b rs
+
+-- what becomes of a polygon
+pub data Routed : Type 0 where
+  nothing dropped unchanged : Routed
+  cut : List (List Coord) → Routed
+  overlay : Reason → Routed
+
+-- "Where any coordinate of the polygon has magnitude 1e150 or more, an overlay is dropped instead"
+unfoldable pub overlayOrDropped : List (List Coord) → Reason → Routed
+overlayOrDropped rings reason = cond (anyHugeRing rings) dropped (overlay reason)
+
+abbrev pub routed : Route → TileBounds → List (List Coord) → Routed
+routed To.Nothing b rings = nothing
+routed To.Unchanged b rings = unchanged
+routed (To.Cut n) b rings = cut (cutRings b rings)
+routed (To.Overlay reason) b rings = overlayOrDropped rings reason
+
+abbrev pub exterior : List (List Coord) → List Coord
+exterior [] = []
+exterior (r ∷ rs) = r
+
+-- a polygon whose rectangle is four numbers
+abbrev pub routeMeasured : Flags → Rect → TileBounds → List (List Coord) → Routed
+routeMeasured flags rect b rings = routed (routeExterior flags rect b (exterior rings)) b rings
+
+-- "No coordinate in any ring: nothing." "Any coordinate NaN or infinite: dropped, .. before the bounds are looked at."
+unfoldable pub routeRect : Flags → Rect → TileBounds → List (List Coord) → Routed
+routeRect flags Rects.Nothing b rings = nothing
+routeRect flags Rects.NotFinite b rings = dropped
+routeRect flags (Rects.Box w s e n) b rings = routeMeasured flags (Rects.Box w s e n) b rings
+
+-- a polygon of closed rings, exterior first, at buffered bounds
+unfoldable pub route : Flags → TileBounds → List (List Coord) → Routed
+route flags b rings = routeRect flags (rectangle rings) b rings
+
+-- "Reasons 3 to 6: .. the Left, Right, Bottom or Top bound"
+abbrev pub edgeNumber : Edge → ℕ
+edgeNumber Left = 3
+edgeNumber Right = 4
+edgeNumber Bottom = 5
+edgeNumber Top = 6
+
+-- the paper's number of each reason
+abbrev pub reasonNumber : Reason → ℕ
+reasonNumber (Because.Input issue) = 1
+reasonNumber (Because.Cut issue) = 2
+reasonNumber (Because.Bridge edge) = edgeNumber edge
+
+-- ---- what the code asks for and leaves
+
+-- a ring of n coordinates, lent at the front of a slice, can be closed and cut in two slices of these lengths; closing closes it, as its first coordinate holds no NaN
+pub record RingRoom (n : ℕ) (ring : List Float) (a b : ℕ) : Type 0 where
+  pub lent : 2 * n ≤ length ring
+  pub few : length (close (coords (take (2 * n) ring))) ≤ mostCoordinates
+  pub closes : closed (close (coords (take (2 * n) ring))) ≡ true
+  pub first : 2 * B (length (close (coords (take (2 * n) ring)))) ≤ a
+  pub second : 2 * B (length (close (coords (take (2 * n) ring)))) ≤ b
+
+-- an exterior takes positions besides
+pub record ExteriorRoom (n : ℕ) (ring : List Float) (a b order : ℕ) : Type 0 where
+  pub room : RingRoom n ring a b
+  pub positions : B (length (close (coords (take (2 * n) ring)))) ≤ order
+
+-- a ring stands at the front of a slice, r coordinates long; what lies past it is left open
+pub record Stands (ring : List Coord) (r : ℕ) (after : List Float) : Type 0 where
+  pub count : r ≡ length ring
+  pub numbers : take (2 * r) after ≡ flat ring
+
+-- where the route is a cut, the cut exterior stands at the front of the slice
+abbrev pub CutStands : TileBounds → List Coord → Route → List Float → Type 0
+CutStands b ring To.Nothing after = Unit {0}
+CutStands b ring To.Unchanged after = Unit {0}
+CutStands b ring (To.Cut n) after = Stands (cutExterior b ring) n after
+CutStands b ring (To.Overlay reason) after = Unit {0}

@@ -1,0 +1,160 @@
+// The routing of one polygon by its exterior, and the cut of a hole: the source's `clip_polygon` and `clip_polygon_sh`. Rings are lent as x, y numbers and taken as closed.
+ghost use mathlib.Core.Path.{_≡_};
+ghost use mathlib.Core.Bool.{_&&_};
+ghost use Prim.Native.Nat.{_*_, _≤_};
+ghost use lib.ListN.{length, take};
+ghost use Rattle.tile.specs.Ring.{coords, close as closed};
+ghost use Rattle.box_pairs.specs.Issue.{hasIssue, issueOf};
+ghost use Rattle.clip.specs.Polygon as S;
+use super::bridge::Bridge;
+use super::bridge::first_bridge;
+use super::rectangle::Rect;
+use super::rectangle::intersects_bounds;
+use super::rectangle::is_fully_inside;
+use binary64::slices::copy;
+use box_pairs::Issue;
+use box_pairs::find_issue;
+use sutherland_hodgman::clip_ring;
+use tile::Edge;
+use tile::TileBounds;
+use tile::ring::close;
+use tile::ring::is_closed;
+
+// What the caller knows of a polygon: that no two edges of its exterior cross, and that edges of the cut exterior along a bound may stay.
+pub struct Flags {
+    pub assume_simple: bool,
+    pub skip_boundary_fallback: bool,
+}
+
+// Why an overlay is wanted: an issue of the input exterior, one of the cut exterior, or an edge of the cut exterior along a bound.
+pub enum Reason {
+    Input(Issue),
+    Cut(Issue),
+    Bridge(Edge),
+}
+
+// What the exterior decides; a cut exterior has so many coordinates.
+pub enum Route {
+    Nothing,
+    Unchanged,
+    Cut(usize),
+    Overlay(Reason),
+}
+
+fn has_issue(issue: Issue) -> bool
+    ensures { λ r. ⌜ r ≡ hasIssue issue ⌝ }
+{
+    match issue {
+        Issue::Sound => false,
+        Issue::Short => true,
+        Issue::Repeated => true,
+        Issue::Crossing => true,
+    }
+}
+
+// The issue of the ring of n coordinates at the front of a slice, closed. A ring that is not lent closed is closed in b.
+fn closed_issue(
+    ring: &[f64],
+    n: usize,
+    assume_simple: bool,
+    a: &mut [f64],
+    b: &mut [f64],
+    order: &mut [u32],
+) -> Issue
+    requires { ⌜ S.ExteriorRoom n (now ring) (length (now a)) (length (now b)) (length (now order)) ⌝ }
+    ensures { λ r. ⌜ r ≡ issueOf «assume_simple» (closed (coords (take (2 * n) (now (ring .entry))))) ⌝ }
+{
+    if is_closed(ring, n) {
+        return find_issue(ring, n, assume_simple, a, order);
+    }
+    copy(ring, b, 2 * n);
+    let m = close(b, n);
+    find_issue(b, m, assume_simple, a, order)
+}
+
+// Whether the test for edges along a bound is left out.
+fn skips_bridges(flags: Flags) -> bool
+    ensures { λ r. ⌜ r ≡ (flags .«assume_simple» && flags .«skip_boundary_fallback») ⌝ }
+{
+    flags.assume_simple && flags.skip_boundary_fallback
+}
+
+fn bridge_unless_skipped(ring: &[f64], n: usize, flags: Flags, bounds: TileBounds) -> Bridge
+    requires { ⌜ 2 * n ≤ length (now ring) ⌝ }
+    ensures { λ r. ⌜ r ≡ S.bridgeUnlessSkipped flags bounds (coords (take (2 * n) (now (ring .entry)))) ⌝ }
+{
+    if skips_bridges(flags) {
+        return Bridge::Apart;
+    }
+    first_bridge(ring, n, bounds)
+}
+
+// Cuts the exterior; a cut that stays stands at the front of b.
+fn route_cut(
+    ring: &[f64],
+    n: usize,
+    flags: Flags,
+    bounds: TileBounds,
+    a: &mut [f64],
+    b: &mut [f64],
+    order: &mut [u32],
+) -> Route
+    requires { ⌜ S.ExteriorRoom n (now ring) (length (now a)) (length (now b)) (length (now order)) ⌝ }
+    ensures { λ r. ⌜ r ≡ S.routeCut flags bounds (closed (coords (take (2 * n) (now (ring .entry))))) ⌝ }
+    ensures { λ r. ⌜ S.CutStands bounds (closed (coords (take (2 * n) (now (ring .entry))))) r (now (b .exit)) ⌝ }
+{
+    let clipped = clip_ring(ring, n, bounds, a, b);
+    if clipped == 0 {
+        return Route::Nothing;
+    }
+    let m = close(b, clipped);
+    let issue = find_issue(b, m, flags.assume_simple, a, order);
+    if has_issue(issue) {
+        return Route::Overlay(Reason::Cut(issue));
+    }
+    let bridge = bridge_unless_skipped(b, m, flags, bounds);
+    if let Bridge::Along(edge) = bridge {
+        return Route::Overlay(Reason::Bridge(edge));
+    }
+    Route::Cut(m)
+}
+
+// What the exterior of n coordinates decides, rect being the rectangle of all rings; a cut exterior stands at the front of b.
+pub fn route_exterior(
+    ring: &[f64],
+    n: usize,
+    flags: Flags,
+    rect: Rect,
+    bounds: TileBounds,
+    a: &mut [f64],
+    b: &mut [f64],
+    order: &mut [u32],
+) -> Route
+    requires { ⌜ S.ExteriorRoom n (now ring) (length (now a)) (length (now b)) (length (now order)) ⌝ }
+    ensures { λ r. ⌜ r ≡ S.routeExterior flags rect bounds (closed (coords (take (2 * n) (now (ring .entry))))) ⌝ }
+    ensures { λ r. ⌜ S.CutStands bounds (closed (coords (take (2 * n) (now (ring .entry))))) r (now (b .exit)) ⌝ }
+{
+    if !intersects_bounds(rect, bounds) {
+        return Route::Nothing;
+    }
+    let issue = closed_issue(ring, n, flags.assume_simple, a, b, order);
+    if has_issue(issue) {
+        return Route::Overlay(Reason::Input(issue));
+    }
+    if is_fully_inside(rect, bounds) {
+        return Route::Unchanged;
+    }
+    route_cut(ring, n, flags, bounds, a, b, order)
+}
+
+// Cuts a hole, to the front of b, and answers how many coordinates it has; one that is left out has none.
+pub fn clip_hole(ring: &[f64], n: usize, bounds: TileBounds, a: &mut [f64], b: &mut [f64]) -> usize
+    requires { ⌜ S.RingRoom n (now ring) (length (now a)) (length (now b)) ⌝ }
+    ensures { λ r. ⌜ S.Stands (S.cutHole bounds (closed (coords (take (2 * n) (now (ring .entry)))))) r (now (b .exit)) ⌝ }
+{
+    let clipped = clip_ring(ring, n, bounds, a, b);
+    if clipped < 4 {
+        return 0;
+    }
+    close(b, clipped)
+}
