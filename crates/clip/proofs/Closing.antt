@@ -6,6 +6,7 @@ use Prim.Native.Nat.{ℕ, _*_}
 use native.Mathlib.Omega.{arith}
 use lib.Ieee.{Float, isNan, lt, eq, ne, nan, inf, fin}
 use lib.Ieee.Scale.{finite}
+use borrow.Author.Tests.{not-false}
 use lib.ListN.{take, drop}
 use Rattle.binary64.specs.Compare.{minimum, maximum}
 use Rattle.binary64.proofs.Comparisons.{ne-self}
@@ -18,7 +19,6 @@ use Rattle.clip.specs.declared.rectangle.Rect.the-variants as R
 use Rattle.clip.specs.Rectangle.{ifFinite, isFiniteCoord, withCoord, withRing, withRings}
 use Rattle.clip.specs.Representable.{hugeCoord, anyHuge}
 use Rattle.clip.specs.Rings.{closedRings, allClosed}
-use Rattle.clip.proofs.Negations.{not-false}
 
 -- ---- of two numbers the one that comes first in an order; a NaN gives way
 

@@ -37,7 +37,7 @@ le-B (suc n) = omega (arith, le-four (suc n))
 pub two-more : (n : ℕ) → 0 < n → n + 2 ≤ B n
 two-more n h = omega (arith, le-four n, B-positive n (λ e. omega arith))
 
-close-most : (l : List Coord) → length (close l) ≤ suc (length l)
+pub close-most : (l : List Coord) → length (close l) ≤ suc (length l)
 unfolding close
 close-most [] = omega arith
 close-most (p ∷ r) = go (closed (p ∷ r))

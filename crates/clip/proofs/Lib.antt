@@ -1,6 +1,5 @@
 pub mod Closing
 pub mod Cuts
 pub mod LentRings
-pub mod Negations
 pub mod Rectangles
 pub mod Walks

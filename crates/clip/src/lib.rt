@@ -3,3 +3,4 @@ pub mod bridge;
 pub mod polygon;
 pub mod rectangle;
 pub mod representable;
+pub mod rings;

@@ -3,7 +3,7 @@ use mathlib.Core.Path.{_≡_, refl, _∙_, sym}
 use Rattle.clip.specs.declared.polygon.Route.{Route}
 use Rattle.clip.specs.Polygon.{routeExterior}
 use native.Mathlib.Omega.{arith}
-use Rattle.clip.proofs.Negations.{not-true, not-false}
+use borrow.Author.Tests.{not-true, not-false}
 use borrow.Author.Needs.{needs}
 use Rattle.clip.proofs.polygon.route_exterior.Statement.{statement}
 use Rattle.clip.proofs.polygon.route_exterior.Tie as tie

@@ -1,0 +1,15 @@
+-- `larger` meets its contract. Assumes nothing.
+use borrow.Author.Tests.{lt-ltb, le-ltb}
+use Rattle.clip.proofs.rings.larger.Statement.{statement}
+use Rattle.clip.proofs.rings.larger.Tie as tie
+use Rattle.clip.proofs.rings.larger.Reads as reads
+use Rattle.clip.proofs.rings.larger.Lts as lts
+
+returns : tie.Need-returns
+returns c = rw (lt-ltb _ _ (c .if1 .taken))
+
+returns-2 : tie.Need-returns-2
+returns-2 c = rw (le-ltb _ _ (c .if1 .left))
+
+pub larger-spec : {M : Type 1} → statement M
+larger-spec = tie.close (tie.spec returns returns-2)
