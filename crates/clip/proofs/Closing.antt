@@ -29,7 +29,6 @@ record Covers (before : Float → Float → Bool) (x a : Float) : Type 0 where
 
 module _ (before : Float → Float → Bool) (trans : (a b c : Float) → before a b ≡ true → before b c ≡ true → before a c ≡ true)
     (asym : (a b : Float) → before a b ≡ true → before b a ≡ false) where
-
   abbrev firstOf : Float → Float → Float
   firstOf a b = cond (before b a || isNan a) b a
 
@@ -57,6 +56,7 @@ module _ (before : Float → Float → Bool) (trans : (a b c : Float) → before
       no : (t : Bool) → before b x ≡ true → before a b ≡ t → before a b ≡ false
       no false e f = f
       no true e f = absurd (true≢false (sym (trans a b x f e) ∙ c .first))
+
       go : (t : Bool) → before b x ≡ t → Covers before (cond (t || isNan x) b x) a
       go true e = record { number = n; first = no (before a b) e refl }
       go false e = rw (c .number) c
@@ -75,7 +75,7 @@ gt-asym a b e = lt-asym b a e
 
 -- ---- the rectangle of a closed ring
 
-both : (s t : Bool) → s && t ≡ true → (s ≡ true) × (t ≡ true)
+pub both : (s t : Bool) → s && t ≡ true → (s ≡ true) × (t ≡ true)
 both true true e = (refl, refl)
 both true false e = absurd (true≢false (sym e))
 both false t e = absurd (true≢false (sym e))

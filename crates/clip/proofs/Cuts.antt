@@ -1,10 +1,10 @@
 -- A lent ring that is cut, and closed again: the room that it takes, and what stands at the front of the slice. Assumes nothing.
-use mathlib.Core.Path.{_≡_, refl, sym, _∙_, ap}
-use mathlib.Core.Logic.{_⊎_, inl, inr}
+use mathlib.Core.Path.{_≡_, refl, sym, _∙_}
 use mathlib.Core.Bool.{Bool, true, false, cond}
 use mathlib.Core.List.{List, [], _∷_, _++_}
-use Prim.Native.Nat.{ℕ, zero, suc, _+_, _*_, _<_, _≤_, _^_}
+use Prim.Native.Nat.{ℕ, zero, suc, _+_, _*_, _<_, _≤_}
 use native.Mathlib.Omega.{arith}
+use lib.Dec.{ltb}
 use lib.Ieee.{Float}
 use lib.ListN.{length, take, drop, length-append}
 use lib.Seq.{take-at, length-take-le}
@@ -12,13 +12,12 @@ use Rattle.tile.specs.declared.Coord.{Coord}
 use Rattle.tile.specs.declared.TileBounds.{TileBounds}
 use Rattle.tile.specs.Ring.{coords, flat, closed, close, Written}
 use Rattle.tile.proofs.Rings.{length-front, length-flat, coords-flat, coords-front, length-close}
-use Rattle.sutherland_hodgman.specs.Growth.{halfGrowth, fourHalfGrowths, B}
-use Rattle.sutherland_hodgman.specs.Clip.{clipRing}
-use Rattle.sutherland_hodgman.specs.Promise.{Promise}
+use Rattle.sutherland_hodgman.specs.Growth.{fourHalfGrowths, B}
+use Rattle.sutherland_hodgman.specs.Clip.{leaveOff, around, pass, passes, finish, clipRing}
 use Rattle.sutherland_hodgman.specs.Cutter.{Room, Cut}
-use Rattle.sutherland_hodgman.proofs.Growth.{halfGrowth-mono, B-positive, le-four}
+use Rattle.sutherland_hodgman.proofs.Growth.{halfGrowth-mono, clipRing-grows, B-positive, le-four}
 use Rattle.sutherland_hodgman.proofs.LeavingOff.{clip-close}
-use Rattle.clip.specs.Polygon.{RingRoom, Stands}
+use Rattle.clip.specs.Polygon.{cutHole, RingRoom, Stands}
 
 -- ---- room
 
@@ -46,15 +45,31 @@ close-most (p ∷ r) = go (closed (p ∷ r))
     go true = omega arith
     go false = omega (arith, length-append (p ∷ r) (p ∷ []))
 
+close-none : close [] ≡ []
+unfolding close
+close-none = refl
+
 -- a cut ring with coordinates can be closed once more
-promise-more : (b : TileBounds) (r q : List Coord) → Promise b r q → 0 < length q → suc (length q) ≤ B (length r)
-unfolding B fourHalfGrowths halfGrowth
-promise-more b [] q p h = go (length q) h (p .vertices) (p .growth)
+pub clip-more : (b : TileBounds) (r : List Coord) → 0 < length (clipRing b r) → suc (length (clipRing b r)) ≤ B (length r)
+unfolding clipRing passes pass around leaveOff finish B
+clip-more b [] h = absurd (omega arith)
+clip-more b (p ∷ r) h = omega (arith, clipRing-grows b (p ∷ r))
+
+-- a cut ring, closed again, has room; and so has one that is left out
+pub cut-fits-room : (b : TileBounds) (r : List Coord) → length (close (clipRing b r)) ≤ B (length r)
+cut-fits-room b r = go (clipRing b r) (clip-more b r)
   where
-    go : (n : ℕ) → 0 < n → (n ≡ 0) ⊎ (3 ≤ n) → n ≤ suc (fourHalfGrowths 0) → suc n ≤ 0
-    go n h (inl e) g = absurd (omega arith)
-    go n h (inr l) g = absurd (omega arith)
-promise-more b (p ∷ r) q h l = let g = h .growth in omega arith
+    go : (c : List Coord) → (0 < length c → suc (length c) ≤ B (length r)) → length (close c) ≤ B (length r)
+    go [] h = rw close-none (omega arith)
+    go (p ∷ c) h = omega (arith, close-most (p ∷ c), h (omega arith))
+
+pub hole-fits-room : (b : TileBounds) (r : List Coord) → length (cutHole b r) ≤ B (length r)
+unfolding cutHole
+hole-fits-room b r = go (ltb (length (clipRing b r)) 4)
+  where
+    go : (t : Bool) → length (cond t [] (close (clipRing b r))) ≤ B (length r)
+    go true = omega arith
+    go false = cut-fits-room b r
 
 -- ---- what a slice holds
 
@@ -87,10 +102,7 @@ module _ (n : ℕ) (s : List Float) (a b : ℕ) (room : RingRoom n s a b) where
     cut-count = c .count ∙ rw (clip-close bounds (coords (take (2 * n) s)) (room .closes))
 
     pub cut-fits : 0 < k → suc k ≤ B (length (close (coords (take (2 * n) s))))
-    cut-fits h =
-        let q = coords (take (2 * k) after) in
-        let e : length q ≡ k = rw cut-ring (sym cut-count) in
-        omega (arith, promise-more bounds (coords (take (2 * n) s)) q (c .promise) (omega arith), length-front s n (room .lent), B-mono n (length (close (coords (take (2 * n) s)))) lent-count, ap B (length-front s n (room .lent)))
+    cut-fits h = let m = clip-more bounds (close (coords (take (2 * n) s))) (omega (arith, cut-count)) in omega (arith, cut-count)
 
     -- closed by the domain rule
     module _ (r : ℕ) (after′ : List Float) (w : Written (close (coords (take (2 * k) after))) after r after′) where
@@ -99,3 +111,6 @@ module _ (n : ℕ) (s : List Float) (a b : ℕ) (room : RingRoom n s a b) where
 
       pub closed-fits : 0 < k → r ≤ B (length (close (coords (take (2 * n) s))))
       closed-fits h = omega (arith, closed-written .count, cut-count, cut-fits h, close-most (clipRing bounds (close (coords (take (2 * n) s)))))
+
+      pub closed-some : 0 < k → 0 < r
+      closed-some h = omega (arith, closed-written .count, cut-count, length-close (clipRing bounds (close (coords (take (2 * n) s)))))

@@ -2,21 +2,23 @@
 use mathlib.Core.Path.{_≡_, refl, ap}
 use mathlib.Core.Bool.{Bool, true, false, cond, _||_}
 use mathlib.Core.List.{List, [], _∷_}
-use Prim.Native.Nat.{ℕ, _+_, _*_, _-_, _<_, _≤_}
+use Prim.Native.Nat.{ℕ, suc, _+_, _*_, _-_, _^_, _<_, _≤_}
 use native.Mathlib.Numerals.{add-one}
 use native.Mathlib.Omega.{arith}
 use borrow.Author.Tests.{ltb-true, ltb-false}
 use lib.Dec.{ltb}
 use lib.Ieee.{Float}
-use lib.ListN.{length, getD, take, drop, length-drop, drop-of-length-le}
-use lib.Seq.{drop-cons, drop-drop, take-all}
+use lib.ListN.{length, getD, take, drop, drop-of-length-le}
+use lib.Seq.{drop-cons, drop-drop}
 use Rattle.tile.specs.declared.Coord.{Coord}
 use Rattle.tile.specs.Ring.{coords, close}
+use Rattle.sutherland_hodgman.specs.Growth.{mostCoordinates}
+use Rattle.sutherland_hodgman.proofs.Growth.{B-le}
 use Rattle.clip.specs.declared.rectangle.Rect.{Rect}
 use Rattle.clip.specs.Rectangle.{withRing, withRings}
 use Rattle.clip.specs.Representable.{anyHuge, anyHugeRing}
 use Rattle.clip.proofs.Closing.{rect-close, huge-close}
-use Rattle.clip.specs.Rings.{sum, closedRings, total, larger, largest, Lent}
+use Rattle.clip.specs.Rings.{sum, closedRings, total, larger, largest, ringRoom, Lent}
 
 -- the numbers of the rings that are left are there
 pub record Left (lengths : List ℕ) (s : List Float) (k at : ℕ) : Type 0 where
@@ -89,10 +91,6 @@ module _ (f : List Coord → ℕ) (lengths : List ℕ) (s : List Float) (k : ℕ
   unfolding largest
   largest-end at h = rw (rings-end lengths (drop at s) k h)
 
--- the part of a slice from a place on
-pub tail-part : (s : List Float) (at : ℕ) → take (length s - at) (drop at s) ≡ drop at s
-tail-part s at = take-all (length s - at) (drop at s) (omega (arith, length-drop at s))
-
 -- ---- the rectangle, and huge coordinates
 
 module _ (lengths : List ℕ) (s : List Float) (k at : ℕ) where
@@ -111,3 +109,26 @@ module _ (lengths : List ℕ) (s : List Float) (k at : ℕ) where
   pub huge-end : length lengths ≤ k → anyHugeRing (closedRings (drop k lengths) (drop at s)) ≡ false
   unfolding anyHugeRing
   huge-end h = rw (rings-end lengths (drop at s) k h)
+
+-- ---- how much it can be
+
+pub length-closed : (ns : List ℕ) (s : List Float) → length (closedRings ns s) ≡ length ns
+unfolding closedRings
+length-closed [] s = refl
+length-closed (n ∷ ns) s = ap suc (length-closed ns (drop (2 * n) s))
+
+-- the sum of a few u32
+pub sum-below : (ns : List ℕ) → ((i : ℕ) → getD ns i 0 < 2 ^ 32) → sum ns ≤ length ns * 2 ^ 32
+unfolding sum
+sum-below [] h = omega arith
+sum-below (n ∷ ns) h = let e = sum-below ns (λ i. h (suc i)) in let m = h 0 in omega arith
+
+pub largest-total : (f : List Coord → ℕ) (rings : List (List Coord)) → largest f rings ≤ total f rings
+unfolding largest total
+largest-total f [] = omega arith
+largest-total f (r ∷ rings) = let e = largest-total f rings in let l = larger-sum (f r) (largest f rings) in omega arith
+
+pub rooms-below : (rings : List (List Coord)) → total length rings ≤ mostCoordinates → total ringRoom rings ≤ length rings * (8 * mostCoordinates)
+unfolding total
+rooms-below [] h = omega arith
+rooms-below (r ∷ rings) h = let e = rooms-below rings (omega arith) in let b = B-le (length r) (omega arith) in omega arith

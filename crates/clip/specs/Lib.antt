@@ -3,3 +3,4 @@ pub mod Polygon
 pub mod Rectangle
 pub mod Representable
 pub mod Rings
+pub mod Slice

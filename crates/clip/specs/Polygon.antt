@@ -2,7 +2,7 @@
 use mathlib.Core.Path.{_≡_}
 use mathlib.Core.Bool.{true, _&&_, cond}
 use mathlib.Core.List.{List, [], _∷_}
-use Prim.Native.Nat.{ℕ, _*_, _≤_}
+use Prim.Native.Nat.{ℕ, _*_, _<_, _≤_}
 use lib.Dec.{ltb}
 use lib.Ieee.{Float}
 use lib.ListN.{length, take}
@@ -147,9 +147,9 @@ pub record Stands (ring : List Coord) (r : ℕ) (after : List Float) : Type 0 wh
   pub count : r ≡ length ring
   pub numbers : take (2 * r) after ≡ flat ring
 
--- where the route is a cut, the cut exterior stands at the front of the slice
+-- where the route is a cut, the cut exterior, which has coordinates, stands at the front of the slice
 abbrev pub CutStands : TileBounds → List Coord → Route → List Float → Type 0
 CutStands b ring To.Nothing after = Unit {0}
 CutStands b ring To.Unchanged after = Unit {0}
-CutStands b ring (To.Cut n) after = Stands (cutExterior b ring) n after
+CutStands b ring (To.Cut n) after = Stands (cutExterior b ring) n after × (0 < n)
 CutStands b ring (To.Overlay reason) after = Unit {0}

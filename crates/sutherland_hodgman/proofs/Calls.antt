@@ -37,11 +37,11 @@ pub record Cuttable (numbers a b out : ℕ) : Type 0 where
   pub second : 2 * B (numbers / 2) ≤ b
   pub output : 2 * B (numbers / 2) ≤ out
 
-not-refused : (t : Bool) (r : Refusal) (c : Check) → refuse t r c ≡ Passes → (t ≡ false) × (c ≡ Passes)
+pub not-refused : (t : Bool) (r : Refusal) (c : Check) → refuse t r c ≡ Passes → (t ≡ false) × (c ≡ Passes)
 not-refused true r c e = absurd (let z : _≡_ {A = ℕ} 0 1 = cc in omega arith)
 not-refused false r c e = (refl, e)
 
-neither : (s t : Bool) → s || t ≡ false → (s ≡ false) × (t ≡ false)
+pub neither : (s t : Bool) → s || t ≡ false → (s ≡ false) × (t ≡ false)
 neither true t e = absurd (true≢false e)
 neither false t e = (refl, e)
 

@@ -1,5 +1,4 @@
 -- `bridge_unless_skipped` meets its contract: the two cases of the definition. Assumes nothing.
-use mathlib.Core.Path.{sym, _∙_}
 use Rattle.clip.specs.Polygon.{bridgeUnlessSkipped}
 use borrow.Author.Needs.{needs}
 use Rattle.clip.proofs.polygon.bridge_unless_skipped.Statement.{statement}

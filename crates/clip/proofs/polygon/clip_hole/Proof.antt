@@ -1,7 +1,7 @@
 -- `clip_hole` meets its contract: cut, and left out or closed. Assumes nothing.
 use native.Mathlib.Omega.{arith}
 use denote.Ref.{now}
-use mathlib.Core.Path.{refl, _∙_, sym, ap}
+use mathlib.Core.Path.{refl}
 use borrow.Author.Tests.{lt-ltb, le-ltb}
 use Rattle.tile.specs.Ring.{flat}
 use Rattle.clip.specs.Polygon.{cutHole}

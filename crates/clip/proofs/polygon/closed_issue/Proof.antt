@@ -2,9 +2,9 @@
 use native.Mathlib.Omega.{arith}
 use denote.Ref.{now}
 use Prim.Native.Nat.{_*_}
-use mathlib.Core.Path.{_≡_, refl, _∙_, sym, ap}
+use mathlib.Core.Path.{_≡_, _∙_, sym}
 use lib.ListN.{length, take}
-use Rattle.tile.specs.Ring.{coords, closed, close, Written}
+use Rattle.tile.specs.Ring.{coords, close}
 use Rattle.tile.proofs.Rings.{close-closed, count-open, length-front}
 use Rattle.clip.proofs.Cuts.{le-B, lent-count, written-front, copied-front}
 use borrow.Author.Needs.{needs}

@@ -1,14 +1,14 @@
 -- `route_cut` meets its contract: each return is a case of `routeCut`. Assumes nothing.
 use native.Mathlib.Omega.{arith}
 use denote.Ref.{now}
-use mathlib.Core.Path.{_≡_, refl, _∙_, sym, ap}
-use borrow.Author.Tests.{lt-ltb, le-ltb}
+use mathlib.Core.Path.{_≡_, _∙_, sym, ap}
+use borrow.Author.Tests.{lt-ltb}
 use Prim.Native.Nat.{ℕ, _<_}
 use Rattle.box_pairs.specs.Issue.{issueOf}
 use Rattle.sutherland_hodgman.proofs.Growth.{B-le}
 use Rattle.clip.specs.declared.polygon.Route.the-variants.{Cut}
 use Rattle.clip.specs.Polygon.{bridgeUnlessSkipped, routeCut}
-use Rattle.clip.proofs.Cuts.{cutter-room, cut-count, cut-fits, closed-written, closed-fits, written-stands, written-front}
+use Rattle.clip.proofs.Cuts.{cutter-room, cut-count, cut-fits, closed-written, closed-fits, closed-some, written-stands, written-front}
 use borrow.Author.Needs.{needs}
 use Rattle.clip.proofs.polygon.route_cut.Statement.{statement}
 use Rattle.clip.proofs.polygon.route_cut.Tie as tie
@@ -22,7 +22,6 @@ use Rattle.tile.proofs.ring.close.Reads as close-reads
 
 some : {n : ℕ} → (n ≡ 0 → ⊥) → 0 < n
 some h = omega arith
-
 
 clip-ring-requires : tie.Need-clip-ring-requires
 clip-ring-requires c κs = let a = c .before .before .before .before .before .before in cutter-room (a .args .n) (now (a .args .ring)) _ _ (a .pre .room)
@@ -124,7 +123,7 @@ returns-4 c =
     let f = written-front _ _ _ _ w in
     let i = c .before .before .before .before .before .before .before .before .before .before .find-issue .ensures .0 ∙ ap (issueOf (a .args .flags .«assume_simple»)) f in
     let b = sym (c .before .before .bridge-unless-skipped .ensures ∙ ap (bridgeUnlessSkipped (a .args .flags) (a .args .bounds)) f) ∙ c .enum-told .given .1 in
-    (rw (← e, lt-ltb _ _ (some (c .before .before .before .before .before .before .before .before .before .before .before .before .before .before .before .before .before .before .if1 .left)), ← i, ← c .before .before .before .before .before .has-issue .ensures, c .before .before .before .before .if2 .left, b) (ap Cut (w .count)), written-stands _ _ _ _ w)
+    (rw (← e, lt-ltb _ _ (some (c .before .before .before .before .before .before .before .before .before .before .before .before .before .before .before .before .before .before .if1 .left)), ← i, ← c .before .before .before .before .before .has-issue .ensures, c .before .before .before .before .if2 .left, b) (ap Cut (w .count)), (written-stands _ _ _ _ w, closed-some (a .args .n) (now (a .args .ring)) _ _ (a .pre .room) (a .args .bounds) _ _ (c .before .before .before .before .before .before .before .before .before .before .before .before .before .before .before .before .before .before .before .before .before .before .before .clip-ring .ensures) _ _ (c .before .before .before .before .before .before .before .before .before .before .before .before .before .before .before .before .close .ensures) (some (c .before .before .before .before .before .before .before .before .before .before .before .before .before .before .before .before .before .before .if1 .left))))
 
 pub route-cut-spec : {M : Type 1} → statement M
 route-cut-spec =

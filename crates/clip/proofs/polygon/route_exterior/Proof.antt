@@ -1,6 +1,4 @@
 -- `route_exterior` meets its contract: each return is a case of `routeExterior`. Assumes nothing.
-use mathlib.Core.Path.{_≡_, refl, _∙_, sym}
-use Rattle.clip.specs.declared.polygon.Route.{Route}
 use Rattle.clip.specs.Polygon.{routeExterior}
 use native.Mathlib.Omega.{arith}
 use borrow.Author.Tests.{not-true, not-false}

@@ -1,13 +1,14 @@
 -- `closed_sum` meets its contract. The invariant: the count so far, with that of the rings that are left, is that of all. Assumes nothing.
-use mathlib.Core.Path.{_≡_, refl, _∙_, sym, ap}
-use Prim.Native.Nat.{_+_, _*_, _-_, _≤_, _<_, _^_}
+use mathlib.Core.Path.{_≡_, _∙_}
+use Prim.Native.Nat.{_+_, _*_, _-_, _≤_}
 use native.Mathlib.Omega.{arith}
 use denote.Ref.{now}
 use lib.ListN.{length, getD, take, drop, length-drop}
 use Rattle.tile.specs.Ring.{coords as coordinates, close}
 use Rattle.tile.proofs.Rings.{length-front}
 use Rattle.clip.specs.Rings.{closedRings, total}
-use Rattle.clip.proofs.LentRings.{Left, left-start, left-ring, left-next, total-step, total-end, tail-part}
+use Rattle.binary64.proofs.Fill.{tail-part}
+use Rattle.clip.proofs.LentRings.{Left, left-start, left-ring, left-next, total-step, total-end}
 use Rattle.clip.proofs.Cuts.{close-most}
 use borrow.Author.Needs.{needs}
 use Rattle.clip.proofs.rings.closed_sum.Statement.{statement}

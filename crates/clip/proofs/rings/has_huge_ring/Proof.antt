@@ -9,7 +9,8 @@ use lib.ListN.{length, getD, take, drop}
 use Rattle.tile.specs.Ring.{coords as coordinates}
 use Rattle.clip.specs.Representable.{anyHuge, anyHugeRing}
 use Rattle.clip.specs.Rings.{closedRings}
-use Rattle.clip.proofs.LentRings.{Left, left-start, left-ring, left-next, huge-step, huge-end, tail-part}
+use Rattle.binary64.proofs.Fill.{tail-part}
+use Rattle.clip.proofs.LentRings.{Left, left-start, left-ring, left-next, huge-step, huge-end}
 use Rattle.clip.proofs.rings.has_huge_ring.Statement.{statement}
 use Rattle.clip.proofs.rings.has_huge_ring.Tie as tie
 use Rattle.clip.proofs.rings.has_huge_ring.Reads as reads

@@ -1,9 +1,9 @@
 -- `lent_count` meets its contract. The invariant: the sum so far, with that of the lengths that are left, is that of all. Assumes nothing.
-use mathlib.Core.Path.{_≡_, refl, _∙_, sym, ap}
-use Prim.Native.Nat.{_+_, _*_, _-_, _≤_, _<_, _^_}
+use mathlib.Core.Path.{_≡_}
+use Prim.Native.Nat.{_+_, _*_, _-_, _≤_, _^_}
 use native.Mathlib.Omega.{arith}
 use denote.Ref.{now}
-use lib.ListN.{length, getD, drop}
+use lib.ListN.{length, drop}
 use Rattle.clip.specs.Rings.{sum}
 use Rattle.clip.proofs.LentRings.{sum-step, sum-end}
 use borrow.Author.Needs.{needs}

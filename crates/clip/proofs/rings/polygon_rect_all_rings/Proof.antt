@@ -9,7 +9,8 @@ use Rattle.clip.specs.declared.rectangle.Rect.{Rect}
 use Rattle.tile.specs.Ring.{coords as coordinates}
 use Rattle.clip.specs.Rectangle.{rectangle, withRing, withRings}
 use Rattle.clip.specs.Rings.{closedRings}
-use Rattle.clip.proofs.LentRings.{Left, left-start, left-ring, left-next, rect-step, rect-end, tail-part}
+use Rattle.binary64.proofs.Fill.{tail-part}
+use Rattle.clip.proofs.LentRings.{Left, left-start, left-ring, left-next, rect-step, rect-end}
 use Rattle.clip.proofs.rings.polygon_rect_all_rings.Statement.{statement}
 use Rattle.clip.proofs.rings.polygon_rect_all_rings.Tie as tie
 use Rattle.clip.proofs.rings.polygon_rect_all_rings.Reads as reads

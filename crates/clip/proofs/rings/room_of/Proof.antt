@@ -1,14 +1,15 @@
 -- `room_of` meets its contract. The invariant: what is measured so far, with the rings that are left, is that of all. Assumes nothing.
-use mathlib.Core.Path.{_≡_, refl, _∙_, sym}
+use mathlib.Core.Path.{_≡_, _∙_, sym}
 use Prim.Native.Nat.{_+_, _*_, _-_, _≤_}
 use native.Mathlib.Omega.{arith}
 use denote.Ref.{now}
 use lib.ListN.{length, getD, take, drop}
 use Rattle.tile.specs.Ring.{coords as coordinates, close}
-use Rattle.sutherland_hodgman.specs.Growth.{B, mostCoordinates}
+use Rattle.sutherland_hodgman.specs.Growth.{mostCoordinates}
 use Rattle.sutherland_hodgman.proofs.Growth.{B-le}
 use Rattle.clip.specs.Rings.{closedRings, total, larger, largest as most, ringRoom}
-use Rattle.clip.proofs.LentRings.{Left, left-start, left-ring, left-next, total-step, total-end, larger-assoc, larger-none, larger-zero, largest-step, largest-end, tail-part}
+use Rattle.binary64.proofs.Fill.{tail-part}
+use Rattle.clip.proofs.LentRings.{Left, left-start, left-ring, left-next, total-step, total-end, larger-assoc, larger-none, larger-zero, largest-step, largest-end}
 use borrow.Author.Needs.{needs}
 use Rattle.clip.proofs.rings.room_of.Statement.{statement}
 use Rattle.clip.proofs.rings.room_of.Tie as tie

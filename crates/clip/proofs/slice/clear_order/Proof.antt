@@ -1,0 +1,63 @@
+-- `clear_order` meets its contract. The invariant: the first i positions are zero. Assumes nothing.
+use mathlib.Core.Path.{_≡_, sym}
+use Prim.Native.Nat.{ℕ, _-_, _≤_}
+use native.Mathlib.Omega.{arith}
+use borrow.Author.Needs.{needs}
+use denote.Ref.{now}
+use lib.ListN.{length, replicate, length-replicate, getD-replicate}
+use Rattle.binary64.proofs.Fill.{Upto, upto-start, upto-step, upto-whole}
+use Rattle.clip.proofs.slice.clear_order.Statement.{statement}
+use Rattle.clip.proofs.slice.clear_order.Tie as tie
+use Rattle.clip.proofs.slice.clear_order.Reads as reads
+use Rattle.clip.proofs.slice.clear_order.Lts as lts
+
+abbrev Inv-loop : tie.InvT-loop
+Inv-loop s₀ i₀ s i = (i ≤ length s₀) × Upto (replicate (length s₀) 0) s₀ i s
+
+abbrev μ-loop : tie.MeasureT-loop
+μ-loop s₀ i₀ s i = length s₀ - i
+
+loop-holds : tie.Need-loop-holds Inv-loop μ-loop
+loop-holds c = (search needs, upto-start _ _)
+
+mul-s : tie.Need-mul-s Inv-loop μ-loop
+mul-s c = search needs
+
+slice-write-s : tie.Need-slice-write-s Inv-loop μ-loop
+slice-write-s c = search needs
+
+add-i : tie.Need-add-i Inv-loop μ-loop
+add-i c = search needs
+
+loop-less : tie.Need-loop-less Inv-loop μ-loop
+loop-less c = search needs
+
+loop-again : tie.Need-loop-again Inv-loop μ-loop
+loop-again c =
+    let n = length (now (c .before .before .args .s)) in
+    let z : length (replicate {A = ℕ} n 0) ≡ n = length-replicate n 0 in
+    (search needs, upto-step 0 _ (omega arith) (omega arith) (sym (getD-replicate n (c .before .loop .i) 0 0 (omega arith))) (c .before .loop .inv .1))
+
+same-length : tie.Need-same-length Inv-loop μ-loop
+same-length c = search needs
+
+returns : tie.Need-returns Inv-loop μ-loop
+returns c =
+    let n = length (now (c .before .before .args .s)) in
+    let z : length (replicate {A = ℕ} n 0) ≡ n = length-replicate n 0 in
+    upto-whole (omega arith) (omega arith) (c .before .loop .inv .1)
+
+pub clear-order-spec : {M : Type 1} → statement M
+clear-order-spec =
+    tie.close
+    (tie.spec
+    Inv-loop
+    μ-loop
+    loop-holds
+    mul-s
+    slice-write-s
+    add-i
+    loop-less
+    loop-again
+    same-length
+    returns)

@@ -1,0 +1,22 @@
+-- `overlay_or_dropped` meets its contract: the two cases of the definition. Assumes nothing.
+use Rattle.clip.specs.Polygon.{overlayOrDropped}
+use borrow.Author.Needs.{needs}
+use Rattle.clip.proofs.slice.overlay_or_dropped.Statement.{statement}
+use Rattle.clip.proofs.slice.overlay_or_dropped.Tie as tie
+use Rattle.clip.proofs.slice.overlay_or_dropped.Reads as reads
+use Rattle.clip.proofs.slice.overlay_or_dropped.Lts as lts
+use Rattle.clip.proofs.rings.has_huge_ring.Reads as has-huge-ring-reads
+
+has-huge-ring-requires : tie.Need-has-huge-ring-requires
+has-huge-ring-requires c κs = search needs
+
+returns : tie.Need-returns
+unfolding overlayOrDropped
+returns c = rw (← c .before .has-huge-ring .ensures, c .if1 .taken)
+
+returns-2 : tie.Need-returns-2
+unfolding overlayOrDropped
+returns-2 c = rw (← c .before .has-huge-ring .ensures, c .if1 .left)
+
+pub overlay-or-dropped-spec : {M : Type 1} → statement M
+overlay-or-dropped-spec = tie.close (tie.spec has-huge-ring-requires returns returns-2)
