@@ -10,7 +10,7 @@ use lib.Seq.{drop-cons}
 use Rattle.tile.specs.declared.Coord.{Coord}
 use Rattle.tile.specs.declared.TileBounds.{TileBounds}
 use Rattle.tile.specs.declared.Edge.{Edge}
-use Rattle.clip.specs.declared.bridge.Bridge.the-variants.{Apart, Along}
+use Rattle.clip.specs.declared.bridge.Bridge.the-variants.{None, Along}
 use Rattle.clip.specs.Bridge.{bridgeOf, firstBridge}
 use Rattle.clip.specs.Representable.{hugeCoord, anyHuge}
 
@@ -39,15 +39,15 @@ module _ (b : TileBounds) (r : List Coord) (i : ℕ) (z : Coord) (h : suc i < le
   unfolding firstBridge
   bridge-here l e = let f = rw add-one at e in rw (two, f)
 
-  pub bridge-later : bridgeOf b (getD r i z) (getD r (i + 1) z) ≡ Apart → firstBridge b (drop i r) ≡ firstBridge b (drop (i + 1) r)
+  pub bridge-later : bridgeOf b (getD r i z) (getD r (i + 1) z) ≡ None → firstBridge b (drop i r) ≡ firstBridge b (drop (i + 1) r)
   unfolding firstBridge
   bridge-later e = let f = rw add-one at e in rw (two, f, add-one) (rw (drop-cons r (suc i) z h))
 
-pub bridge-none : (b : TileBounds) (r : List Coord) (i : ℕ) → length r ≤ suc i → firstBridge b (drop i r) ≡ Apart
+pub bridge-none : (b : TileBounds) (r : List Coord) (i : ℕ) → length r ≤ suc i → firstBridge b (drop i r) ≡ None
 unfolding firstBridge
 bridge-none b r i h = go (drop i r) (omega (arith, length-drop i r))
   where
-    go : (l : List Coord) → length l ≤ 1 → firstBridge b l ≡ Apart
+    go : (l : List Coord) → length l ≤ 1 → firstBridge b l ≡ None
     go [] h = refl
     go (p ∷ []) h = refl
     go (p ∷ q ∷ l) h = absurd (omega arith)

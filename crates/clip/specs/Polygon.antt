@@ -16,7 +16,7 @@ use Rattle.box_pairs.specs.Issue.{issueOf, hasIssue}
 use Rattle.sutherland_hodgman.specs.Growth.{B, mostCoordinates}
 use Rattle.sutherland_hodgman.specs.Clip.{clipRing}
 use Rattle.clip.specs.declared.bridge.Bridge.{Bridge}
-use Rattle.clip.specs.declared.bridge.Bridge.the-variants.{Apart, Along}
+use Rattle.clip.specs.declared.bridge.Bridge.the-variants.{None, Along}
 use Rattle.clip.specs.declared.rectangle.Rect.{Rect}
 use Rattle.clip.specs.declared.rectangle.Rect.the-variants as Rects
 use Rattle.clip.specs.declared.polygon.Flags.{Flags}
@@ -36,12 +36,12 @@ overlayIfIssue issue reason route = cond (hasIssue issue) (To.Overlay reason) ro
 
 -- "This last test is skipped only if both flags are set."
 unfoldable pub bridgeUnlessSkipped : Flags → TileBounds → List Coord → Bridge
-bridgeUnlessSkipped flags b r = cond (flags .«assume_simple» && flags .«skip_boundary_fallback») Apart (firstBridge b r)
+bridgeUnlessSkipped flags b r = cond (flags .«assume_simple» && flags .«skip_boundary_fallback») None (firstBridge b r)
 
 -- "Reasons 3 to 6: no issue, but an edge of the cut exterior .."
 abbrev pub overlayIfBridge : Bridge → Route → Route
 overlayIfBridge (Along edge) route = To.Overlay (Because.Bridge edge)
-overlayIfBridge Apart route = route
+overlayIfBridge None route = route
 
 -- the cut exterior as the polygon holds it: "This also applies to cut rings"
 abbrev pub cutExterior : TileBounds → List Coord → List Coord

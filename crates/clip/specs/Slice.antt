@@ -71,7 +71,7 @@ answered (Fails r) to = Refused r
 answered Passes to = Answered (answerOf to)
 
 -- what becomes of the lent polygon
-abbrev pub routeLent : Flags → TileBounds → Float → List Float → List ℕ → Routed
+unfoldable pub routeLent : Flags → TileBounds → Float → List Float → List ℕ → Routed
 routeLent flags bounds buffer coords lengths = route flags (buffered bounds buffer) (closedRings lengths coords)
 
 -- ---- the lent slices afterwards
@@ -114,20 +114,40 @@ pub record Done (check : Check) (to : Routed) (a b : List Float) (order : List �
   pub output : out′ ≡ ifPassed check out (over (numbersOf (writtenRings to)) out)
   pub lengths : outLengths′ ≡ ifPassed check outLengths (over (lengthsOf (writtenRings to)) outLengths)
 
--- ---- the answer as one number
+-- ---- answers as numbers
 
 -- "(0 nothing, 1 whole dropped, 2 whole unchanged, ..", "(2 unchanged, 4 cut, 5 overlay)"
 abbrev pub answerNumber : PolygonAnswer → ℕ
 answerNumber Is.Nothing = 0
 answerNumber Is.Dropped = 1
 answerNumber Is.Unchanged = 2
-answerNumber (Is.Cut rings) = 4 + 65536 * rings
-answerNumber (Is.Overlay reason) = 5 + 256 * reasonNumber reason
+answerNumber (Is.Cut rings) = 4
+answerNumber (Is.Overlay reason) = 5
 
--- minus the refusal's number; or the answer's, with 256 times an overlay's reason and 65,536 times the count of a cut's rings
+-- "reason, 1 byte, 0 unless overlay"
+abbrev pub answerReason : PolygonAnswer → ℕ
+answerReason Is.Nothing = 0
+answerReason Is.Dropped = 0
+answerReason Is.Unchanged = 0
+answerReason (Is.Cut rings) = 0
+answerReason (Is.Overlay reason) = reasonNumber reason
+
+-- "the answer tells how many rings"
+abbrev pub answerRings : PolygonAnswer → ℕ
+answerRings Is.Nothing = 0
+answerRings Is.Dropped = 0
+answerRings Is.Unchanged = 0
+answerRings (Is.Cut rings) = rings
+answerRings (Is.Overlay reason) = 0
+
+-- all of it in one number
+abbrev pub answerCode : PolygonAnswer → ℕ
+answerCode answer = answerNumber answer + 256 * answerReason answer + 65536 * answerRings answer
+
+-- minus the refusal's number, or the answer's code
 abbrev pub code : SliceAnswer → ℤ
 code (Refused r) = negℤ (pos (number r))
-code (Answered answer) = pos (answerNumber answer)
+code (Answered answer) = pos (answerCode answer)
 
 -- ---- what the code asks for and leaves
 
@@ -154,7 +174,7 @@ pub record Put (n : ℕ) (numbers : List Float) (at : Placed) (out : List Float)
   pub numbers-after : r .numbers ≡ at .numbers + 2 * n
   pub rings-after : r .rings ≡ at .rings + length (lengthUnlessNone n)
 
--- lent rings can be closed and cut in two slices of these lengths, and have room behind what is written
+-- lent rings can be cut in two slices of these lengths, and have room behind what is written; closing closes them, as no first coordinate holds a NaN
 pub record RingsRoom (lengths : List ℕ) (coords : List Float) (a b out outLengths : ℕ) (at : Placed) : Type 0 where
   pub measurable : Measurable lengths coords
   pub closes : allClosed (closedRings lengths coords) ≡ true
@@ -176,7 +196,7 @@ pub record CutRoom (bounds : TileBounds) (lengths : List ℕ) (coords : List Flo
   pub stands : Stands (cutExterior bounds (exterior (closedRings lengths coords))) m b
   pub whole : 0 < m
 
--- a polygon that the checks pass, whose coordinates are finite
+-- a polygon with room for its rings, whose exterior takes positions besides
 pub record Clippable (lengths : List ℕ) (coords : List Float) (a b order out outLengths : ℕ) : Type 0 where
   pub rings : RingsRoom lengths coords a b out outLengths nonePlaced
   pub some : 0 < length lengths

@@ -15,7 +15,7 @@ use tile::ring::coord_at;
 
 // No edge along a bound, or one, and the bound.
 pub enum Bridge {
-    Apart,
+    None,
     Along(Edge),
 }
 
@@ -42,7 +42,7 @@ fn bridge_of(p: Coord, q: Coord, bounds: TileBounds) -> Bridge
     ensures { λ r. ⌜ r ≡ S.bridgeOf bounds p q ⌝ }
 {
     if is_short(p, q) {
-        return Bridge::Apart;
+        return Bridge::None;
     }
     if runs_along(p, q, Edge::Left, bounds) {
         return Bridge::Along(Edge::Left);
@@ -56,7 +56,7 @@ fn bridge_of(p: Coord, q: Coord, bounds: TileBounds) -> Bridge
     if runs_along(p, q, Edge::Top, bounds) {
         return Bridge::Along(Edge::Top);
     }
-    Bridge::Apart
+    Bridge::None
 }
 
 // The first bridge of the ring of n coordinates at the front of a slice.
@@ -74,5 +74,5 @@ pub fn first_bridge(ring: &[f64], n: usize, bounds: TileBounds) -> Bridge
         }
         k += 1;
     }
-    Bridge::Apart
+    Bridge::None
 }

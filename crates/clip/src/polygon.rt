@@ -1,4 +1,4 @@
-// The routing of one polygon by its exterior, and the cut of a hole: the source's `clip_polygon` and `clip_polygon_sh`. Rings are lent as x, y numbers and taken as closed.
+// The routing of one polygon by its exterior, and the cut of a hole: the source's `clip_polygon` and `clip_polygon_sh`. Rings are lent as x, y numbers, closed or not, and closed here.
 ghost use mathlib.Core.Path.{_≡_};
 ghost use mathlib.Core.Bool.{_&&_};
 ghost use Prim.Native.Nat.{_*_, _≤_};
@@ -20,7 +20,7 @@ use tile::TileBounds;
 use tile::ring::close;
 use tile::ring::is_closed;
 
-// What the caller knows of a polygon: that no two edges of its exterior cross, and that edges of the cut exterior along a bound may stay.
+// Whether the crossing test of the exterior and of the cut exterior is left out, and whether, if both are set, the test for edges along a bound is too.
 pub struct Flags {
     pub assume_simple: bool,
     pub skip_boundary_fallback: bool,
@@ -84,7 +84,7 @@ fn bridge_unless_skipped(ring: &[f64], n: usize, flags: Flags, bounds: TileBound
     ensures { λ r. ⌜ r ≡ S.bridgeUnlessSkipped flags bounds (coords (take (2 * n) (now (ring .entry)))) ⌝ }
 {
     if skips_bridges(flags) {
-        return Bridge::Apart;
+        return Bridge::None;
     }
     first_bridge(ring, n, bounds)
 }

@@ -19,12 +19,11 @@ use super::rings::room_of;
 use binary64::slices::clear;
 use binary64::slices::copy;
 use sutherland_hodgman::call::Check;
+use sutherland_hodgman::call::MOST_COORDINATES;
 use sutherland_hodgman::call::Refusal;
 use tile::TileBounds;
 
 pub const MOST_RINGS: usize = 64;
-
-pub const MOST_COORDINATES: usize = 65536;
 
 // What becomes of a polygon; of a cut, how many rings it has. Dropped means guard count 1.
 pub enum PolygonAnswer {
@@ -203,7 +202,7 @@ fn overlay_or_dropped(coords: &[f64], lengths: &[u32], reason: Reason) -> Polygo
     PolygonAnswer::Overlay(reason)
 }
 
-// What becomes of a polygon whose coordinates are finite.
+// What becomes of a polygon whose rectangle is four numbers.
 fn clip_finite(
     flags: Flags,
     rect: Rect,
@@ -281,7 +280,7 @@ fn clear_order(s: &mut [u32])
     }
 }
 
-// What becomes of one polygon, its rings closed beforehand. A refusal changes nothing lent. Any other answer fills both scratch slices and the order slice with zeros, whole, and leaves the output and the second length slice past a cut's rings unchanged.
+// What becomes of one polygon, whose rings it closes. A refusal changes nothing lent. Any other answer fills both scratch slices and the order slice with zeros, whole, and leaves the output and the second length slice past a cut's rings unchanged.
 // The logic has one NaN: a NaN stands exactly where the definition has one, and its bits are free, also in a slice that is left unchanged.
 pub fn polygon(
     flags: Flags,

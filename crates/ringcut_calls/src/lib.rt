@@ -1,10 +1,19 @@
 // The calls that C and Rust programs link, in one static library. A slice crosses as a pointer and a length; a refusal is answered as minus its number.
 ghost use mathlib.Core.Path.{_≡_};
+ghost use Prim.Native.Nat.{_^_, _<_};
 ghost use lib.ListN.{length};
 ghost use Rattle.tile.specs.Bounds.{newOf};
 ghost use Rattle.sutherland_hodgman.specs.Call as S;
+ghost use Rattle.clip.specs.Polygon.{edgeNumber, reasonNumber};
+ghost use Rattle.clip.specs.Slice as P;
+ghost use Rattle.ringcut_calls.specs.Flags.{isSet, flagsOf};
+use clip::polygon::Flags;
+use clip::polygon::Reason;
+use clip::slice::PolygonAnswer;
+use clip::slice::SliceAnswer;
 use sutherland_hodgman::call::Refusal;
 use sutherland_hodgman::call::RingAnswer;
+use tile::Edge;
 use tile::TileBounds;
 
 // Minus the number of a refusal.
@@ -40,5 +49,95 @@ pub extern "C" fn ringcut_ring(
     match sutherland_hodgman::call::ring(ring, bounds, scratch_a, scratch_b, out) {
         RingAnswer::Refused(r) => refusal_code(r),
         RingAnswer::Clipped(n) => n as i64,
+    }
+}
+
+// The number of the edge that a bridge runs along, as a reason.
+fn edge_number(edge: Edge) -> usize
+    ensures { λ r. ⌜ r ≡ edgeNumber edge ⌝ }
+{
+    match edge {
+        Edge::Left => 3,
+        Edge::Right => 4,
+        Edge::Bottom => 5,
+        Edge::Top => 6,
+    }
+}
+
+fn reason_number(reason: Reason) -> usize
+    ensures { λ r. ⌜ r ≡ reasonNumber reason ⌝ }
+{
+    match reason {
+        Reason::Input(issue) => 1,
+        Reason::Cut(issue) => 2,
+        Reason::Bridge(edge) => edge_number(edge),
+    }
+}
+
+// An answer as one number: what it is, 256 times the reason of an overlay, 65,536 times the count of a cut's rings.
+fn answer_code(answer: PolygonAnswer) -> usize
+    requires { ⌜ P.answerCode answer < 2 ^ 32 ⌝ }
+    ensures { λ r. ⌜ r ≡ P.answerCode answer ⌝ }
+{
+    match answer {
+        PolygonAnswer::Nothing => 0,
+        PolygonAnswer::Dropped => 1,
+        PolygonAnswer::Unchanged => 2,
+        PolygonAnswer::Cut(rings) => 4 + 65536 * rings,
+        PolygonAnswer::Overlay(reason) => 5 + 256 * reason_number(reason),
+    }
+}
+
+// Whether a flag that crosses as a number is set: any but 0.
+fn is_set(flag: u8) -> bool
+    ensures { λ r. ⌜ r ≡ isSet flag ⌝ }
+{
+    flag != 0
+}
+
+// The slice call: the answer's code, or minus the refusal. A NaN stands exactly where the definition has one, and its bits are free.
+#[no_mangle]
+pub extern "C" fn ringcut_polygon(
+    assume_simple: u8,
+    skip_boundary_fallback: u8,
+    west: f64,
+    south: f64,
+    east: f64,
+    north: f64,
+    buffer: f64,
+    coords: &[f64],
+    lengths: &[u32],
+    scratch_a: &mut [f64],
+    scratch_b: &mut [f64],
+    order: &mut [u32],
+    out: &mut [f64],
+    out_lengths: &mut [u32],
+) -> i64
+    ensures { λ c. ⌜ c ≡ P.code (P.answered (P.checked (now (coords .entry)) (now (lengths .entry)) (length (now («scratch_a» .entry))) (length (now («scratch_b» .entry))) (length (now (order .entry))) (length (now (out .entry))) (length (now («out_lengths» .entry))))
+        (P.routeLent (flagsOf «assume_simple» «skip_boundary_fallback») (newOf west south east north) buffer (now (coords .entry)) (now (lengths .entry)))) ⌝ }
+    ensures { λ _. ⌜ P.Done (P.checked (now (coords .entry)) (now (lengths .entry)) (length (now («scratch_a» .entry))) (length (now («scratch_b» .entry))) (length (now (order .entry))) (length (now (out .entry))) (length (now («out_lengths» .entry))))
+        (P.routeLent (flagsOf «assume_simple» «skip_boundary_fallback») (newOf west south east north) buffer (now (coords .entry)) (now (lengths .entry)))
+        (now («scratch_a» .entry)) (now («scratch_b» .entry)) (now (order .entry)) (now (out .entry)) (now («out_lengths» .entry))
+        (now («scratch_a» .exit)) (now («scratch_b» .exit)) (now (order .exit)) (now (out .exit)) (now («out_lengths» .exit)) ⌝ }
+{
+    let flags = Flags {
+        assume_simple: is_set(assume_simple),
+        skip_boundary_fallback: is_set(skip_boundary_fallback),
+    };
+    let bounds = TileBounds::new(west, south, east, north);
+    match clip::slice::polygon(
+        flags,
+        bounds,
+        buffer,
+        coords,
+        lengths,
+        scratch_a,
+        scratch_b,
+        order,
+        out,
+        out_lengths,
+    ) {
+        SliceAnswer::Refused(r) => refusal_code(r),
+        SliceAnswer::Answered(answer) => answer_code(answer) as i64,
     }
 }

@@ -42,7 +42,7 @@ pub fn compare_slice_calls(seed: u64, count: u64) -> Campaign {
     })
 }
 
-fn label(answer: &SliceAnswer) -> &'static str {
+pub fn label(answer: &SliceAnswer) -> &'static str {
     match answer {
         SliceAnswer::Nothing => "nothing",
         SliceAnswer::Dropped => "dropped",

@@ -6,3 +6,4 @@ pub mod issues;
 pub mod probe;
 pub mod promise;
 pub mod rings;
+pub mod slices;

@@ -4,7 +4,7 @@ use std::process::exit;
 
 use compare::command::Command;
 
-const USAGE: &str = "usage: port bounds|issues|rings [--seed S] [--count N]";
+const USAGE: &str = "usage: port bounds|issues|rings|slices [--seed S] [--count N]";
 
 fn main() {
     let Command { what, seed, count } = Command::read(USAGE);
@@ -12,6 +12,7 @@ fn main() {
         "bounds" => port::bounds::compare(seed, count),
         "issues" => port::issues::compare(seed, count),
         "rings" => port::rings::compare(seed, count),
+        "slices" => port::slices::compare(seed, count),
         _ => {
             eprintln!("{USAGE}");
             exit(2);

@@ -4,6 +4,7 @@ use mathlib.Core.List.{List}
 use Prim.Native.Nat.{ℕ}
 use lib.ListN.{replicate}
 use Rattle.sutherland_hodgman.proofs.Calls.{cleared}
+use Rattle.clip.specs.Slice.{routeLent}
 use Rattle.clip.specs.declared.slice.SliceAnswer.the-variants.{Answered}
 use borrow.Author.Needs.{needs}
 use Rattle.clip.proofs.slice.polygon.Statement.{statement}
@@ -62,6 +63,7 @@ same-length-5 : tie.Need-same-length-5
 same-length-5 c = search needs
 
 returns-2 : tie.Need-returns-2
+unfolding routeLent
 returns-2 c =
     let p = sym (c .before .before .before .before .before .before .before .before .before .before .before .before .before .before .before .before .before .before .before .before .before .before .before .before .before .before .before .before .before .before .before .check-polygon .ensures) ∙ c .before .before .before .before .before .before .before .before .before .before .before .before .before .before .before .before .before .before .before .before .before .before .before .before .before .before .before .before .before .enum-told .given .1 in
     let cut = c .before .before .before .before .before .before .before .before .before .before .before .before .before .before .before .before .before .before .before .before .before .before .clip-polygon in

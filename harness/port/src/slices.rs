@@ -1,0 +1,44 @@
+//! The slice call: the port against the Rust's `clip_polygon`, every lent number checked.
+
+use compare::calls::{label, styles};
+use compare::campaign::{self, Campaign, Checked};
+use compare::frames::refusal_label;
+use formats::calls::{SliceAfter, SliceCall};
+
+use crate::calls::{self, Flags, Lent};
+
+/// Numbers that set a flag: any but 0.
+const SET: [u8; 4] = [1, 2, 128, 255];
+
+/// `count` slice calls of each style.
+pub fn compare(seed: u64, count: u64) -> Campaign {
+    campaign::run("port slice calls", seed, count, &styles(), |style, index| {
+        check(&generator::slice_call(style, seed, index), SET[index as usize % SET.len()])
+    })
+}
+
+/// One call, its flags set by the given number, held to the oracle's answer.
+pub fn check(call: &SliceCall, set: u8) -> Checked {
+    let oracle = oracle::slice_call(call);
+    match answer(call, set).difference(&call.after(&oracle)) {
+        Some(difference) => Err(format!("{call}: {difference}")),
+        None => Ok(oracle.as_ref().map_or_else(|refusal| refusal_label(*refusal), label)),
+    }
+}
+
+/// The port's answer to a call, and the lent slices afterwards.
+fn answer(call: &SliceCall, set: u8) -> SliceAfter {
+    let flag = |is_set: bool| if is_set { set } else { 0 };
+    let flags =
+        Flags { assume_simple: flag(call.assume_simple), skip_boundary_fallback: flag(call.skip_boundary_fallback) };
+    let mut after = call.after(&Err(0));
+    let lent = Lent {
+        scratch_a: &mut after.scratch_a,
+        scratch_b: &mut after.scratch_b,
+        order: &mut after.order,
+        out: &mut after.out,
+        out_lengths: &mut after.out_lengths,
+    };
+    after.answer = calls::polygon(flags, &call.bounds, call.buffer, &call.coords, &call.lengths, lent);
+    after
+}
