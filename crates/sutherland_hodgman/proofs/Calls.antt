@@ -5,9 +5,9 @@ use mathlib.Core.Bool.{Bool, true, false, _||_, true≢false}
 use mathlib.Core.List.{List, [], _∷_, _++_}
 use Prim.Native.Nat.{ℕ, suc, _+_, _*_, _/_, _%_, _≤_}
 use native.Mathlib.Omega.{arith}
-use lib.Dec.{ltb, eqb}
-use lib.Ieee.{Float}
-use lib.ListN.{length, take, drop}
+use lib.Dec.{T, ltb, eqb}
+use lib.Ieee.{Float, nan, binary64, fits}
+use lib.ListN.{length, getD, take, drop}
 use lib.Seq.{take-length}
 use borrow.Author.Tests.{ltb-false, eqb-false}
 use Rattle.binary64.specs.Slices.{zeros}
@@ -24,7 +24,10 @@ use Rattle.sutherland_hodgman.specs.Growth.{halfGrowth, fourHalfGrowths,
 use Rattle.sutherland_hodgman.specs.Clip.{clipRing}
 use Rattle.sutherland_hodgman.specs.Promise.{Promise}
 use Rattle.sutherland_hodgman.specs.Cutter.{Cut}
+use Rattle.sutherland_hodgman.specs.Walk.{threePasses, Stands, Topped}
 use Rattle.sutherland_hodgman.proofs.Growth.{clipRing-grows}
+use Rattle.sutherland_hodgman.proofs.Promises.{HeldBounds, held-front}
+use Rattle.sutherland_hodgman.proofs.LastPass.{topped-cut, topped-written}
 use Rattle.sutherland_hodgman.specs.Call.{refuse, checked, answered, ringAnswer, Done, ClippedTo, scratchAfter}
 
 -- ---- what passes the checks has room
@@ -83,6 +86,12 @@ module _ (ring : List Float) (bounds : TileBounds) (numbers : 2 * (length ring /
   pub whole-ring : coords (take (2 * (length ring / 2)) ring) ≡ coords ring
   whole-ring = rw (numbers, take-length ring)
 
+  -- what the passes leave is the cut of the whole ring
+  pub lent-cut : (k : ℕ) (d d₀ d′ : List Float) (r : ℕ) → HeldBounds bounds → ((i : ℕ) → T (fits binary64 (getD ring i nan))) → Stands (threePasses bounds (coords (take (2 * (length ring / 2)) ring))) k d
+      → Topped bounds (coords (take (2 * k) d)) d₀ r d′ → Cut bounds (coords ring) r d′
+  lent-cut k d d₀ d′ r hb hr s t =
+      rw whole-ring at (topped-cut bounds (coords (take (2 * (length ring / 2)) ring)) k d d₀ d′ r hb (held-front ring (length ring / 2) hr) s t)
+
   -- what stands at the front of the slice
   cut-ring : (r : ℕ) (after : List Float) → Cut bounds (coords ring) r after → coords (take (2 * r) after) ≡ clipRing bounds (coords ring)
   cut-ring r after c = rw (c .numbers) (coords-flat (clipRing bounds (coords ring)))
@@ -97,6 +106,13 @@ module _ (ring : List Float) (bounds : TileBounds) (numbers : 2 * (length ring /
         written = record { count = c .count; numbers = o };
         promise = rw (coords-front (clipRing bounds (coords ring)) (drop (2 * r) out) out′ r (c .count) o, ← cut-ring r cut c) (c .promise);
       }
+
+  pub topped-clipped : (k : ℕ) (d out out′ : List Float) (r : ℕ) → HeldBounds bounds → ((i : ℕ) → T (fits binary64 (getD ring i nan))) → 4 ≤ k
+      → Stands (threePasses bounds (coords (take (2 * (length ring / 2)) ring))) k d → Topped bounds (coords (take (2 * k) d)) out r out′ → ClippedTo ring bounds out r out′
+  topped-clipped k d out out′ r hb hr h s t = record {
+    written = rw whole-ring at (topped-written bounds (coords (take (2 * (length ring / 2)) ring)) k d out out′ r h s t);
+    promise = lent-cut k d out out′ r hb hr s t .promise;
+  }
 
 pub clipped-done : (ring : List Float) (bounds : TileBounds) (a b out a′ b′ out′ : List Float) (r : ℕ) → ClippedTo ring bounds out r out′
     → a′ ≡ scratchAfter (Clipped r) a → b′ ≡ scratchAfter (Clipped r) b → Done ring bounds a b out (Clipped r) a′ b′ out′

@@ -2,7 +2,7 @@
 use mathlib.Core.Path.{_≡_, refl}
 use mathlib.Core.Bool.{Bool, true, false, cond}
 use mathlib.Core.List.{List, [], _∷_}
-use Prim.Native.Nat.{ℕ, zero, suc, _+_, _*_, _-_, _≤_, zero-le}
+use Prim.Native.Nat.{ℕ, zero, suc, _+_, _*_, _-_, _≤_, _<_, zero-le}
 use native.Mathlib.Nat.{le-refl, le-trans}
 use native.Mathlib.Omega.{arith}
 use lib.Dec.{leb}
@@ -127,7 +127,13 @@ unfolding B fourHalfGrowths halfGrowth
 room-pass zero space k h l = omega arith
 room-pass (suc n) space k h l = omega arith
 
-pub room-close : (n space k : ℕ) → 2 * B n ≤ space → k ≤ fourHalfGrowths n → 3 ≤ k → 2 * k + 2 ≤ space
+-- one vertex more
+pub room-more : (n space k : ℕ) → 2 * B n ≤ space → k ≤ fourHalfGrowths n → 0 < n → 2 * k + 2 ≤ space
 unfolding B fourHalfGrowths halfGrowth
-room-close zero space k h l t = absurd (omega arith)
-room-close (suc n) space k h l t = omega arith
+room-more zero space k h l t = absurd (omega arith)
+room-more (suc n) space k h l t = omega arith
+
+pub grown-some : (n k : ℕ) → k ≤ grown 3 n → 0 < k → 0 < n
+unfolding grown halfGrowth
+grown-some zero k h t = absurd (omega arith)
+grown-some (suc n) k h t = omega arith

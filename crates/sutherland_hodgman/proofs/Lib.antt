@@ -1,6 +1,7 @@
 pub mod Calls
 mod Cases
 pub mod Growth
+pub mod LastPass
 pub mod LeavingOff
 pub mod Promises
 pub mod Stages

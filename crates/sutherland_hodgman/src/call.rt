@@ -4,7 +4,8 @@ ghost use Prim.Native.Nat.{_*_, _≤_};
 ghost use lib.ListN.{length};
 ghost use Rattle.sutherland_hodgman.specs.Growth.{halfGrowth, B, mostCoordinates};
 ghost use Rattle.sutherland_hodgman.specs.Call as S;
-use super::clip_ring;
+use super::clip_three_edges;
+use super::clip_top;
 use binary64::slices::clear;
 use binary64::slices::copy;
 use tile::TileBounds;
@@ -74,7 +75,7 @@ pub fn check_ring(numbers: usize, a: usize, b: usize, out: usize) -> Check
     Check::Passes
 }
 
-// Cuts a ring that the checks pass, and copies the result out. The scratch slices are left as the cutter leaves them.
+// Cuts a ring that the checks pass. The last pass writes the output itself, but for a ring that may be given up: what stands there past the answer must not change. The scratch slices are left as the passes leave them.
 pub fn clip_lent(
     ring: &[f64],
     bounds: TileBounds,
@@ -85,9 +86,13 @@ pub fn clip_lent(
     requires { ⌜ S.checked (length (now ring)) (length (now a)) (length (now b)) (length (now out)) ≡ Check.Passes ⌝ }
     ensures { λ r. ⌜ S.ClippedTo (now (ring .entry)) bounds (now (out .entry)) r (now (out .exit)) ⌝ }
 {
-    let n = clip_ring(ring, ring.len() / 2, bounds, a, b);
-    copy(b, out, 2 * n);
-    n
+    let bottom = clip_three_edges(ring, ring.len() / 2, bounds, a, b);
+    if bottom.len < 4 {
+        let n = clip_top(a, bottom.len, bounds, b);
+        copy(b, out, 2 * n);
+        return n;
+    }
+    clip_top(a, bottom.len, bounds, out)
 }
 
 // `clip_ring` on the ring as lent, not closed beforehand. A refusal changes nothing lent; a success fills both scratch slices with zeros, whole, and leaves the output past the answer unchanged.

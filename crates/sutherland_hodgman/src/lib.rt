@@ -1,10 +1,9 @@
 // Sutherland-Hodgman cutting of a ring at the four edges of the bounds: one pass, the ring cutter, and the ring call.
 ghost use mathlib.Core.Path.{_≡_};
-ghost use mathlib.Core.Bool.{true, false};
+ghost use mathlib.Core.Bool.{true, false, not};
 ghost use Prim.Native.Nat.{_+_, _*_, _≤_, _<_};
 ghost use lib.ListN.{length, take};
-ghost use lib.Seq.{sets};
-ghost use Rattle.tile.specs.Ring.{coords, flat, coordAt, Written};
+ghost use Rattle.tile.specs.Ring.{coords, coordAt, Written};
 ghost use Rattle.sutherland_hodgman.specs.Lines as L;
 ghost use Rattle.sutherland_hodgman.specs.Clip as S;
 ghost use Rattle.sutherland_hodgman.specs.Walk as W;
@@ -172,9 +171,9 @@ fn leave(ring: &[f64], m: usize, edge: Edge, bounds: TileBounds, out: &mut [f64]
 
 // From a vertex that is out to one that is in, or to the end.
 fn enter(ring: &[f64], m: usize, edge: Edge, bounds: TileBounds, out: &mut [f64], at: Walk) -> Walk
-    requires { ⌜ (2 * m ≤ length (now ring)) × (0 < m) × (at .i ≤ m)
+    requires { ⌜ (2 * m ≤ length (now ring)) × (at .i < m)
         × (2 * (at .len + length (W.left edge bounds (coords (take (2 * m) (now ring))) false (at .i))) ≤ length (now out)) ⌝ }
-    ensures { λ r. ⌜ (at .i ≤ r .i) × (r .i ≤ m)
+    ensures { λ r. ⌜ (at .i < r .i) × (r .i ≤ m)
         × W.Onward edge bounds (coords (take (2 * m) (now (ring .entry)))) false (at .i) (at .len) (now (out .entry)) true (r .i) (r .len) (now (out .exit)) ⌝ }
 {
     let j = skip_outside(ring, m, edge, bounds, at.i);
@@ -191,24 +190,29 @@ fn enter(ring: &[f64], m: usize, edge: Edge, bounds: TileBounds, out: &mut [f64]
     }
 }
 
-// From the last vertex, before the first: nothing is done where it is in, else goes on to a vertex that is in, or to the end.
-fn start(ring: &[f64], m: usize, edge: Edge, bounds: TileBounds, out: &mut [f64]) -> Walk
-    requires { ⌜ (2 * m ≤ length (now ring)) × (0 < m)
-        × (2 * length (S.around edge bounds (coords (take (2 * m) (now ring)))) ≤ length (now out)) ⌝ }
-    ensures { λ r. ⌜ (r .i ≤ m)
-        × (length (S.around edge bounds (coords (take (2 * m) (now (ring .entry))))) ≡ r .len + length (W.left edge bounds (coords (take (2 * m) (now (ring .entry)))) true (r .i)))
-        × (sets (now (out .entry)) 0 (flat (S.around edge bounds (coords (take (2 * m) (now (ring .entry))))))
-        ≡ sets (now (out .exit)) (2 * r .len) (flat (W.left edge bounds (coords (take (2 * m) (now (ring .entry)))) true (r .i)))) ⌝ }
+// From a vertex, by the verdict on it, to the first that has the other verdict, or to the end.
+fn turn(
+    ring: &[f64],
+    m: usize,
+    edge: Edge,
+    bounds: TileBounds,
+    out: &mut [f64],
+    at: Walk,
+    inside: bool,
+) -> Walk
+    requires { ⌜ (2 * m ≤ length (now ring)) × (at .i < m)
+        × (2 * (at .len + length (W.left edge bounds (coords (take (2 * m) (now ring))) inside (at .i))) ≤ length (now out)) ⌝ }
+    ensures { λ r. ⌜ (at .i < r .i) × (r .i ≤ m)
+        × W.Onward edge bounds (coords (take (2 * m) (now (ring .entry)))) inside (at .i) (at .len) (now (out .entry)) (not inside) (r .i) (r .len) (now (out .exit)) ⌝ }
 {
-    let first = Walk { i: 0, len: 0 };
-    if is_inside(coord_at(ring, m - 1), edge, bounds) {
-        return first;
+    if inside {
+        return leave(ring, m, edge, bounds, out, at);
     }
-    enter(ring, m, edge, bounds, out, first)
+    enter(ring, m, edge, bounds, out, at)
 }
 
 // Cuts the ring of n vertices at the front of a slice at one edge, and writes the result to the front of another.
-// The verdict on the vertex before is where the code stands: in at the head of the loop, out between its two calls.
+// It starts from the last vertex. One call of leaving and one of entering lets both be compiled into the loop.
 fn clip_ring_against_edge(
     ring: &[f64],
     n: usize,
@@ -223,10 +227,11 @@ fn clip_ring_against_edge(
     if m == 0 {
         return Pass { len: 0 };
     }
-    let mut at = start(ring, m, edge, bounds, out);
+    let mut inside = is_inside(coord_at(ring, m - 1), edge, bounds);
+    let mut at = Walk { i: 0, len: 0 };
     while at.i < m {
-        let outside = leave(ring, m, edge, bounds, out, at);
-        at = enter(ring, m, edge, bounds, out, outside);
+        at = turn(ring, m, edge, bounds, out, at, inside);
+        inside = !inside;
     }
     Pass { len: at.len }
 }
@@ -242,15 +247,37 @@ fn finish(ring: &mut [f64], n: usize) -> usize
     close(ring, n)
 }
 
+// The passes but the last, over two slices in turn: what they leave stands at the front of a.
+fn clip_three_edges(
+    ring: &[f64],
+    n: usize,
+    bounds: TileBounds,
+    a: &mut [f64],
+    b: &mut [f64],
+) -> Pass
+    requires { ⌜ Room n (length (now ring)) (length (now a)) (length (now b)) ⌝ }
+    ensures { λ r. ⌜ W.Stands (W.threePasses bounds (coords (take (2 * n) (now (ring .entry))))) (r .len) (now (a .exit)) ⌝ }
+{
+    let left = clip_ring_against_edge(ring, n, Edge::Left, bounds, a);
+    let right = clip_ring_against_edge(a, left.len, Edge::Right, bounds, b);
+    clip_ring_against_edge(b, right.len, Edge::Bottom, bounds, a)
+}
+
+// The last pass, and the closing. From a ring of four vertices or more it writes no number past its answer; of fewer it may, as it then gives up a pass of one or two.
+fn clip_top(ring: &[f64], n: usize, bounds: TileBounds, out: &mut [f64]) -> usize
+    requires { ⌜ (2 * n ≤ length (now ring)) × (2 * halfGrowth n ≤ length (now out)) × (0 < n → 2 * halfGrowth n + 2 ≤ length (now out)) ⌝ }
+    ensures { λ r. ⌜ W.Topped bounds (coords (take (2 * n) (now (ring .entry)))) (now (out .entry)) r (now (out .exit)) ⌝ }
+{
+    let top = clip_ring_against_edge(ring, n, Edge::Top, bounds, out);
+    finish(out, top.len)
+}
+
 // Cuts the ring of n vertices at the front of a slice at all four edges; the result stands at the front of b, and the answer is its length. Demand 3 holds of it.
 // What lies past it in b, and all of a, is left open.
 pub fn clip_ring(ring: &[f64], n: usize, bounds: TileBounds, a: &mut [f64], b: &mut [f64]) -> usize
     requires { ⌜ Room n (length (now ring)) (length (now a)) (length (now b)) ⌝ }
     ensures { λ r. ⌜ Cut bounds (coords (take (2 * n) (now (ring .entry)))) r (now (b .exit)) ⌝ }
 {
-    let left = clip_ring_against_edge(ring, n, Edge::Left, bounds, a);
-    let right = clip_ring_against_edge(a, left.len, Edge::Right, bounds, b);
-    let bottom = clip_ring_against_edge(b, right.len, Edge::Bottom, bounds, a);
-    let top = clip_ring_against_edge(a, bottom.len, Edge::Top, bounds, b);
-    finish(b, top.len)
+    let bottom = clip_three_edges(ring, n, bounds, a, b);
+    clip_top(a, bottom.len, bounds, b)
 }

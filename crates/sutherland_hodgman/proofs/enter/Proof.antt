@@ -44,7 +44,7 @@ put-requires c κs =
     let j = c .before .before .before .before .before .skip-outside .result in
     let e = c .before .before .before .before .before .skip-outside .ensures in
     let o = ap length (e .3) in
-    let r : 2 * (a .args .at .len + length (left (a .args .edge) (a .args .bounds) (coords (take (2 * m) s)) false j)) ≤ length (now (a .args .out)) = omega (arith, a .pre .3) in
+    let r : 2 * (a .args .at .len + length (left (a .args .edge) (a .args .bounds) (coords (take (2 * m) s)) false j)) ≤ length (now (a .args .out)) = omega (arith, a .pre .2) in
     omega (arith, out-in-room (a .args .edge) (a .args .bounds) s m (a .pre .0) j (c .before .before .before .before .if1 .left) (e .2 (c .before .before .before .before .if1 .left)) (a .args .at .len) _ r)
 
 add-put : tie.Need-add-put
@@ -55,7 +55,7 @@ add-put c =
     let j = c .before .before .before .before .before .before .before .before .before .before .skip-outside .result in
     let e = c .before .before .before .before .before .before .before .before .before .before .skip-outside .ensures in
     let o = ap length (e .3) in
-    let r : 2 * (a .args .at .len + length (left (a .args .edge) (a .args .bounds) (coords (take (2 * m) s)) false j)) ≤ length (now (a .args .out)) = omega (arith, a .pre .3) in
+    let r : 2 * (a .args .at .len + length (left (a .args .edge) (a .args .bounds) (coords (take (2 * m) s)) false j)) ≤ length (now (a .args .out)) = omega (arith, a .pre .2) in
     let q = out-in-room (a .args .edge) (a .args .bounds) s m (a .pre .0) j (c .before .before .before .before .before .before .before .before .before .if1 .left) (e .2 (c .before .before .before .before .before .before .before .before .before .if1 .left)) (a .args .at .len) _ r in
     search needs
 
@@ -67,7 +67,7 @@ put-requires-2 c κs =
     let j = c .before .before .before .before .before .before .before .before .before .before .skip-outside .result in
     let e = c .before .before .before .before .before .before .before .before .before .before .skip-outside .ensures in
     let o = ap length (e .3) in
-    let r : 2 * (a .args .at .len + length (left (a .args .edge) (a .args .bounds) (coords (take (2 * m) s)) false j)) ≤ length (now (a .args .out)) = omega (arith, a .pre .3) in
+    let r : 2 * (a .args .at .len + length (left (a .args .edge) (a .args .bounds) (coords (take (2 * m) s)) false j)) ≤ length (now (a .args .out)) = omega (arith, a .pre .2) in
     omega (arith, out-in-room (a .args .edge) (a .args .bounds) s m (a .pre .0) j (c .before .before .before .before .before .before .before .before .before .if1 .left) (e .2 (c .before .before .before .before .before .before .before .before .before .if1 .left)) (a .args .at .len) _ r)
 
 add-t17 : tie.Need-add-t17
@@ -81,7 +81,7 @@ add-t18 c =
     let j = c .before .before .before .before .before .before .before .before .before .before .before .before .before .before .skip-outside .result in
     let e = c .before .before .before .before .before .before .before .before .before .before .before .before .before .before .skip-outside .ensures in
     let o = ap length (e .3) in
-    let r : 2 * (a .args .at .len + length (left (a .args .edge) (a .args .bounds) (coords (take (2 * m) s)) false j)) ≤ length (now (a .args .out)) = omega (arith, a .pre .3) in
+    let r : 2 * (a .args .at .len + length (left (a .args .edge) (a .args .bounds) (coords (take (2 * m) s)) false j)) ≤ length (now (a .args .out)) = omega (arith, a .pre .2) in
     let q = out-in-room (a .args .edge) (a .args .bounds) s m (a .pre .0) j (c .before .before .before .before .before .before .before .before .before .before .before .before .before .if1 .left) (e .2 (c .before .before .before .before .before .before .before .before .before .before .before .before .before .if1 .left)) (a .args .at .len) _ r in
     search needs
 
