@@ -1,5 +1,5 @@
 //! Times the port beside the unchanged Rust, on the same inputs, in one run. Each figure is the median of interleaved runs; the
-//! ratio is the port's time over the Rust's.
+//! ratio is the port's time over the Rust's. The word `issues` or `rings` asks for that table alone.
 
 mod issues;
 mod outlines;
@@ -7,6 +7,13 @@ mod rings;
 mod timing;
 
 fn main() {
-    issues::measure();
-    rings::measure();
+    match std::env::args().nth(1).as_deref() {
+        None => {
+            issues::measure();
+            rings::measure();
+        }
+        Some("issues") => issues::measure(),
+        Some("rings") => rings::measure(),
+        Some(other) => panic!("no table is called {other}: issues or rings"),
+    }
 }
