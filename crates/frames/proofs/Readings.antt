@@ -1,7 +1,7 @@
 -- Reading from the front of bytes: what follows is a tail of them, and a reading of many things steps over one at a time. Assumes nothing.
 use mathlib.Core.Path.{_≡_, refl, sym, _∙_, ap}
-use mathlib.Core.Bool.{Bool, true, false, _||_, true≢false}
-use mathlib.Core.List.{List, _∷_}
+use mathlib.Core.Bool.{Bool, true, false, not, _&&_, _||_, true≢false}
+use mathlib.Core.List.{List, [], _∷_}
 use Prim.Native.Nat.{ℕ, zero, suc, _+_, _*_, _-_, _<_, _≤_}
 use native.Mathlib.Omega.{arith}
 use lib.Dec.{ltb, eqb}
@@ -11,9 +11,9 @@ use borrow.Author.Tests.{ltb-false, eqb-false}
 use Rattle.tile.specs.declared.Coord.{Coord}
 use Rattle.tile.specs.Ring.{close}
 use Rattle.frames.specs.declared.reader.FrameRefusal.{FrameRefusal}
-use Rattle.frames.specs.declared.reader.FrameRefusal.the-variants.{Truncated, RingCount, CoordinateCount}
+use Rattle.frames.specs.declared.reader.FrameRefusal.the-variants.{Size, Kind, Flags, PartCount, Truncated, RingCount, CoordinateCount, Trailing}
 use Rattle.frames.specs.declared.reader.Walk.the-variants.{Stops, Reaches}
-use Rattle.frames.specs.Frame.{Reading, refused, read, refuse, andThen, readMany, countOf, coordsOf, readCount, readCoords, readRing, readPart, wrongRingCount, mostRings, mostCoordinates, walkOf}
+use Rattle.frames.specs.Frame.{Reading, refused, read, refuse, andThen, readMany, countOf, coordsOf, readCount, readCoords, readRing, readPart, wrongRingCount, mostRings, mostCoordinates, shortest, longest, mostFlags, mostParts, headBytes, polygon, readParts, Frame, kindOf, flagsOf, partCountOf, headOf, wrongSize, wrongKind, wrongPartCount, readFrame, walkOf}
 
 -- ---- one after the other
 
@@ -80,6 +80,11 @@ module _ {A : Type 0} (f : List ℕ → Reading A) where
       let w : p .value ∷ q .value ≡ all = cc in
       let m : q .rest ≡ rest = cc in
       record { value = p .value; others = q .value; between = p .rest; first = p .first; later = let t = q .first in cc; whole = sym w }
+
+  pub many-length : (k : ℕ) (l : List ℕ) (all : List A) (rest : List ℕ) → readMany f k l ≡ read all rest → length all ≡ k
+  unfolding readMany
+  many-length zero l all rest e = let n : all ≡ [] = cc in rw n
+  many-length (suc k) l all rest e = let p = many-first k l all rest e in rw (p .whole) (ap suc (many-length k (p .between) (p .others) rest (p .later)))
 
   pub many-reads : Reads f → (k : ℕ) → Reads (readMany f k)
   unfolding readMany
@@ -158,6 +163,47 @@ pub part-reads : Reads readPart
 part-reads l part rest e =
     let p = part-read l part rest e in
     follows-trans l (drop 2 l) rest (record { count = 2; fits = p .whole; here = refl }) (many-reads readRing ring-reads (countOf l) (drop 2 l) part rest (p .rings))
+
+-- ---- a frame
+
+pub record FrameRead (l : List ℕ) (frame : Frame) (rest : List ℕ) : Type 0 where
+  pub short : headBytes ≤ length l
+  pub long : length l ≤ longest
+  pub kind : wrongKind (kindOf l) ≡ false
+  pub flags : flagsOf l ≤ mostFlags
+  pub count : wrongPartCount (kindOf l) (partCountOf l) ≡ false
+  pub few : partCountOf l ≤ mostParts
+  pub head : frame .head ≡ headOf l
+  pub parts : readMany readPart (partCountOf l) (drop headBytes l) ≡ read (frame .parts) rest
+  pub end : length rest ≡ 0
+
+pub frame-read : (l : List ℕ) (frame : Frame) (rest : List ℕ) → readFrame l ≡ read frame rest → FrameRead l frame rest
+unfolding readFrame readParts
+frame-read l frame rest e =
+    let size = not-refused (wrongSize (length l)) Size _ frame rest e in
+    let kind = not-refused (wrongKind (kindOf l)) Kind _ frame rest (size .1) in
+    let flags = not-refused (ltb mostFlags (flagsOf l)) Flags _ frame rest (kind .1) in
+    let count = not-refused (wrongPartCount (kindOf l) (partCountOf l)) PartCount _ frame rest (flags .1) in
+    let p = both (readParts (partCountOf l) (drop headBytes l)) _ frame rest (count .1) in
+    let q = both (readMany readPart (partCountOf l) (drop headBytes l)) _ (p .value) (p .rest) (p .first) in
+    let t = not-refused (ltb 0 (length (q .rest))) Trailing _ (p .value) (p .rest) (q .second) in
+    let whole = p .second in
+    let inner = t .1 in
+    let first = q .first in
+    let bytes : q .rest ≡ rest = cc in
+    let fits = neither (ltb (length l) shortest) (ltb longest (length l)) (size .0) in
+    let none = ltb-false 0 (length (q .rest)) (t .0) in
+    record {
+      short = ltb-false (length l) shortest (fits .0);
+      long = ltb-false longest (length l) (fits .1);
+      kind = kind .0;
+      flags = ltb-false mostFlags (flagsOf l) (flags .0);
+      count = count .0;
+      few = ltb-false mostParts (partCountOf l) (neither (eqb (kindOf l) polygon && not (eqb (partCountOf l) 1)) (ltb mostParts (partCountOf l)) (count .0) .1);
+      head = cc;
+      parts = cc;
+      end = omega (arith, ap length bytes);
+    }
 
 -- ---- the walk over many
 
