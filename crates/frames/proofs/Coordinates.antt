@@ -1,13 +1,14 @@
 -- The coordinates of a ring in a frame: how many they are, the last of them, and one more of them written. Assumes nothing.
-use mathlib.Core.Path.{_≡_, refl, ap}
+use mathlib.Core.Path.{_≡_, refl, sym, _∙_, ap}
 use mathlib.Core.List.{List, [], _∷_}
 use Prim.Native.Nat.{ℕ, zero, suc, _+_, _*_, _-_, _<_, _≤_}
 use native.Mathlib.Omega.{arith}
 use lib.Ieee.{Float}
-use lib.ListN.{length, drop}
-use lib.Seq.{sets, drop-drop}
+use lib.ListN.{length, take, drop}
+use lib.Seq.{sets, sets-eq, drop-drop}
 use Rattle.tile.specs.declared.Coord.{Coord}
-use Rattle.tile.specs.Ring.{flat, same, last, closed}
+use Rattle.tile.specs.Ring.{coords, flat, same, last, closed}
+use Rattle.tile.proofs.Rings.{length-flat, coords-front}
 use Rattle.frames.specs.Frame.{coordOf, coordsOf}
 
 pub length-coordsOf : (n : ℕ) (l : List ℕ) → length (coordsOf n l) ≡ n
@@ -54,3 +55,9 @@ module _ (frame : List ℕ) (at n start : ℕ) where
   pub all-written : (ring : List Float) (i : ℕ) → n ≤ i → sets ring (2 * (start + i)) (flat (left i)) ≡ ring
   unfolding coordsOf flat
   all-written ring i h = let e : n - i ≡ 0 = omega arith in rw e
+
+-- a ring that was written to the front of a slice stands there
+pub decoded : (ring : List Float) (n : ℕ) (l : List ℕ) → 2 * n ≤ length ring → coords (take (2 * n) (sets ring 0 (flat (coordsOf n l)))) ≡ coordsOf n l
+decoded ring n l h =
+    let m : length (flat (coordsOf n l)) ≡ 2 * n = length-flat (coordsOf n l) ∙ rw (length-coordsOf n l) in
+    coords-front (coordsOf n l) (drop (0 + length (flat (coordsOf n l))) ring) (sets ring 0 (flat (coordsOf n l))) n (sym (length-coordsOf n l)) (sets-eq (flat (coordsOf n l)) ring 0 (omega arith))

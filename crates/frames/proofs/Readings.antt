@@ -1,5 +1,5 @@
 -- Reading from the front of bytes: what follows is a tail of them, and a reading of many things steps over one at a time. Assumes nothing.
-use mathlib.Core.Path.{_≡_, refl, sym, _∙_, ap}
+use mathlib.Core.Path.{_≡_, refl, sym, _∙_, ap, ap₂}
 use mathlib.Core.Bool.{Bool, true, false, not, _&&_, _||_, true≢false}
 use mathlib.Core.List.{List, [], _∷_}
 use Prim.Native.Nat.{ℕ, zero, suc, _+_, _*_, _-_, _<_, _≤_}
@@ -13,7 +13,7 @@ use Rattle.tile.specs.Ring.{close}
 use Rattle.frames.specs.declared.reader.FrameRefusal.{FrameRefusal}
 use Rattle.frames.specs.declared.reader.FrameRefusal.the-variants.{Size, Kind, Flags, PartCount, Truncated, RingCount, CoordinateCount, Trailing}
 use Rattle.frames.specs.declared.reader.Walk.the-variants.{Stops, Reaches}
-use Rattle.frames.specs.Frame.{Reading, refused, read, refuse, andThen, readMany, countOf, coordsOf, readCount, readCoords, readRing, readPart, wrongRingCount, mostRings, mostCoordinates, shortest, longest, mostFlags, mostParts, headBytes, polygon, readParts, Frame, kindOf, flagsOf, partCountOf, headOf, wrongSize, wrongKind, wrongPartCount, readFrame, walkOf}
+use Rattle.frames.specs.Frame.{Reading, refused, read, refuse, andThen, readMany, countOf, coordsOf, readCount, readCoords, readRing, readPart, wrongRingCount, mostRings, mostCoordinates, shortest, longest, mostFlags, mostParts, headBytes, polygon, readParts, Frame, kindOf, flagsOf, partCountOf, headOf, wrongSize, wrongKind, wrongPartCount, readFrame, Accepted, walkOf}
 
 -- ---- one after the other
 
@@ -31,6 +31,16 @@ both (read a m) next b rest e = record { value = a; rest = m; first = refl; seco
 pub not-refused : {A : Type 0} (t : Bool) (r : FrameRefusal) (x : Reading A) (a : A) (rest : List ℕ) → refuse t r x ≡ read a rest → (t ≡ false) × (x ≡ read a rest)
 not-refused true r x a rest e = absurd (let z : _≡_ {A = ℕ} 0 1 = cc in omega arith)
 not-refused false r x a rest e = (refl, e)
+
+-- what an accepted reading read
+pub record Taken {A : Type 0} (x : Reading A) : Type 0 where
+  pub value : A
+  pub rest : List ℕ
+  pub is : x ≡ read value rest
+
+pub taken : {A : Type 0} (x : Reading A) → Accepted x → Taken x
+taken (refused r) e = absurd (let z : _≡_ {A = ℕ} 0 1 = cc in omega arith)
+taken (read a rest) e = record { value = a; rest = rest; is = refl }
 
 -- ---- what follows
 
@@ -166,6 +176,16 @@ part-reads l part rest e =
 
 -- ---- a frame
 
+parts-read : (k : ℕ) (l : List ℕ) (parts : List (List (List Coord))) (rest : List ℕ) → readParts k l ≡ read parts rest → (readMany readPart k l ≡ read parts rest) × (length rest ≡ 0)
+unfolding readParts
+parts-read k l parts rest e =
+    let p = both (readMany readPart k l) _ parts rest e in
+    let q = not-refused (ltb 0 (length (p .rest))) Trailing (read (p .value) (p .rest)) parts rest (p .second) in
+    let all = p .first in
+    let same = q .1 in
+    let bytes : p .rest ≡ rest = cc in
+    (cc, omega (arith, ap length bytes, ltb-false 0 (length (p .rest)) (q .0)))
+
 pub record FrameRead (l : List ℕ) (frame : Frame) (rest : List ℕ) : Type 0 where
   pub short : headBytes ≤ length l
   pub long : length l ≤ longest
@@ -178,21 +198,19 @@ pub record FrameRead (l : List ℕ) (frame : Frame) (rest : List ℕ) : Type 0 w
   pub end : length rest ≡ 0
 
 pub frame-read : (l : List ℕ) (frame : Frame) (rest : List ℕ) → readFrame l ≡ read frame rest → FrameRead l frame rest
-unfolding readFrame readParts
+unfolding readFrame
 frame-read l frame rest e =
     let size = not-refused (wrongSize (length l)) Size _ frame rest e in
     let kind = not-refused (wrongKind (kindOf l)) Kind _ frame rest (size .1) in
     let flags = not-refused (ltb mostFlags (flagsOf l)) Flags _ frame rest (kind .1) in
     let count = not-refused (wrongPartCount (kindOf l) (partCountOf l)) PartCount _ frame rest (flags .1) in
     let p = both (readParts (partCountOf l) (drop headBytes l)) _ frame rest (count .1) in
-    let q = both (readMany readPart (partCountOf l) (drop headBytes l)) _ (p .value) (p .rest) (p .first) in
-    let t = not-refused (ltb 0 (length (q .rest))) Trailing _ (p .value) (p .rest) (q .second) in
+    let q = parts-read (partCountOf l) (drop headBytes l) (p .value) (p .rest) (p .first) in
+    let all = q .0 in
     let whole = p .second in
-    let inner = t .1 in
-    let first = q .first in
-    let bytes : q .rest ≡ rest = cc in
+    let bytes : p .rest ≡ rest = cc in
+    let same : _≡_ {A = Frame} (record { head = headOf l; parts = p .value }) frame = cc in
     let fits = neither (ltb (length l) shortest) (ltb longest (length l)) (size .0) in
-    let none = ltb-false 0 (length (q .rest)) (t .0) in
     record {
       short = ltb-false (length l) shortest (fits .0);
       long = ltb-false longest (length l) (fits .1);
@@ -200,9 +218,9 @@ frame-read l frame rest e =
       flags = ltb-false mostFlags (flagsOf l) (flags .0);
       count = count .0;
       few = ltb-false mostParts (partCountOf l) (neither (eqb (kindOf l) polygon && not (eqb (partCountOf l) 1)) (ltb mostParts (partCountOf l)) (count .0) .1);
-      head = cc;
-      parts = cc;
-      end = omega (arith, ap length bytes);
+      head = sym (ap (λ (f : Frame). f .head) same);
+      parts = all ∙ ap₂ read (ap (λ (f : Frame). f .parts) same) bytes;
+      end = omega (arith, ap length bytes, q .1);
     }
 
 -- ---- the walk over many

@@ -5,29 +5,24 @@ use mathlib.Core.List.{List, [], _∷_}
 use Prim.Native.Nat.{ℕ, zero, suc, _+_, _*_, _-_, _<_, _≤_}
 use native.Mathlib.Nat.{suc-mul}
 use native.Mathlib.Omega.{arith}
+use lib.Dec.{ltb}
 use lib.ListN.{length, drop, length-drop}
+use borrow.Author.Tests.{ltb-false}
 use Rattle.tile.specs.declared.Coord.{Coord}
 use Rattle.tile.specs.Ring.{closed, close}
 use Rattle.tile.proofs.Rings.{count-closed, count-open}
 use Rattle.sutherland_hodgman.specs.Growth as G
 use Rattle.sutherland_hodgman.specs.Growth.{B}
 use Rattle.sutherland_hodgman.proofs.Growth.{B-le}
+use Rattle.frames.specs.declared.reader.FrameRefusal.{FrameRefusal}
+use Rattle.frames.specs.declared.reader.FrameRefusal.the-variants.{Output}
+use Rattle.frames.specs.declared.reader.FrameCheck.the-variants.{Fails}
 use Rattle.frames.specs.declared.room.Passed.{Passed}
-use Rattle.frames.specs.Frame.{Reading, refused, read, readMany, countOf, coordsOf, readRing, readPart, Frame, readFrame, headBytes, partCountOf, mostParts, mostRings, mostCoordinates, Accepted}
-use Rattle.frames.specs.Room.{sumOf, ringRoom, partRoom, room, coordinateBytes, leastRoom, passedOf, frameRoom}
+use Rattle.frames.specs.Frame.{Reading, refused, read, refuse, andThen, checkOf, readMany, countOf, coordsOf, readRing, readPart, Frame, readFrame, headBytes, partCountOf, mostParts, mostRings, mostCoordinates, Accepted}
+use Rattle.frames.specs.Room.{sumOf, ringRoom, partRoom, room, coordinateBytes, leastRoom, passedOf, frameRoom, readCall}
 use Rattle.frames.proofs.Coordinates.{length-coordsOf}
-use Rattle.frames.proofs.Places.{ring-at, part-at}
-use Rattle.frames.proofs.Readings.{Reads, place, many-first, many-length, ring-read, part-read, frame-read}
-
--- what an accepted reading read
-pub record Taken {A : Type 0} (x : Reading A) : Type 0 where
-  pub value : A
-  pub rest : List ℕ
-  pub is : x ≡ read value rest
-
-pub taken : {A : Type 0} (x : Reading A) → Accepted x → Taken x
-taken (refused r) e = absurd (let z : _≡_ {A = ℕ} 0 1 = cc in omega arith)
-taken (read a rest) e = record { value = a; rest = rest; is = refl }
+use Rattle.frames.proofs.Places.{step, ring-at, part-at}
+use Rattle.frames.proofs.Readings.{both, not-refused, taken, Reads, many-first, many-length, ring-read, part-read, frame-read}
 
 -- ---- summing over many
 
@@ -53,25 +48,22 @@ module _ {A : Type 0} (f : List ℕ → Reading A) (g : A → ℕ) (frame : List
   pub sum-step : Reads f → (whole : Passed) (sofar at k : ℕ) (one : Passed) → 0 < k → one ≡ passedOf (length frame) g (f (drop at frame)) → Summed whole sofar at k
       → Summed whole (sofar + one .room) (one .next) (k - 1)
   unfolding sumOf
-  sum-step reads whole sofar at zero one h o s = absurd (omega arith)
-  sum-step reads whole sofar at (suc k) one h o s =
-      let t = taken (readMany f (suc k) (drop at frame)) (s .accepted) in
-      let p = many-first f k (drop at frame) (t .value) (t .rest) (t .is) in
-      go (t .value) (t .rest) (p .value) (p .others) (p .between) (t .is) (p .first) (p .later) (p .whole)
+  sum-step reads whole sofar at k one h o s =
+      let t = taken (readMany f k (drop at frame)) (s .accepted) in
+      let p = step f reads frame at k (t .value) (t .rest) (s .within) h (t .is) in
+      go (t .value) (t .rest) (p .value) (p .others) (p .next) (p .within) (t .is) (p .first) (p .later) (p .whole)
     where
-      go : (all : List A) (rest : List ℕ) (a : A) (others : List A) (between : List ℕ) → readMany f (suc k) (drop at frame) ≡ read all rest → f (drop at frame) ≡ read a between
-          → readMany f k between ≡ read others rest → all ≡ a ∷ others → Summed whole (sofar + one .room) (one .next) (suc k - 1)
-      go all rest a others between is first later parts =
-          let q = place frame at between (s .within) (reads (drop at frame) a between first) in
-          let e : suc k - 1 ≡ k = omega arith in
-          let here : one ≡ record { room = g a; next = length frame - length between } = o ∙ rw first in
-          let now : left at (suc k) ≡ record { room = g a + sumOf g others; next = length frame - length rest } = rw (is, parts) in
-          let then : readMany f k (drop (length frame - length between) frame) ≡ read others rest = rw (← q .1) later in
-          rw (here, e) record {
-            within = q .0;
-            accepted = rw then;
-            sum = rw then (s .sum ∙ rw now (omega arith));
-            end = rw then (s .end ∙ rw now);
+      go : (all : List A) (rest : List ℕ) (a : A) (others : List A) (next : ℕ) → next ≤ length frame → readMany f k (drop at frame) ≡ read all rest → f (drop at frame) ≡ read a (drop next frame)
+          → readMany f (k - 1) (drop next frame) ≡ read others rest → all ≡ a ∷ others → Summed whole (sofar + one .room) (one .next) (k - 1)
+      go all rest a others next within is first later parts =
+          let n : length frame - length (drop next frame) ≡ next = omega (arith, length-drop next frame) in
+          let here : one ≡ record { room = g a; next = next } = o ∙ rw (first, n) in
+          let now : left at k ≡ record { room = g a + sumOf g others; next = length frame - length rest } = rw (is, parts) in
+          rw here record {
+            within = within;
+            accepted = rw later;
+            sum = rw later (s .sum ∙ rw now (omega arith));
+            end = rw later (s .end ∙ rw now);
           }
 
   pub sum-end : (whole : Passed) (sofar at k : ℕ) → k ≤ 0 → Summed whole sofar at k → whole ≡ record { room = sofar; next = at }
@@ -193,3 +185,30 @@ module _ (frame : List ℕ) (a : Accepted (readFrame frame)) where
       go : (f : Frame) (rest : List ℕ) → readFrame frame ≡ read f rest
           → frameRoom coordinateBytes (readFrame frame) ≡ leastRoom + passedOf (length frame) (sumOf (partRoom coordinateBytes)) (readMany readPart (partCountOf frame) (drop headBytes frame)) .room
       go f rest e = rw (e, frame-read frame f rest e .parts)
+
+-- ---- a frame call
+
+module _ (l : List ℕ) (out : ℕ) where
+  pub call-refused : (r : FrameRefusal) → checkOf (readFrame l) ≡ Fails r → checkOf (readCall l out) ≡ Fails r
+  unfolding readCall
+  call-refused r e = go (readFrame l) e
+    where
+      go : (x : Reading Frame) → checkOf x ≡ Fails r → checkOf (andThen x (λ f rest. refuse (ltb out (room coordinateBytes (f .parts))) Output (read f rest))) ≡ Fails r
+      go (refused s) e = cc
+      go (read f rest) e = absurd (let z : _≡_ {A = ℕ} 0 1 = cc in omega arith)
+
+  -- an accepted frame: whether the output is too small
+  pub call-room : Accepted (readFrame l) → checkOf (readCall l out) ≡ checkOf (refuse (ltb out (frameRoom coordinateBytes (readFrame l))) Output (readFrame l))
+  unfolding readCall
+  call-room a = let t = taken (readFrame l) a in rw (t .is)
+
+-- what a frame call that is not refused reads
+pub call-read : (l : List ℕ) (out : ℕ) (f : Frame) (rest : List ℕ) → readCall l out ≡ read f rest → (readFrame l ≡ read f rest) × (room coordinateBytes (f .parts) ≤ out)
+unfolding readCall
+call-read l out f rest e =
+    let p = both (readFrame l) _ f rest e in
+    let q = not-refused (ltb out (room coordinateBytes (p .value .parts))) Output _ f rest (p .second) in
+    let first = p .first in
+    let second = q .1 in
+    let same : p .value ≡ f = cc in
+    (cc, rw (← same) (ltb-false out (room coordinateBytes (p .value .parts)) (q .0)))

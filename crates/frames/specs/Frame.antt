@@ -13,7 +13,7 @@ use Rattle.tile.specs.Bounds.{newOf}
 use Rattle.tile.specs.Ring.{close}
 use Rattle.frames.specs.declared.head.Head.{Head}
 use Rattle.frames.specs.declared.reader.FrameRefusal.{FrameRefusal}
-use Rattle.frames.specs.declared.reader.FrameRefusal.the-variants.{Size, Kind, Flags, PartCount, Truncated, RingCount, CoordinateCount, Trailing}
+use Rattle.frames.specs.declared.reader.FrameRefusal.the-variants.{Size, Kind, Flags, PartCount, Truncated, RingCount, CoordinateCount, Trailing, Output}
 use Rattle.frames.specs.declared.reader.FrameCheck.{FrameCheck}
 use Rattle.frames.specs.declared.reader.FrameCheck.the-variants.{Fails, Passes}
 use Rattle.frames.specs.declared.reader.Walk.{Walk}
@@ -59,6 +59,7 @@ refusalNumber Truncated = 15
 refusalNumber RingCount = 16
 refusalNumber CoordinateCount = 17
 refusalNumber Trailing = 18
+refusalNumber Output = 22
 
 -- ---- reading from the front of bytes
 

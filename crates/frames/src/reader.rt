@@ -22,7 +22,7 @@ pub const MOST_RINGS: usize = 64;
 
 pub const MOST_COORDINATES: usize = 4096;
 
-// Why a frame is refused: document 01's 11 to 18.
+// Why a frame call is refused: document 01's 11 to 18, and 22.
 pub enum FrameRefusal {
     Size,
     Kind,
@@ -32,12 +32,30 @@ pub enum FrameRefusal {
     RingCount,
     CoordinateCount,
     Trailing,
+    Output,
 }
 
 // Whether there is a refusal.
 pub enum FrameCheck {
     Fails(FrameRefusal),
     Passes,
+}
+
+// Document 01's number of a refusal.
+pub fn refusal_number(refusal: FrameRefusal) -> u8
+    ensures { λ r. ⌜ r ≡ S.refusalNumber refusal ⌝ }
+{
+    match refusal {
+        FrameRefusal::Size => 11,
+        FrameRefusal::Kind => 12,
+        FrameRefusal::Flags => 13,
+        FrameRefusal::PartCount => 14,
+        FrameRefusal::Truncated => 15,
+        FrameRefusal::RingCount => 16,
+        FrameRefusal::CoordinateCount => 17,
+        FrameRefusal::Trailing => 18,
+        FrameRefusal::Output => 22,
+    }
 }
 
 // Where a walk from the front ends: at a refusal, or at the place where the next thing starts.
@@ -118,14 +136,14 @@ fn pass_part(frame: &[u8], at: usize) -> Walk
     requires { ⌜ at ≤ length (now frame) ⌝ }
     ensures { λ r. ⌜ r ≡ S.walkOf (length (now (frame .entry))) (S.readPart (drop at (now (frame .entry)))) ⌝ }
 {
-    if frame.len() - at < 2 {
-        return Walk::Stops(FrameRefusal::Truncated);
+    if frame.len() - at >= 2 {
+        let rings = count_at(frame, at);
+        if is_wrong_ring_count(rings) {
+            return Walk::Stops(FrameRefusal::RingCount);
+        }
+        return pass_rings(frame, at + 2, rings);
     }
-    let rings = count_at(frame, at);
-    if is_wrong_ring_count(rings) {
-        return Walk::Stops(FrameRefusal::RingCount);
-    }
-    pass_rings(frame, at + 2, rings)
+    Walk::Stops(FrameRefusal::Truncated)
 }
 
 // Passes over so many parts from a place on.

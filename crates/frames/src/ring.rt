@@ -51,10 +51,10 @@ pub fn closed_count(frame: &[u8], at: usize, n: usize) -> usize
     n + 1
 }
 
-// Writes the n coordinates at a place of the frame, not closed, from the coordinate `start` of `ring` on.
-pub fn decode_ring(frame: &[u8], at: usize, n: usize, ring: &mut [f64], start: usize)
+// Writes the n coordinates at a place of the frame, not closed, from the coordinate `start` of `ring` on, and answers where the next ring starts.
+pub fn decode_ring(frame: &[u8], at: usize, n: usize, ring: &mut [f64], start: usize) -> usize
     requires { ⌜ (at + 16 * n ≤ length (now frame)) × (2 * (start + n) ≤ length (now ring)) ⌝ }
-    ensures { λ _. ⌜ now (ring .exit) ≡ sets (now (ring .entry)) (2 * start) (flat (S.coordsOf n (drop at (now (frame .entry))))) ⌝ }
+    ensures { λ r. ⌜ (r ≡ at + 16 * n) × (now (ring .exit) ≡ sets (now (ring .entry)) (2 * start) (flat (S.coordsOf n (drop at (now (frame .entry)))))) ⌝ }
 {
     let mut i = 0usize;
     while i < n {
@@ -62,4 +62,5 @@ pub fn decode_ring(frame: &[u8], at: usize, n: usize, ring: &mut [f64], start: u
         put(ring, start + i, p);
         i += 1;
     }
+    at + 16 * n
 }

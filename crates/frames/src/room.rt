@@ -1,10 +1,13 @@
-// The room that the answer to an accepted frame may take: document 01's 22.
+// The room that the answer to an accepted frame may take, and the refusals of a frame call, document 01's 11 to 18 and 22.
 ghost use mathlib.Core.Path.{_≡_};
 ghost use Prim.Native.Nat.{_≤_};
 ghost use lib.ListN.{length, drop};
 ghost use Rattle.frames.specs.Frame as S;
 ghost use Rattle.frames.specs.Room as R;
 use super::head::HEAD;
+use super::reader::FrameCheck;
+use super::reader::FrameRefusal;
+use super::reader::check_frame;
 use super::ring::closed_count;
 use super::ring::count_at;
 use sutherland_hodgman::call::room_for;
@@ -77,4 +80,19 @@ pub fn frame_room(frame: &[u8]) -> usize
         left -= 1;
     }
     room
+}
+
+// The refusals of a frame call with an output of so many bytes, in their order.
+pub fn check_call(frame: &[u8], out: usize) -> FrameCheck
+    ensures { λ r. ⌜ r ≡ S.checkOf (R.readCall (now (frame .entry)) out) ⌝ }
+{
+    match check_frame(frame) {
+        FrameCheck::Fails(refusal) => FrameCheck::Fails(refusal),
+        FrameCheck::Passes => {
+            if out < frame_room(frame) {
+                return FrameCheck::Fails(FrameRefusal::Output);
+            }
+            FrameCheck::Passes
+        }
+    }
 }

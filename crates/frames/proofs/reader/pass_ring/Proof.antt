@@ -28,7 +28,7 @@ returns-2 c =
     let a = c .before .before .before .before .args in
     let l = drop (a .at) (now (a .frame)) in
     let n = c .before .count-at .ensures .0 in
-    rw (ring-too-long l (omega (arith, length-drop (a .at) (now (a .frame)))) (rw (← n) (c .if2 .taken)))
+    rw (ring-too-long l (omega (arith, length-drop (a .at) (now (a .frame)))) (rw (← n) (omega arith)))
 
 mul-if3 : tie.Need-mul-if3
 mul-if3 c = search needs
@@ -39,7 +39,7 @@ returns-3 c =
     let l = drop (a .at) (now (a .frame)) in
     let n = c .before .before .count-at .ensures .0 in
     let d = length-drop (a .at) (now (a .frame)) in
-    rw (ring-truncated l (omega arith) (rw (← n) (c .before .if2 .left)) (rw (← n) (omega arith)))
+    rw (ring-truncated l (omega arith) (rw (← n) (omega arith)) (rw (← n) (omega arith)))
 
 add-t5 : tie.Need-add-t5
 add-t5 c = search needs
@@ -59,7 +59,7 @@ returns-4 c =
     let d = length-drop (a .at) f in
     let w : 2 + 16 * countOf l ≤ length l = rw (← n) (omega arith) in
     let e = length-drop (2 + 16 * countOf l) l in
-    rw (ring-whole l (rw (← n) (c .before .if2 .left)) w)
+    rw (ring-whole l (rw (← n) (omega arith)) w)
     (ap Reaches (omega arith))
 
 pub pass-ring-spec : {M : Type 1} → statement M

@@ -1,5 +1,5 @@
 -- `decode_ring` meets its contract. The invariant: what is left, written over what stands there, is the whole written over what stood there. Assumes nothing.
-use mathlib.Core.Path.{_≡_, sym, _∙_}
+use mathlib.Core.Path.{_≡_, refl, sym, _∙_}
 use Prim.Native.Nat.{_+_, _*_, _-_, _≤_}
 use denote.Ref.{now}
 use lib.ListN.{length, drop}
@@ -50,6 +50,12 @@ loop-again c =
     let e = l .inv .2 ∙ one-written (now (a .frame)) (a .at) (a .n) (a .start) (l .ring) (l .i) (c .before .before .before .before .before .loop-test .taken) in
     (search needs, search needs, e ∙ rw (c .before .before .put .ensures, c .before .before .before .before .coord-at .ensures))
 
+mul-result : tie.Need-mul-result Inv-loop μ-loop
+mul-result c = search needs
+
+add-result : tie.Need-add-result Inv-loop μ-loop
+add-result c = search needs
+
 same-length : tie.Need-same-length Inv-loop μ-loop
 same-length c = search needs
 
@@ -57,7 +63,7 @@ returns : tie.Need-returns Inv-loop μ-loop
 returns c =
     let a = c .before .before .before .before .args in
     let l = c .before .loop in
-    sym (l .inv .2 ∙ all-written (now (a .frame)) (a .at) (a .n) (a .start) (l .ring) (l .i) (c .loop-test .left))
+    (refl, sym (l .inv .2 ∙ all-written (now (a .frame)) (a .at) (a .n) (a .start) (l .ring) (l .i) (c .loop-test .left)))
 
 pub decode-ring-spec : {M : Type 1} → statement M
 decode-ring-spec =
@@ -74,5 +80,7 @@ decode-ring-spec =
     add-i
     loop-less
     loop-again
+    mul-result
+    add-result
     same-length
     returns)
