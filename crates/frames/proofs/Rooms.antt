@@ -212,3 +212,7 @@ call-read l out f rest e =
     let second = q .1 in
     let same : p .value ≡ f = cc in
     (cc, rw (← same) (ltb-false out (room coordinateBytes (p .value .parts)) (q .0)))
+
+pub refused-room : (coordinate : ℕ) (x : Reading Frame) (r : FrameRefusal) → checkOf x ≡ Fails r → frameRoom coordinate x ≡ 0
+refused-room coordinate (refused s) r e = refl
+refused-room coordinate (read f rest) r e = absurd (let z : _≡_ {A = ℕ} 0 1 = cc in omega arith)

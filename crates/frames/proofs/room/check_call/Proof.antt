@@ -1,5 +1,6 @@
 -- `check_call` meets its contract. Assumes nothing.
 use mathlib.Core.Path.{sym, _∙_}
+use native.Mathlib.Omega.{arith}
 use denote.Ref.{now}
 use borrow.Author.Tests.{lt-ltb, le-ltb}
 use Rattle.frames.specs.Frame.{Accepted, readFrame}
@@ -24,7 +25,7 @@ returns : tie.Need-returns
 returns c =
     let a = c .before .before .before .before .before .before .args in
     let p : Accepted (readFrame (now (a .frame))) = sym (c .before .before .before .before .check-frame .ensures) ∙ c .before .before .enum-told .given .1 in
-    rw (call-room (now (a .frame)) (a .out) p, ← c .before .frame-room .ensures, lt-ltb _ _ (c .if1 .taken))
+    rw (call-room (now (a .frame)) (a .out) p, ← c .before .frame-room .ensures, lt-ltb (a .out) (c .before .frame-room .result) (omega arith))
 
 returns-2 : tie.Need-returns-2
 returns-2 c =
@@ -35,7 +36,7 @@ returns-3 : tie.Need-returns-3
 returns-3 c =
     let a = c .before .before .before .before .before .before .args in
     let p : Accepted (readFrame (now (a .frame))) = sym (c .before .before .before .before .check-frame .ensures) ∙ c .before .before .enum-told .given .1 in
-    rw (call-room (now (a .frame)) (a .out) p, ← c .before .frame-room .ensures, le-ltb _ _ (c .if1 .left)) (sym p)
+    rw (call-room (now (a .frame)) (a .out) p, ← c .before .frame-room .ensures, le-ltb (a .out) (c .before .frame-room .result) (omega arith)) (sym p)
 
 pub check-call-spec : {M : Type 1} → statement M
 check-call-spec =
