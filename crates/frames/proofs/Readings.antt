@@ -1,4 +1,4 @@
--- Reading from the front of bytes: what follows is a tail of them, and a reading of many things steps over one at a time. Assumes nothing.
+-- Reading from the front of bytes: what a count, a ring, a part and a frame that are read hold, and that what follows is a tail of the bytes. Assumes nothing.
 use mathlib.Core.Path.{_≡_, refl, sym, _∙_, ap, ap₂}
 use mathlib.Core.Bool.{Bool, true, false, not, _&&_, _||_, true≢false}
 use mathlib.Core.List.{List, [], _∷_}
@@ -12,8 +12,7 @@ use Rattle.tile.specs.declared.Coord.{Coord}
 use Rattle.tile.specs.Ring.{close}
 use Rattle.frames.specs.declared.reader.FrameRefusal.{FrameRefusal}
 use Rattle.frames.specs.declared.reader.FrameRefusal.the-variants.{Size, Kind, Flags, PartCount, Truncated, RingCount, CoordinateCount, Trailing}
-use Rattle.frames.specs.declared.reader.Walk.the-variants.{Stops, Reaches}
-use Rattle.frames.specs.Frame.{Reading, refused, read, refuse, andThen, readMany, countOf, coordsOf, readCount, readCoords, readRing, readPart, wrongRingCount, mostRings, mostCoordinates, shortest, longest, mostFlags, mostParts, headBytes, polygon, readParts, Frame, kindOf, flagsOf, partCountOf, headOf, wrongSize, wrongKind, wrongPartCount, readFrame, Accepted, walkOf}
+use Rattle.frames.specs.Frame.{Reading, refused, read, refuse, andThen, readMany, countOf, coordsOf, readCount, readCoords, readRing, readPart, wrongRingCount, mostRings, mostCoordinates, shortest, longest, mostFlags, mostParts, headBytes, polygon, readParts, Frame, kindOf, flagsOf, partCountOf, headOf, wrongSize, wrongKind, wrongPartCount, readFrame, Accepted}
 
 -- ---- one after the other
 
@@ -222,39 +221,3 @@ frame-read l frame rest e =
       parts = all ∙ ap₂ read (ap (λ (f : Frame). f .parts) same) bytes;
       end = omega (arith, ap length bytes, q .1);
     }
-
--- ---- the walk over many
-
-module _ {A : Type 0} (f : List ℕ → Reading A) where
-  pub many-stops : (size k : ℕ) (l : List ℕ) (r : FrameRefusal) → 0 < k → walkOf size (f l) ≡ Stops r → walkOf size (readMany f k l) ≡ Stops r
-  unfolding readMany
-  many-stops size zero l r h e = absurd (omega arith)
-  many-stops size (suc k) l r h e = go (f l) e
-    where
-      go : (x : Reading A) → walkOf size x ≡ Stops r → walkOf size (andThen x (λ a rest. andThen (readMany f k rest) (λ others. read (a ∷ others)))) ≡ Stops r
-      go (refused s) e = e
-      go (read a rest) e = absurd (let z : _≡_ {A = ℕ} 0 1 = cc in omega arith)
-
-  walk-others : (size : ℕ) (a : A) (x : Reading (List A)) → walkOf size (andThen x (λ others. read (a ∷ others))) ≡ walkOf size x
-  walk-others size a (refused r) = refl
-  walk-others size a (read others rest) = refl
-
-  pub many-next : Reads f → (frame : List ℕ) (at k next : ℕ) → at ≤ length frame → 0 < k → walkOf (length frame) (f (drop at frame)) ≡ Reaches next
-      → (next ≤ length frame) × (walkOf (length frame) (readMany f k (drop at frame)) ≡ walkOf (length frame) (readMany f (k - 1) (drop next frame)))
-  unfolding readMany
-  many-next reads frame at zero next h pos e = absurd (omega arith)
-  many-next reads frame at (suc k) next h pos e = go (f (drop at frame)) refl e
-    where
-      go : (x : Reading A) → f (drop at frame) ≡ x → walkOf (length frame) x ≡ Reaches next
-          → (next ≤ length frame) × (walkOf (length frame) (readMany f (suc k) (drop at frame)) ≡ walkOf (length frame) (readMany f (suc k - 1) (drop next frame)))
-      go (refused r) q e = absurd (let z : _≡_ {A = ℕ} 0 1 = cc in omega arith)
-      go (read a rest) q e =
-          let p = place frame at rest h (reads (drop at frame) a rest q) in
-          let n : length frame - length rest ≡ next = cc in
-          let m : suc k - 1 ≡ k = omega arith in
-          (rw (← n) (p .0), rw (q, m, ← n, ← p .1) (walk-others (length frame) a (readMany f k rest)))
-
-  pub many-end : (frame : List ℕ) (at k : ℕ) → at ≤ length frame → k ≤ 0 → walkOf (length frame) (readMany f k (drop at frame)) ≡ Reaches at
-  unfolding readMany
-  many-end frame at zero h e = ap Reaches (omega (arith, length-drop at frame))
-  many-end frame at (suc k) h e = absurd (omega arith)

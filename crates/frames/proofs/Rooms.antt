@@ -110,8 +110,8 @@ ring-le l ring rest e =
     rw (p .coordinates) (B-le (length (close (coordsOf (countOf l) (drop 2 l)))) (closed-few (countOf l) (drop 2 l) (p .few)))
 
 module _ (frame : List ℕ) (at : ℕ) (h : at ≤ length frame) (a : Accepted (readRing (drop at frame))) where
-  pub ring-whole : at + 2 + 16 * countOf (drop at frame) ≤ length frame
-  ring-whole = let t = taken (readRing (drop at frame)) a in ring-at frame at (t .value) (t .rest) h (t .is) .whole
+  pub ring-fits : at + 2 + 16 * countOf (drop at frame) ≤ length frame
+  ring-fits = let t = taken (readRing (drop at frame)) a in ring-at frame at (t .value) (t .rest) h (t .is) .whole
 
   pub ring-few : countOf (drop at frame) ≤ mostCoordinates
   ring-few = let t = taken (readRing (drop at frame)) a in ring-at frame at (t .value) (t .rest) h (t .is) .few
@@ -142,8 +142,8 @@ part-le l part rest e =
     omega (arith, sum-le readRing ringRoom [] mostRing ring-le (countOf l) (drop 2 l) part rest (p .rings))
 
 module _ (frame : List ℕ) (at : ℕ) (h : at ≤ length frame) (a : Accepted (readPart (drop at frame))) where
-  pub part-whole : at + 2 ≤ length frame
-  part-whole = let t = taken (readPart (drop at frame)) a in part-at frame at (t .value) (t .rest) h (t .is) .whole
+  pub part-fits : at + 2 ≤ length frame
+  part-fits = let t = taken (readPart (drop at frame)) a in part-at frame at (t .value) (t .rest) h (t .is) .whole
 
   pub part-few : countOf (drop at frame) ≤ mostRings
   part-few = let t = taken (readPart (drop at frame)) a in part-at frame at (t .value) (t .rest) h (t .is) .few

@@ -7,7 +7,9 @@ use super::ring::count_at;
 use binary64::bytes::read_f64;
 use tile::TileBounds;
 
-// The bytes of a head.
+// Where the part count stands, and the bytes of a head.
+pub const PART_COUNT: usize = 42;
+
 pub const HEAD: usize = 44;
 
 // The bounds are as read: not buffered yet. `parts` is the count of parts.
@@ -42,6 +44,6 @@ pub fn read_head(frame: &[u8]) -> Head
         skip_boundary_fallback: flags / 2 == 1,
         bounds: read_bounds(frame),
         buffer: read_f64(frame, 34),
-        parts: count_at(frame, 42),
+        parts: count_at(frame, PART_COUNT),
     }
 }

@@ -4,6 +4,9 @@ ghost use Prim.Native.Nat.{_≤_};
 ghost use lib.ListN.{length, drop};
 ghost use Rattle.frames.specs.Frame as S;
 use super::head::HEAD;
+use super::head::PART_COUNT;
+use super::ring::COORD;
+use super::ring::COUNT;
 use super::ring::count_at;
 
 pub const SHORTEST: usize = 44;
@@ -97,17 +100,17 @@ fn pass_ring(frame: &[u8], at: usize) -> Walk
     ensures { λ r. ⌜ r ≡ S.walkOf (length (now (frame .entry))) (S.readRing (drop at (now (frame .entry)))) ⌝ }
 {
     let left = frame.len() - at;
-    if left < 2 {
+    if left < COUNT {
         return Walk::Stops(FrameRefusal::Truncated);
     }
     let n = count_at(frame, at);
     if n > MOST_COORDINATES {
         return Walk::Stops(FrameRefusal::CoordinateCount);
     }
-    if left - 2 < 16 * n {
+    if left - COUNT < COORD * n {
         return Walk::Stops(FrameRefusal::Truncated);
     }
-    Walk::Reaches(at + 2 + 16 * n)
+    Walk::Reaches(at + COUNT + COORD * n)
 }
 
 // Passes over so many rings from a place on.
@@ -136,12 +139,12 @@ fn pass_part(frame: &[u8], at: usize) -> Walk
     requires { ⌜ at ≤ length (now frame) ⌝ }
     ensures { λ r. ⌜ r ≡ S.walkOf (length (now (frame .entry))) (S.readPart (drop at (now (frame .entry)))) ⌝ }
 {
-    if frame.len() - at >= 2 {
+    if frame.len() - at >= COUNT {
         let rings = count_at(frame, at);
         if is_wrong_ring_count(rings) {
             return Walk::Stops(FrameRefusal::RingCount);
         }
-        return pass_rings(frame, at + 2, rings);
+        return pass_rings(frame, at + COUNT, rings);
     }
     Walk::Stops(FrameRefusal::Truncated)
 }
@@ -197,7 +200,7 @@ pub fn check_frame(frame: &[u8]) -> FrameCheck
     if frame[1] > MOST_FLAGS {
         return FrameCheck::Fails(FrameRefusal::Flags);
     }
-    let parts = count_at(frame, 42);
+    let parts = count_at(frame, PART_COUNT);
     if is_wrong_part_count(kind, parts) {
         return FrameCheck::Fails(FrameRefusal::PartCount);
     }

@@ -10,6 +10,11 @@ use binary64::bytes::read_u16;
 use tile::Coord;
 use tile::ring::put;
 
+// The bytes of a count and of a coordinate.
+pub const COUNT: usize = 2;
+
+pub const COORD: usize = 16;
+
 // The count at a place: of parts, of rings or of coordinates.
 pub fn count_at(frame: &[u8], at: usize) -> usize
     requires { ⌜ at + 2 ≤ length (now frame) ⌝ }
@@ -37,7 +42,7 @@ fn is_closed(frame: &[u8], at: usize, n: usize) -> bool
         return true;
     }
     let first = coord_at(frame, at);
-    first.equals(coord_at(frame, at + 16 * (n - 1)))
+    first.equals(coord_at(frame, at + COORD * (n - 1)))
 }
 
 // How many coordinates the ring of n at a place has when closed.
@@ -58,9 +63,9 @@ pub fn decode_ring(frame: &[u8], at: usize, n: usize, ring: &mut [f64], start: u
 {
     let mut i = 0usize;
     while i < n {
-        let p = coord_at(frame, at + 16 * i);
+        let p = coord_at(frame, at + COORD * i);
         put(ring, start + i, p);
         i += 1;
     }
-    at + 16 * n
+    at + COORD * n
 }

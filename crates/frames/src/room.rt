@@ -5,13 +5,17 @@ ghost use lib.ListN.{length, drop};
 ghost use Rattle.frames.specs.Frame as S;
 ghost use Rattle.frames.specs.Room as R;
 use super::head::HEAD;
+use super::head::PART_COUNT;
 use super::reader::FrameCheck;
 use super::reader::FrameRefusal;
 use super::reader::check_frame;
+use super::ring::COORD;
+use super::ring::COUNT;
 use super::ring::closed_count;
 use super::ring::count_at;
 use sutherland_hodgman::call::room_for;
 
+// The bytes of an answer that lists nothing, and of a coordinate in an answer.
 pub const LEAST_ROOM: usize = 5;
 
 pub const COORDINATE_BYTES: usize = 16;
@@ -28,10 +32,10 @@ fn ring_room(frame: &[u8], at: usize) -> Passed
     ensures { λ r. ⌜ r ≡ R.passedOf (length (now (frame .entry))) R.ringRoom (S.readRing (drop at (now (frame .entry)))) ⌝ }
 {
     let n = count_at(frame, at);
-    let coords = at + 2;
+    let coords = at + COUNT;
     Passed {
         room: room_for(closed_count(frame, coords, n)),
-        next: coords + 16 * n,
+        next: coords + COORD * n,
     }
 }
 
@@ -58,7 +62,7 @@ fn part_room(frame: &[u8], at: usize) -> Passed
     ensures { λ r. ⌜ r ≡ R.passedOf (length (now (frame .entry))) (R.partRoom R.coordinateBytes) (S.readPart (drop at (now (frame .entry)))) ⌝ }
 {
     let rings = count_at(frame, at);
-    let cut = rings_room(frame, at + 2, rings);
+    let cut = rings_room(frame, at + COUNT, rings);
     Passed {
         room: 6 + 2 * rings + COORDINATE_BYTES * cut.room,
         next: cut.next,
@@ -72,7 +76,7 @@ pub fn frame_room(frame: &[u8]) -> usize
 {
     let mut room = LEAST_ROOM;
     let mut at = HEAD;
-    let mut left = count_at(frame, 42);
+    let mut left = count_at(frame, PART_COUNT);
     while left > 0 {
         let part = part_room(frame, at);
         room += part.room;

@@ -1,10 +1,10 @@
 -- `check_parts` meets its contract: the walk stops, ends before the frame's end, or ends with it. Assumes nothing.
-use mathlib.Core.Path.{sym, _∙_}
 use native.Mathlib.Omega.{arith}
 use denote.Ref.{now}
+use borrow.Author.Tests.{lt-ltb, le-ltb}
 use lib.ListN.{length, drop}
 use Rattle.frames.specs.Frame.{headBytes}
-use Rattle.frames.proofs.Walks.{parts-stop, parts-followed, parts-last}
+use Rattle.frames.proofs.Walks.{parts-ended}
 use borrow.Author.Needs.{needs}
 use Rattle.frames.proofs.reader.check_parts.Statement.{statement}
 use Rattle.frames.proofs.reader.check_parts.Tie as tie
@@ -22,19 +22,19 @@ returns : tie.Need-returns
 returns c =
     let a = c .before .before .before .before .before .before .args in
     let f = now (a .frame) in
-    sym (parts-followed (length f) (a .parts) (drop headBytes f) _ (sym (c .before .before .before .before .pass-parts .ensures) ∙ c .before .before .end .given .1) (c .if1 .taken))
+    rw (parts-ended (length f) (a .parts) (drop headBytes f) (omega arith), ← c .before .before .before .before .pass-parts .ensures, c .before .before .end .given .1, lt-ltb _ _ (c .if1 .taken))
 
 returns-2 : tie.Need-returns-2
 returns-2 c =
     let a = c .before .before .before .before .before .args in
     let f = now (a .frame) in
-    sym (parts-stop (length f) (a .parts) (drop headBytes f) _ (sym (c .before .before .before .pass-parts .ensures) ∙ c .before .refusal .given .1))
+    rw (parts-ended (length f) (a .parts) (drop headBytes f) (omega arith), ← c .before .before .before .pass-parts .ensures, c .before .refusal .given .1)
 
 returns-3 : tie.Need-returns-3
 returns-3 c =
     let a = c .before .before .before .before .before .before .args in
     let f = now (a .frame) in
-    sym (parts-last (length f) (a .parts) (drop headBytes f) _ (omega arith) (sym (c .before .before .before .before .pass-parts .ensures) ∙ c .before .before .end .given .1) (c .if1 .left))
+    rw (parts-ended (length f) (a .parts) (drop headBytes f) (omega arith), ← c .before .before .before .before .pass-parts .ensures, c .before .before .end .given .1, le-ltb _ _ (c .if1 .left))
 
 pub check-parts-spec : {M : Type 1} → statement M
 check-parts-spec =

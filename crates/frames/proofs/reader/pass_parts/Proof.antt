@@ -5,7 +5,8 @@ use denote.Ref.{now}
 use borrow.Author.Needs.{needs}
 use lib.ListN.{length, drop}
 use Rattle.frames.specs.Frame.{readMany, readPart, walkOf}
-use Rattle.frames.proofs.Readings.{part-reads, many-stops, many-next, many-end}
+use Rattle.frames.proofs.Readings.{part-reads}
+use Rattle.frames.proofs.Walks.{many-stops, many-next, many-end}
 use Rattle.frames.proofs.reader.pass_parts.Statement.{statement}
 use Rattle.frames.proofs.reader.pass_parts.Tie as tie
 

@@ -5,7 +5,8 @@ use denote.Ref.{now}
 use borrow.Author.Needs.{needs}
 use lib.ListN.{length, drop}
 use Rattle.frames.specs.Frame.{readMany, readRing, walkOf}
-use Rattle.frames.proofs.Readings.{ring-reads, many-stops, many-next, many-end}
+use Rattle.frames.proofs.Readings.{ring-reads}
+use Rattle.frames.proofs.Walks.{many-stops, many-next, many-end}
 use Rattle.frames.proofs.reader.pass_rings.Statement.{statement}
 use Rattle.frames.proofs.reader.pass_rings.Tie as tie
 

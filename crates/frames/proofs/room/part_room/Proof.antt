@@ -4,7 +4,7 @@ use native.Mathlib.Omega.{arith}
 use denote.Ref.{now}
 use lib.ListN.{length, drop}
 use Rattle.frames.specs.Frame.{mostRings, countOf}
-use Rattle.frames.proofs.Rooms.{part-whole, part-few, part-rings, part-passed, mostRing, rings-le}
+use Rattle.frames.proofs.Rooms.{part-fits, part-few, part-rings, part-passed, mostRing, rings-le}
 use borrow.Author.Needs.{needs}
 use Rattle.frames.proofs.room.part_room.Statement.{statement}
 use Rattle.frames.proofs.room.part_room.Tie as tie
@@ -12,7 +12,7 @@ use Rattle.frames.proofs.room.part_room.Tie as tie
 count-at-requires : tie.Need-count-at-requires
 count-at-requires c κs =
     let a = c .before in
-    omega (arith, part-whole (now (a .args .frame)) (a .args .at) (a .pre .0) (a .pre .1))
+    omega (arith, part-fits (now (a .args .frame)) (a .args .at) (a .pre .0) (a .pre .1))
 
 add-rings-room : tie.Need-add-rings-room
 add-rings-room c = search needs
@@ -22,7 +22,7 @@ rings-room-requires c κs =
     let a = c .before .before in
     let n = c .count-at .ensures .0 in
     let f = now (a .args .frame) in
-    (part-whole f (a .args .at) (a .pre .0) (a .pre .1), rw n (part-few f (a .args .at) (a .pre .0) (a .pre .1)), rw n (part-rings f (a .args .at) (a .pre .0) (a .pre .1)))
+    (part-fits f (a .args .at) (a .pre .0) (a .pre .1), rw n (part-few f (a .args .at) (a .pre .0) (a .pre .1)), rw n (part-rings f (a .args .at) (a .pre .0) (a .pre .1)))
 
 mul-t5 : tie.Need-mul-t5
 mul-t5 c = search needs

@@ -3,7 +3,7 @@ use mathlib.Core.Path.{_∙_, ap}
 use native.Mathlib.Omega.{arith}
 use denote.Ref.{now}
 use Rattle.sutherland_hodgman.specs.Growth.{B}
-use Rattle.frames.proofs.Rooms.{ring-whole, ring-few, ring-passed, closed-few}
+use Rattle.frames.proofs.Rooms.{ring-fits, ring-few, ring-passed, closed-few}
 use borrow.Author.Needs.{needs}
 use Rattle.frames.proofs.room.ring_room.Statement.{statement}
 use Rattle.frames.proofs.room.ring_room.Tie as tie
@@ -11,7 +11,7 @@ use Rattle.frames.proofs.room.ring_room.Tie as tie
 count-at-requires : tie.Need-count-at-requires
 count-at-requires c κs =
     let a = c .before in
-    omega (arith, ring-whole (now (a .args .frame)) (a .args .at) (a .pre .0) (a .pre .1))
+    omega (arith, ring-fits (now (a .args .frame)) (a .args .at) (a .pre .0) (a .pre .1))
 
 add-coords : tie.Need-add-coords
 add-coords c = search needs
@@ -20,7 +20,7 @@ closed-count-requires : tie.Need-closed-count-requires
 closed-count-requires c κs =
     let a = c .before .before in
     let n = c .count-at .ensures .0 in
-    omega (arith, ring-whole (now (a .args .frame)) (a .args .at) (a .pre .0) (a .pre .1))
+    omega (arith, ring-fits (now (a .args .frame)) (a .args .at) (a .pre .0) (a .pre .1))
 
 room-for-requires : tie.Need-room-for-requires
 room-for-requires c κs =
