@@ -1,5 +1,6 @@
 -- The coordinates of a ring in a frame: how many they are, the last of them, and one more of them written. Assumes nothing.
 use mathlib.Core.Path.{_≡_, refl, sym, _∙_, ap}
+use mathlib.Core.Bool.{Bool, true, false}
 use mathlib.Core.List.{List, [], _∷_}
 use Prim.Native.Nat.{ℕ, zero, suc, _+_, _*_, _-_, _<_, _≤_}
 use native.Mathlib.Omega.{arith}
@@ -7,8 +8,8 @@ use lib.Ieee.{Float}
 use lib.ListN.{length, take, drop}
 use lib.Seq.{sets, sets-eq, drop-drop}
 use Rattle.tile.specs.declared.Coord.{Coord}
-use Rattle.tile.specs.Ring.{coords, flat, same, last, closed}
-use Rattle.tile.proofs.Rings.{length-flat, coords-front}
+use Rattle.tile.specs.Ring.{coords, flat, same, last, closed, close}
+use Rattle.tile.proofs.Rings.{length-flat, coords-front, count-closed, count-open}
 use Rattle.frames.specs.Frame.{coordOf, coordsOf}
 
 pub length-coordsOf : (n : ℕ) (l : List ℕ) → length (coordsOf n l) ≡ n
@@ -30,6 +31,14 @@ closed-coordsOf frame at zero h = absurd (omega arith)
 closed-coordsOf frame at (suc n) h =
     let e : suc n - 1 ≡ n = omega arith in
     rw (e, ← drop-drop (16 * n) at frame, last-coordsOf n (drop at frame))
+
+-- closing adds at most one
+pub close-grows : (n : ℕ) (l : List ℕ) → length (close (coordsOf n l)) ≤ n + 1
+close-grows n l = go (closed (coordsOf n l)) refl
+  where
+    go : (c : Bool) → closed (coordsOf n l) ≡ c → length (close (coordsOf n l)) ≤ n + 1
+    go true e = omega (arith, count-closed (coordsOf n l) e, length-coordsOf n l)
+    go false e = omega (arith, count-open (coordsOf n l) e, length-coordsOf n l)
 
 -- what is left to write, with one coordinate of it written
 module _ (frame : List ℕ) (at n start : ℕ) where

@@ -60,13 +60,18 @@ abbrev pub Reads : {A : Type 0} → (List ℕ → Reading A) → Type 0
 Reads {A} f = (l : List ℕ) (a : A) (rest : List ℕ) → f l ≡ read a rest → Follows l rest
 
 -- where the rest of a reading at a place of a frame stands
-pub place : (frame : List ℕ) (at : ℕ) (rest : List ℕ) → at ≤ length frame → Follows (drop at frame) rest → (length frame - length rest ≤ length frame) × (rest ≡ drop (length frame - length rest) frame)
+pub record Placed (frame : List ℕ) (at : ℕ) (rest : List ℕ) : Type 0 where
+  pub onward : at ≤ length frame - length rest
+  pub within : length frame - length rest ≤ length frame
+  pub here : rest ≡ drop (length frame - length rest) frame
+
+pub place : (frame : List ℕ) (at : ℕ) (rest : List ℕ) → at ≤ length frame → Follows (drop at frame) rest → Placed frame at rest
 place frame at rest h p =
     let e : rest ≡ drop (at + p .count) frame = p .here ∙ drop-drop (p .count) at frame in
     let n : length rest ≡ length frame - (at + p .count) = rw e (length-drop (at + p .count) frame) in
     let f = p .fits in
     let k : length frame - length rest ≡ at + p .count = omega (arith, length-drop at frame) in
-    (omega arith, rw k e)
+    record { onward = omega arith; within = omega arith; here = rw k e }
 
 -- ---- many
 

@@ -1,6 +1,5 @@
 -- The room of an accepted frame: what is summed over rings and parts, and how large it gets. Assumes nothing.
 use mathlib.Core.Path.{_≡_, refl, _∙_}
-use mathlib.Core.Bool.{Bool, true, false}
 use mathlib.Core.List.{List, [], _∷_}
 use Prim.Native.Nat.{ℕ, zero, suc, _+_, _*_, _-_, _<_, _≤_}
 use native.Mathlib.Nat.{suc-mul}
@@ -9,8 +8,7 @@ use lib.Dec.{ltb}
 use lib.ListN.{length, drop, length-drop}
 use borrow.Author.Tests.{ltb-false}
 use Rattle.tile.specs.declared.Coord.{Coord}
-use Rattle.tile.specs.Ring.{closed, close}
-use Rattle.tile.proofs.Rings.{count-closed, count-open}
+use Rattle.tile.specs.Ring.{close}
 use Rattle.sutherland_hodgman.specs.Growth as G
 use Rattle.sutherland_hodgman.specs.Growth.{B}
 use Rattle.sutherland_hodgman.proofs.Growth.{B-le}
@@ -20,7 +18,7 @@ use Rattle.frames.specs.declared.reader.FrameCheck.the-variants.{Fails}
 use Rattle.frames.specs.declared.room.Passed.{Passed}
 use Rattle.frames.specs.Frame.{Reading, refused, read, refuse, andThen, checkOf, readMany, countOf, coordsOf, readRing, readPart, Frame, readFrame, headBytes, partCountOf, mostParts, mostRings, mostCoordinates, Accepted}
 use Rattle.frames.specs.Room.{sumOf, ringRoom, partRoom, room, coordinateBytes, leastRoom, passedOf, frameRoom, readCall}
-use Rattle.frames.proofs.Coordinates.{length-coordsOf}
+use Rattle.frames.proofs.Coordinates.{close-grows}
 use Rattle.frames.proofs.Places.{step, ring-at, part-at}
 use Rattle.frames.proofs.Readings.{both, not-refused, taken, Reads, many-first, many-length, ring-read, part-read, frame-read}
 
@@ -87,15 +85,8 @@ module _ {A : Type 0} (f : List ℕ → Reading A) (g : A → ℕ) (frame : List
 
 -- ---- a ring
 
-close-grows : (ring : List Coord) → length (close ring) ≤ length ring + 1
-close-grows ring = go (closed ring) refl
-  where
-    go : (c : Bool) → closed ring ≡ c → length (close ring) ≤ length ring + 1
-    go true e = omega (arith, count-closed ring e)
-    go false e = omega (arith, count-open ring e)
-
 pub closed-few : (n : ℕ) (l : List ℕ) → n ≤ mostCoordinates → length (close (coordsOf n l)) ≤ G.mostCoordinates
-closed-few n l h = omega (arith, close-grows (coordsOf n l), length-coordsOf n l)
+closed-few n l h = omega (arith, close-grows n l)
 
 -- more than the room of any ring, in coordinates, and of any part, in bytes
 abbrev pub mostRing : ℕ

@@ -92,7 +92,7 @@ module _ {A : Type 0} (f : List ℕ → Reading A) where
           let p = place frame at rest h (reads (drop at frame) a rest q) in
           let n : length frame - length rest ≡ next = cc in
           let m : suc k - 1 ≡ k = omega arith in
-          (rw (← n) (p .0), rw (q, m, ← n, ← p .1) (walk-others (length frame) a (readMany f k rest)))
+          (rw (← n) (p .within), rw (q, m, ← n, ← p .here) (walk-others (length frame) a (readMany f k rest)))
 
   pub many-end : (frame : List ℕ) (at k : ℕ) → at ≤ length frame → k ≤ 0 → walkOf (length frame) (readMany f k (drop at frame)) ≡ Reaches at
   unfolding readMany
