@@ -4,12 +4,13 @@ use std::process::exit;
 
 use compare::command::Command;
 
-const USAGE: &str = "usage: port bounds|issues|rings|slices [--seed S] [--count N]";
+const USAGE: &str = "usage: port bounds|frames|issues|rings|slices [--seed S] [--count N]";
 
 fn main() {
     let Command { what, seed, count } = Command::read(USAGE);
     let campaign = match what.as_str() {
         "bounds" => port::bounds::compare(seed, count),
+        "frames" => port::frames::compare(seed, count),
         "issues" => port::issues::compare(seed, count),
         "rings" => port::rings::compare(seed, count),
         "slices" => port::slices::compare(seed, count),

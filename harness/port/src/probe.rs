@@ -33,6 +33,8 @@ mod exported {
             order: *mut u32,
             order_len: usize,
         ) -> u8;
+        pub fn probe_check_call(frame: *const u8, frame_len: usize, out_len: usize) -> u8;
+        pub fn probe_frame_room(frame: *const u8, frame_len: usize) -> usize;
         pub fn probe_scan_pairs(ring: *const f64, ring_len: usize) -> u8;
         pub fn probe_sweep_pairs(
             ring: *const f64,
@@ -151,4 +153,16 @@ pub fn sweep_pairs(ring: &[f64], work: &mut [f64], order: &mut [u32]) -> u8 {
             order.len(),
         )
     }
+}
+
+/// The refusal that a frame call meets with an output of so many bytes; 0 for none.
+pub fn check_call(frame: &[u8], out: usize) -> u8 {
+    // SAFETY: as in `empty`.
+    unsafe { exported::probe_check_call(frame.as_ptr(), frame.len(), out) }
+}
+
+/// The bytes of output that a frame asks for; 0 for one that is refused.
+pub fn frame_room(frame: &[u8]) -> usize {
+    // SAFETY: as in `empty`.
+    unsafe { exported::probe_frame_room(frame.as_ptr(), frame.len()) }
 }

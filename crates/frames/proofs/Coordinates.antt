@@ -1,0 +1,72 @@
+-- The coordinates of a ring in a frame: how many they are, the last of them, and one more of them written. Assumes nothing.
+use mathlib.Core.Path.{_≡_, refl, sym, _∙_, ap}
+use mathlib.Core.Bool.{Bool, true, false}
+use mathlib.Core.List.{List, [], _∷_}
+use Prim.Native.Nat.{ℕ, zero, suc, _+_, _*_, _-_, _<_, _≤_}
+use native.Mathlib.Omega.{arith}
+use lib.Ieee.{Float}
+use lib.ListN.{length, take, drop}
+use lib.Seq.{sets, sets-eq, drop-drop}
+use Rattle.tile.specs.declared.Coord.{Coord}
+use Rattle.tile.specs.Ring.{coords, flat, same, last, closed, close}
+use Rattle.tile.proofs.Rings.{length-flat, coords-front, count-closed, count-open}
+use Rattle.frames.specs.Frame.{coordOf, coordsOf}
+
+pub length-coordsOf : (n : ℕ) (l : List ℕ) → length (coordsOf n l) ≡ n
+unfolding coordsOf
+length-coordsOf zero l = refl
+length-coordsOf (suc n) l = ap suc (length-coordsOf n (drop 16 l))
+
+last-coordsOf : (n : ℕ) (l : List ℕ) → last (coordOf l) (coordsOf n (drop 16 l)) ≡ coordOf (drop (16 * n) l)
+unfolding last coordsOf
+last-coordsOf zero l = refl
+last-coordsOf (suc n) l =
+    let e : 16 * suc n ≡ 16 + 16 * n = omega arith in
+    rw (e, ← drop-drop (16 * n) 16 l) (last-coordsOf n (drop 16 l))
+
+-- closed, by the first and the last coordinate
+pub closed-coordsOf : (frame : List ℕ) (at n : ℕ) → 0 < n → closed (coordsOf n (drop at frame)) ≡ same (coordOf (drop at frame)) (coordOf (drop (at + 16 * (n - 1)) frame))
+unfolding closed coordsOf
+closed-coordsOf frame at zero h = absurd (omega arith)
+closed-coordsOf frame at (suc n) h =
+    let e : suc n - 1 ≡ n = omega arith in
+    rw (e, ← drop-drop (16 * n) at frame, last-coordsOf n (drop at frame))
+
+-- closing adds at most one
+pub close-grows : (n : ℕ) (l : List ℕ) → length (close (coordsOf n l)) ≤ n + 1
+close-grows n l = go (closed (coordsOf n l)) refl
+  where
+    go : (c : Bool) → closed (coordsOf n l) ≡ c → length (close (coordsOf n l)) ≤ n + 1
+    go true e = omega (arith, count-closed (coordsOf n l) e, length-coordsOf n l)
+    go false e = omega (arith, count-open (coordsOf n l) e, length-coordsOf n l)
+
+-- what is left to write, with one coordinate of it written
+module _ (frame : List ℕ) (at n start : ℕ) where
+  abbrev pub left : ℕ → List Coord
+  left i = coordsOf (n - i) (drop (at + 16 * i) frame)
+
+  pub none-written : (ring : List Float) → sets ring (2 * start) (flat (coordsOf n (drop at frame))) ≡ sets ring (2 * (start + 0)) (flat (left 0))
+  none-written ring =
+      let e : start + 0 ≡ start = omega arith in
+      let m : n - 0 ≡ n = omega arith in
+      let d : at + 16 * 0 ≡ at = omega arith in
+      rw (e, m, d)
+
+  pub one-written : (ring : List Float) (i : ℕ) → i < n
+      → sets ring (2 * (start + i)) (flat (left i)) ≡ sets (sets ring (2 * (start + i)) (coordOf (drop (at + 16 * i) frame) .x ∷ coordOf (drop (at + 16 * i) frame) .y ∷ [])) (2 * (start + (i + 1))) (flat (left (i + 1)))
+  unfolding coordsOf flat
+  one-written ring i h =
+      let e : n - i ≡ suc (n - (i + 1)) = omega arith in
+      let p : 2 * (start + (i + 1)) ≡ suc (suc (2 * (start + i))) = omega arith in
+      let d : at + 16 * (i + 1) ≡ at + 16 * i + 16 = omega arith in
+      rw (e, p, d, ← drop-drop 16 (at + 16 * i) frame)
+
+  pub all-written : (ring : List Float) (i : ℕ) → n ≤ i → sets ring (2 * (start + i)) (flat (left i)) ≡ ring
+  unfolding coordsOf flat
+  all-written ring i h = let e : n - i ≡ 0 = omega arith in rw e
+
+-- a ring that was written to the front of a slice stands there
+pub decoded : (ring : List Float) (n : ℕ) (l : List ℕ) → 2 * n ≤ length ring → coords (take (2 * n) (sets ring 0 (flat (coordsOf n l)))) ≡ coordsOf n l
+decoded ring n l h =
+    let m : length (flat (coordsOf n l)) ≡ 2 * n = length-flat (coordsOf n l) ∙ rw (length-coordsOf n l) in
+    coords-front (coordsOf n l) (drop (0 + length (flat (coordsOf n l))) ring) (sets ring 0 (flat (coordsOf n l))) n (sym (length-coordsOf n l)) (sets-eq (flat (coordsOf n l)) ring 0 (omega arith))

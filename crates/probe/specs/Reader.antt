@@ -1,0 +1,9 @@
+-- What the frame reader's check answers, as a code.
+use Prim.Native.Nat.{ℕ}
+use Rattle.frames.specs.declared.reader.FrameCheck.{FrameCheck}
+use Rattle.frames.specs.declared.reader.FrameCheck.the-variants.{Fails, Passes}
+use Rattle.frames.specs.Frame.{refusalNumber}
+
+abbrev pub checkCode : FrameCheck → ℕ
+checkCode (Fails r) = refusalNumber r
+checkCode Passes = 0

@@ -1,0 +1,8 @@
+//! The frame reader of the port against the harness's own, the share that every test run takes.
+
+#[test]
+fn refusals_and_room_agree() {
+    let campaign = port::frames::compare(1, 20_000);
+    println!("{campaign}");
+    assert_eq!(campaign.difference(), None);
+}
