@@ -25,7 +25,7 @@ fn is_finite_coord(p: Coord) -> bool
 }
 
 // The rectangle with one more coordinate.
-fn with_coord(r: Rect, p: Coord) -> Rect
+pub fn with_coord(r: Rect, p: Coord) -> Rect
     ensures { λ a. ⌜ a ≡ S.withCoord r p ⌝ }
 {
     match r {

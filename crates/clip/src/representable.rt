@@ -8,7 +8,7 @@ use binary64::compare::is_huge;
 use tile::Coord;
 use tile::ring::coord_at;
 
-fn is_huge_coord(p: Coord) -> bool
+pub fn is_huge_coord(p: Coord) -> bool
     ensures { λ r. ⌜ r ≡ S.hugeCoord p ⌝ }
 {
     is_huge(p.x) || is_huge(p.y)

@@ -1,0 +1,104 @@
+-- What a frame call answers, as a value (document 01, "Multipolygons"; for a polygon, "Nothing, or dropped" to "Overlay wanted"). Definitions only.
+use mathlib.Core.Bool.{cond}
+use mathlib.Core.List.{List, [], _∷_}
+use Prim.Native.Nat.{ℕ, suc, _+_}
+use lib.Dec.{eqb}
+use Rattle.tile.specs.declared.Coord.{Coord}
+use Rattle.tile.specs.declared.TileBounds.{TileBounds}
+use Rattle.tile.specs.Bounds.{buffered}
+use Rattle.clip.specs.declared.polygon.Flags.{Flags}
+use Rattle.clip.specs.declared.rectangle.Rect.{Rect}
+use Rattle.clip.specs.declared.rectangle.Rect.the-variants as Rects
+use Rattle.clip.specs.Rectangle.{rectangle, withRings, intersectsBounds, isFullyInside}
+use Rattle.clip.specs.Polygon as P
+use Rattle.clip.specs.Slice.{answerOf, guardCount}
+use Rattle.frames.specs.declared.head.Head.{Head}
+use Rattle.frames.specs.Frame.{polygon, Frame}
+
+-- a listed part: its number in the frame, "index from 0", and what becomes of it
+pub record Part : Type 0 where
+  pub index : ℕ
+  pub outcome : P.Routed
+
+-- "(0 nothing, 1 whole dropped, 2 whole unchanged, 3 listed), guard count", listed parts
+pub data Answer : Type 0 where
+  Nothing : ℕ → Answer
+  Dropped : Answer
+  Unchanged : Answer
+  Listed : ℕ → List Part → Answer
+
+-- ---- a polygon: "A polygon's cut or overlay is listed as part 0."
+
+abbrev pub ofPolygon : P.Routed → Answer
+ofPolygon P.nothing = Nothing 0
+ofPolygon P.dropped = Dropped
+ofPolygon P.unchanged = Unchanged
+ofPolygon (P.cut rings) = Listed 0 (record { index = 0; outcome = P.cut rings } ∷ [])
+ofPolygon (P.overlay reason) = Listed 0 (record { index = 0; outcome = P.overlay reason } ∷ [])
+
+-- ---- a multipolygon
+
+-- "Otherwise part by part: no coordinate or apart, left out; inside, unchanged with no issue check; else as a polygon."
+unfoldable pub routePart : Flags → TileBounds → List (List Coord) → P.Routed
+routePart flags b rings = cond (intersectsBounds (rectangle rings) b) (cond (isFullyInside (rectangle rings) b) P.unchanged (P.route flags b rings)) P.nothing
+
+-- the guard count and the listed parts
+pub record Listing : Type 0 where
+  pub guard : ℕ
+  pub parts : List Part
+
+-- what is left out or dropped is not listed
+abbrev pub listedBefore : ℕ → P.Routed → List Part → List Part
+listedBefore i P.nothing parts = parts
+listedBefore i P.dropped parts = parts
+listedBefore i P.unchanged parts = record { index = i; outcome = P.unchanged } ∷ parts
+listedBefore i (P.cut rings) parts = record { index = i; outcome = P.cut rings } ∷ parts
+listedBefore i (P.overlay reason) parts = record { index = i; outcome = P.overlay reason } ∷ parts
+
+-- "Guard counts add up."
+abbrev pub addPart : ℕ → P.Routed → Listing → Listing
+addPart i to l = record { guard = guardCount (answerOf to) + l .guard; parts = listedBefore i to (l .parts) }
+
+-- the parts from the i-th on
+unfoldable pub listParts : Flags → TileBounds → ℕ → List (List (List Coord)) → Listing
+listParts flags b i [] = record { guard = 0; parts = [] }
+listParts flags b i (part ∷ parts) = addPart i (routePart flags b part) (listParts flags b (suc i) parts)
+
+-- "No part listed: nothing, with that count."
+abbrev pub ofParts : ℕ → List Part → Answer
+ofParts guard [] = Nothing guard
+ofParts guard (part ∷ parts) = Listed guard (part ∷ parts)
+
+-- the rectangle of all parts
+unfoldable pub withParts : Rect → List (List (List Coord)) → Rect
+withParts r [] = r
+withParts r (part ∷ parts) = withParts (withRings r part) parts
+
+-- "No coordinate at all: nothing. One non-finite coordinate: the whole is dropped, count 1."
+abbrev pub ifBox : Rect → Answer → Answer
+ifBox Rects.Nothing answer = Nothing 0
+ifBox Rects.NotFinite answer = Dropped
+ifBox (Rects.Box w s e n) answer = answer
+
+-- "Whole rectangle apart: nothing. Whole rectangle inside: unchanged, with no issue check."
+unfoldable pub ofMultipolygon : Flags → TileBounds → List (List (List Coord)) → Answer
+ofMultipolygon flags b parts =
+    let whole = withParts Rects.Nothing parts in
+    let listing = listParts flags b 0 parts in
+    ifBox whole (cond (intersectsBounds whole b) (cond (isFullyInside whole b) Unchanged (ofParts (listing .guard) (listing .parts))) (Nothing 0))
+
+-- ---- a frame
+
+abbrev pub flagsIn : Head → Flags
+flagsIn head = record { «assume_simple» = head .«assume_simple»; «skip_boundary_fallback» = head .«skip_boundary_fallback» }
+
+abbrev pub boundsIn : Head → TileBounds
+boundsIn head = buffered (head .bounds) (head .buffer)
+
+-- a polygon's only part
+abbrev pub onlyPart : List (List (List Coord)) → List (List Coord)
+onlyPart [] = []
+onlyPart (part ∷ parts) = part
+
+unfoldable pub answerTo : Frame → Answer
+answerTo f = cond (eqb (f .head .kind) polygon) (ofPolygon (P.route (flagsIn (f .head)) (boundsIn (f .head)) (onlyPart (f .parts)))) (ofMultipolygon (flagsIn (f .head)) (boundsIn (f .head)) (f .parts))

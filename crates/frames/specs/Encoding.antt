@@ -1,0 +1,71 @@
+-- Answers as bytes, and what a frame call leaves in the output (document 01, "Frames"). The bytes of a coordinate are a parameter. Definitions only.
+use mathlib.Core.List.{List, [], _∷_, _++_}
+use Prim.Native.Nat.{ℕ}
+use lib.IntN.{ℤ, pos, negℤ}
+use lib.ListN.{length}
+use Rattle.binary64.specs.Bytes.{Little, bytes, doubleBytes}
+use Rattle.tile.specs.declared.Coord.{Coord}
+use Rattle.clip.specs.Polygon as P
+use Rattle.clip.specs.Slice.{answerOf, answerNumber, answerReason, writtenRings, over}
+use Rattle.frames.specs.Frame.{Reading, refused, read, Frame, refusalNumber}
+use Rattle.frames.specs.Room.{readCall}
+use Rattle.frames.specs.Answer.{Part, Answer, Nothing, Dropped, Unchanged, Listed, answerTo}
+
+unfoldable pub each : {A : Type 0} → (A → List ℕ) → List A → List ℕ
+each f [] = []
+each f (a ∷ others) = f a ++ each f others
+
+abbrev pub countBytes : ℕ → List ℕ
+countBytes n = bytes Little 2 n
+
+-- "x and y, 8 bytes each"; "NaN is written with bits 7ff8000000000000"
+abbrev pub coordBytes : Coord → List ℕ
+coordBytes p = doubleBytes Little (p .x) ++ doubleBytes Little (p .y)
+
+module _ (coordinate : Coord → List ℕ) where
+  -- "each ring: coordinate count, 2 bytes, then x and y"
+  unfoldable pub ringBytes : List Coord → List ℕ
+  ringBytes ring = countBytes (length ring) ++ each coordinate ring
+
+  -- "if cut, ring count and rings as above"
+  abbrev pub cutBytes : P.Routed → List ℕ
+  cutBytes P.nothing = []
+  cutBytes P.dropped = []
+  cutBytes P.unchanged = []
+  cutBytes (P.cut rings) = countBytes (length rings) ++ each ringBytes rings
+  cutBytes (P.overlay reason) = []
+
+  -- "A listed part: index from 0, 2 bytes; 1 byte (2 unchanged, 4 cut, 5 overlay); reason, 1 byte, 0 unless overlay"
+  unfoldable pub partBytes : Part → List ℕ
+  partBytes part = countBytes (part .index) ++ (answerNumber (answerOf (part .outcome)) ∷ answerReason (answerOf (part .outcome)) ∷ cutBytes (part .outcome))
+
+  -- "An answer: 1 byte .., guard count 2 bytes, number of listed parts 2 bytes."
+  abbrev pub headerBytes : ℕ → ℕ → ℕ → List ℕ
+  headerBytes number guard parts = number ∷ countBytes guard ++ countBytes parts
+
+  unfoldable pub answerBytes : Answer → List ℕ
+  answerBytes (Nothing guard) = headerBytes 0 guard 0
+  answerBytes Dropped = headerBytes 1 1 0
+  answerBytes Unchanged = headerBytes 2 0 0
+  answerBytes (Listed guard parts) = headerBytes 3 guard (length parts) ++ each partBytes parts
+
+-- the bytes that answer a frame
+abbrev pub frameBytes : Frame → List ℕ
+frameBytes f = answerBytes coordBytes (answerTo f)
+
+-- what the frame entry answers: the count of bytes, or minus the refusal's number
+abbrev pub code : Reading Frame → ℤ
+code (refused r) = negℤ (pos (refusalNumber r))
+code (read f rest) = pos (length (frameBytes f))
+
+-- "A refusal changes no lent buffer. A success .. leaves the output .. past the answer unchanged."
+abbrev pub outputAfter : Reading Frame → List ℕ → List ℕ
+outputAfter (refused r) out = out
+outputAfter (read f rest) out = over (frameBytes f) out
+
+-- of a frame's bytes and the output
+abbrev pub callCode : List ℕ → List ℕ → ℤ
+callCode frame out = code (readCall frame (length out))
+
+abbrev pub callOutput : List ℕ → List ℕ → List ℕ
+callOutput frame out = outputAfter (readCall frame (length out)) out
