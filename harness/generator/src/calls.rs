@@ -12,6 +12,9 @@ use crate::scene::{lone_coordinate, Scene, Style};
 const RING_STREAM: u64 = 200;
 const SLICE_STREAM: u64 = 300;
 
+/// How many holes a polygon of a slice call has: mostly few, as more of them seldom leave it finite or inside.
+const HOLES: [usize; 10] = [0, 0, 0, 0, 1, 1, 2, 3, 4, 5];
+
 pub fn ring_call(style: Style, seed: u64, index: u64) -> RingCall {
     let rng = &mut Rng::new(seed, RING_STREAM + style as u64, index);
     let scene = Scene::new(style, rng);
@@ -35,7 +38,7 @@ pub fn slice_call(style: Style, seed: u64, index: u64) -> SliceCall {
     let rng = &mut Rng::new(seed, SLICE_STREAM + style as u64, index);
     let scene = Scene::new(style, rng);
     let long = is_long(rng);
-    let mut part = if long { long_part(rng) } else { scene.part(rng) };
+    let mut part = if long { long_part(rng) } else { scene.part_with(rng.pick(&HOLES), rng) };
     if rng.once_in(50) {
         part.push(vec![lone_coordinate(rng)]);
     }

@@ -84,9 +84,14 @@ impl Scene {
         Scene { style, finite, bounds, buffer }
     }
 
-    /// An exterior, and holes anywhere.
+    /// An exterior, and holes anywhere: few, as a frame has little room.
     pub fn part(&self, rng: &mut Rng) -> Part {
         let holes = if self.style == Style::Long { rng.pick(&[0, 0, 0, 1]) } else { rng.pick(&[0, 0, 0, 0, 1, 1, 2]) };
+        self.part_with(holes, rng)
+    }
+
+    /// An exterior, and so many holes anywhere.
+    pub fn part_with(&self, holes: usize, rng: &mut Rng) -> Part {
         (0..1 + holes).map(|_| self.ring(rng)).collect()
     }
 
