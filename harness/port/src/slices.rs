@@ -3,7 +3,8 @@
 use compare::calls::{label, styles};
 use compare::campaign::{self, Campaign, Checked};
 use compare::frames::refusal_label;
-use formats::calls::{SliceAfter, SliceCall};
+use formats::calls::{SliceAfter, SliceAnswer, SliceCall};
+use formats::Refusal;
 
 use crate::calls::{self, Flags, Lent};
 
@@ -19,15 +20,19 @@ pub fn compare(seed: u64, count: u64) -> Campaign {
 
 /// One call, its flags set by the given number, held to the oracle's answer.
 pub fn check(call: &SliceCall, set: u8) -> Checked {
-    let oracle = oracle::slice_call(call);
-    match answer(call, set).difference(&call.after(&oracle)) {
+    check_against(call, set, &oracle::slice_call(call))
+}
+
+/// One call, its flags set by the given number, held to an answer and to what that answer leaves in the lent slices.
+pub fn check_against(call: &SliceCall, set: u8, expected: &Result<SliceAnswer, Refusal>) -> Checked {
+    match answer(call, set).difference(&call.after(expected)) {
         Some(difference) => Err(format!("{call}: {difference}")),
-        None => Ok(oracle.as_ref().map_or_else(|refusal| refusal_label(*refusal), label)),
+        None => Ok(expected.as_ref().map_or_else(|refusal| refusal_label(*refusal), label)),
     }
 }
 
 /// The port's answer to a call, and the lent slices afterwards.
-fn answer(call: &SliceCall, set: u8) -> SliceAfter {
+pub fn answer(call: &SliceCall, set: u8) -> SliceAfter {
     let flag = |is_set: bool| if is_set { set } else { 0 };
     let flags =
         Flags { assume_simple: flag(call.assume_simple), skip_boundary_fallback: flag(call.skip_boundary_fallback) };

@@ -1,0 +1,467 @@
+//! The slice call of the port against the Rust, the share that every test run takes: random calls, every limit from both
+//! sides, lent slices exact, one short and longer, flags set by every number, long rings with the sweep, and document 01's
+//! worked polygons.
+
+use std::f64::consts::TAU;
+
+use compare::calls::styles;
+use formats::calls::{SliceAnswer, SliceCall, MOST_COORDINATES};
+use formats::frame::MOST_RINGS;
+use formats::room::most_cut;
+use formats::{closed_length, flat, same_number, Coord, Part, Ring};
+use port::calls;
+use port::slices::{self, check_against};
+
+const BOUNDS: [f64; 4] = [0.0, 0.0, 10.0, 10.0];
+
+/// What stands in the lent slices before a call; no answer here writes them.
+const MARK: f64 = 7.25;
+const WHOLE_MARK: u32 = 77;
+
+const BOW_TIE: [Coord; 5] = [(2., 2.), (8., 8.), (8., 2.), (2., 8.), (2., 2.)];
+const INSIDE: [Coord; 5] = [(2., 2.), (8., 2.), (8., 8.), (2., 8.), (2., 2.)];
+const ACROSS_EAST: [Coord; 5] = [(5., 5.), (15., 5.), (15., 8.), (5., 8.), (5., 5.)];
+const APART: [Coord; 4] = [(20., 20.), (30., 20.), (30., 30.), (20., 20.)];
+
+/// How long each lent slice is beside its formula.
+#[derive(Clone, Copy, Debug, Default)]
+struct Beside {
+    scratch_a: isize,
+    scratch_b: isize,
+    order: isize,
+    out: isize,
+    out_lengths: isize,
+}
+
+impl Beside {
+    fn all(beside: isize) -> Beside {
+        Beside { scratch_a: beside, scratch_b: beside, order: beside, out: beside, out_lengths: beside }
+    }
+}
+
+/// A call on these rings with document 01's flags 0 to 3, each lent slice exactly as long as its formula asks.
+fn call(flags: u8, part: &[Ring]) -> SliceCall {
+    lent(flags, part, Beside::default())
+}
+
+/// The same with longer or shorter slices.
+fn lent(flags: u8, part: &[Ring], beside: Beside) -> SliceCall {
+    let rooms: Vec<usize> = part.iter().map(|ring| most_cut(closed_length(ring))).collect();
+    let (largest, sum) = (rooms.iter().copied().max().unwrap_or(0), rooms.iter().sum::<usize>());
+    let length = |needed: usize, beside: isize| needed.saturating_add_signed(beside);
+    SliceCall {
+        assume_simple: flags & 1 != 0,
+        skip_boundary_fallback: flags & 2 != 0,
+        bounds: BOUNDS,
+        buffer: 0.0,
+        coords: part.iter().flat_map(|ring| flat(ring)).collect(),
+        lengths: part.iter().map(|ring| ring.len() as u32).collect(),
+        scratch_a: vec![MARK; length(2 * largest, beside.scratch_a)],
+        scratch_b: vec![MARK; length(2 * largest, beside.scratch_b)],
+        order: vec![WHOLE_MARK; length(largest, beside.order)],
+        out: vec![MARK; length(2 * sum, beside.out)],
+        out_lengths: vec![WHOLE_MARK; length(part.len(), beside.out_lengths)],
+    }
+}
+
+/// Held to the Rust; the answer's label.
+fn checked(call: &SliceCall) -> &'static str {
+    slices::check(call, 1).unwrap_or_else(|difference| panic!("{difference}"))
+}
+
+fn answered(call: &SliceCall) -> i64 {
+    checked(call);
+    slices::answer(call, 1).answer
+}
+
+/// A ring around a centre, closed; no two edges cross.
+fn regular(coordinates: usize, centre: Coord, radius: f64) -> Ring {
+    let edges = coordinates - 1;
+    let vertex = |k: usize| {
+        let angle = TAU * (k % edges) as f64 / edges as f64;
+        (centre.0 + radius * angle.cos(), centre.1 + radius * angle.sin())
+    };
+    (0..coordinates).map(vertex).collect()
+}
+
+fn unclosed(mut ring: Ring) -> Ring {
+    ring.pop();
+    ring
+}
+
+/// A polygon of each answer; of the cut, the middle hole is left out and the largest ring is a hole.
+fn one_of_each_answer() -> Vec<(&'static str, u8, Part)> {
+    let outside = regular(9, (30., 5.), 2.);
+    let cut_with_holes =
+        vec![ACROSS_EAST.to_vec(), regular(7, (10., 6.), 1.), outside, regular(20, (9.5, 6.5), 1.), vec![]];
+    let not_finite = vec![INSIDE.to_vec(), vec![(f64::NAN, 1.)]];
+    let huge = vec![vec![(2., 2.), (1e150, 2.)], INSIDE.to_vec()];
+    vec![
+        ("nothing", 0, vec![APART.to_vec(), APART.to_vec()]),
+        ("nothing", 3, vec![vec![], vec![]]),
+        ("nothing", 3, vec![vec![(-50., 5.), (5., 55.), (-50., 55.)]]),
+        ("dropped", 1, not_finite),
+        ("dropped", 2, huge),
+        ("unchanged", 0, vec![INSIDE.to_vec(), unclosed(regular(50, (5., 5.), 2.))]),
+        ("cut", 3, cut_with_holes.clone()),
+        ("overlay", 0, cut_with_holes),
+        ("overlay", 0, vec![BOW_TIE.to_vec(), INSIDE.to_vec()]),
+    ]
+}
+
+#[test]
+fn slice_calls_agree() {
+    let campaign = slices::compare(1, 15_000);
+    println!("{campaign}");
+    assert_eq!(campaign.difference(), None);
+    assert_eq!(campaign.agreed(), styles().len() as u64 * 15_000);
+}
+
+#[test]
+fn ring_counts_agree_at_their_limits() {
+    assert_eq!(checked(&call(0, &[])), "19");
+    assert_eq!(checked(&lent(0, &[], Beside::all(100))), "19");
+    for rings in [1, MOST_RINGS - 1, MOST_RINGS, MOST_RINGS + 1] {
+        let refused = rings > MOST_RINGS;
+        let with_holes = |hole: Ring| -> Part { [vec![ACROSS_EAST.to_vec()], vec![hole; rings - 1]].concat() };
+        for flags in 0..4 {
+            let holes = call(flags, &with_holes(regular(6, (10., 6.), 1.)));
+            let empty_holes = call(flags, &with_holes(Vec::new()));
+            let empty_rings = call(flags, &vec![Vec::new(); rings]);
+            if refused {
+                assert_eq!([&holes, &empty_holes, &empty_rings].map(checked), ["19"; 3]);
+            } else {
+                let overlay_or = |cut: i64| if flags == 3 { cut } else { 5 + 256 * 4 };
+                assert_eq!(answered(&holes), overlay_or(4 + 65_536 * rings as i64));
+                assert_eq!(answered(&empty_holes), overlay_or(4 + 65_536));
+                assert_eq!(answered(&empty_rings), 0);
+            }
+        }
+    }
+}
+
+#[test]
+fn coordinates_agree_at_their_limit() {
+    let ring = |coordinates: usize| regular(coordinates, (10., 5.), 4.);
+    let nan = vec![(1., f64::NAN)];
+    let half = MOST_COORDINATES / 2;
+    for (part, label) in [
+        (vec![ring(MOST_COORDINATES)], "cut"),
+        (vec![ring(MOST_COORDINATES + 1)], "20"),
+        (vec![ring(half), ring(half)], "cut"),
+        (vec![ring(half), ring(half + 1)], "20"),
+        (vec![ring(half), ring(half), Vec::new()], "cut"),
+        (vec![INSIDE.to_vec(), ring(MOST_COORDINATES - 5)], "cut"),
+        (vec![INSIDE.to_vec(), ring(MOST_COORDINATES - 4)], "20"),
+        // Lent with 65,535 coordinates and with 65,536; closing appends one.
+        (vec![unclosed(ring(MOST_COORDINATES))], "cut"),
+        (vec![unclosed(ring(MOST_COORDINATES + 1))], "20"),
+        // Lent with 65,535 each; closing appends one, and two.
+        (vec![unclosed(ring(half)), ring(half)], "cut"),
+        (vec![unclosed(ring(half)), unclosed(ring(half + 1))], "20"),
+        // A single NaN coordinate counts as two.
+        (vec![ring(MOST_COORDINATES - 2), nan.clone()], "dropped"),
+        (vec![ring(MOST_COORDINATES - 1), nan.clone()], "20"),
+        (vec![nan.clone(), ring(MOST_COORDINATES - 1)], "20"),
+        (vec![nan.clone(), ring(MOST_COORDINATES - 4), nan], "dropped"),
+    ] {
+        let lengths: Vec<usize> = part.iter().map(|ring| ring.len()).collect();
+        assert_eq!(checked(&call(3, &part)), label, "rings of {lengths:?}");
+    }
+    // A ring lent closed whose first coordinate holds a NaN grows all the same.
+    let mut with_nan = ring(MOST_COORDINATES);
+    with_nan[0].0 = f64::NAN;
+    with_nan[MOST_COORDINATES - 1] = with_nan[0];
+    assert_eq!(checked(&call(3, &[with_nan.clone()])), "20");
+    with_nan.remove(1);
+    assert_eq!(checked(&call(3, &[with_nan])), "dropped");
+    // 20 comes before 21 and 22.
+    assert_eq!(checked(&lent(3, &[ring(MOST_COORDINATES + 1)], Beside::all(-1))), "20");
+}
+
+#[test]
+fn lengths_that_do_not_fit_are_refused() {
+    let most = u32::MAX;
+    for (numbers, lengths) in [
+        // The sum fits in 32 bits where the carry is lost, or twice the sum does.
+        (0, vec![most]),
+        (0, vec![most, 1]),
+        (0, vec![1 << 31]),
+        (0, vec![1 << 31, 1 << 31]),
+        (8, vec![most, 5]),
+        (8, vec![most, 1, 4]),
+        (8, vec![4 + (1 << 31)]),
+        (8, vec![4, 1 << 31]),
+        (8, vec![most; MOST_RINGS]),
+        (2 * MOST_COORDINATES, vec![most; MOST_RINGS]),
+        // An odd count of numbers.
+        (1, vec![0]),
+        (1, vec![1]),
+        (7, vec![4]),
+        (9, vec![4]),
+        (9, vec![2, 2]),
+        (9, vec![5]),
+        // One coordinate more and less.
+        (8, vec![3]),
+        (8, vec![5]),
+        (8, vec![4, 1]),
+        (0, vec![1]),
+        (2, vec![0]),
+        (8, vec![]),
+    ] {
+        for beside in [0, -1, 50] {
+            let mut call = lent(0, &[INSIDE.to_vec()], Beside::all(beside));
+            call.coords = (0..numbers).map(|k| k as f64).collect();
+            call.lengths = lengths.clone();
+            assert_eq!(checked(&call), "19", "{numbers} numbers, {beside} beside, lengths {lengths:?}");
+        }
+    }
+}
+
+#[test]
+fn lent_slices_exact_one_short_and_longer() {
+    for (label, flags, part) in one_of_each_answer() {
+        assert_eq!(checked(&call(flags, &part)), label, "exact");
+        let short = Beside::default();
+        let coordinates: usize = part.iter().map(|ring| ring.len()).sum();
+        let (scratch, output) = if coordinates == 0 { (label, label) } else { ("21", "22") };
+        for (beside, label) in [
+            (Beside { scratch_a: -1, ..short }, scratch),
+            (Beside { scratch_b: -1, ..short }, scratch),
+            (Beside { order: -1, ..short }, scratch),
+            (Beside { out: -1, ..short }, output),
+            (Beside { out_lengths: -1, ..short }, "22"),
+            // 21 comes before 22.
+            (Beside { scratch_b: -1, out: -1, ..short }, scratch),
+            (Beside { order: -1, out: -1, ..short }, scratch),
+            (Beside { scratch_a: -2, scratch_b: 9, order: 9, out: 9, out_lengths: 9 }, scratch),
+            (Beside { scratch_a: 9, scratch_b: 9, order: 9, out: -2, out_lengths: 9 }, output),
+            (Beside { scratch_a: 9, scratch_b: 9, order: 9, out: 9, out_lengths: -1 }, "22"),
+            (Beside { scratch_a: isize::MIN, ..short }, scratch),
+            (Beside { scratch_b: isize::MIN, ..short }, scratch),
+            (Beside { order: isize::MIN, ..short }, scratch),
+            (Beside { out: isize::MIN, ..short }, output),
+            (Beside { out_lengths: isize::MIN, ..short }, "22"),
+        ] {
+            assert_eq!(checked(&lent(flags, &part, beside)), label, "{beside:?}, {part:?}");
+        }
+        for beside in [1, 2, 3, 500] {
+            assert_eq!(checked(&lent(flags, &part, Beside::all(beside))), label, "{beside} more");
+        }
+    }
+}
+
+/// Said once more without `formats`: what a call leaves in slices that are longer than needed.
+#[test]
+fn a_success_clears_scratch_and_order_and_keeps_the_output_past_the_answer() {
+    for (label, flags, part) in one_of_each_answer() {
+        let call = lent(flags, &part, Beside::all(1_000));
+        let after = slices::answer(&call, 1);
+        assert!(after.scratch_a.iter().chain(&after.scratch_b).all(|number| number.to_bits() == 0), "{label}");
+        assert!(after.order.iter().all(|&position| position == 0), "{label}");
+        let rings = if label == "cut" { after.answer as usize / 65_536 } else { 0 };
+        assert_eq!(label == "cut", rings > 0);
+        let coordinates: u32 = after.out_lengths[..rings].iter().sum();
+        assert!(after.out_lengths[rings..].iter().all(|&length| length == WHOLE_MARK), "{label}");
+        let (numbers, past) = after.out.split_at(2 * coordinates as usize);
+        assert!(numbers.iter().all(|&number| !same_number(number, MARK)), "{label}");
+        assert!(past.iter().all(|&number| same_number(number, MARK)), "{label}");
+    }
+}
+
+#[test]
+fn any_number_but_0_sets_a_flag() {
+    let answer = |call: &SliceCall, assume_simple: u8, skip_boundary_fallback: u8| {
+        let flags = calls::Flags { assume_simple, skip_boundary_fallback };
+        let mut after = call.clone();
+        let lent = calls::Lent {
+            scratch_a: &mut after.scratch_a,
+            scratch_b: &mut after.scratch_b,
+            order: &mut after.order,
+            out: &mut after.out,
+            out_lengths: &mut after.out_lengths,
+        };
+        calls::polygon(flags, &call.bounds, call.buffer, &call.coords, &call.lengths, lent)
+    };
+    let (bow_tie, across) = (call(0, &[BOW_TIE.to_vec()]), call(0, &[ACROSS_EAST.to_vec()]));
+    let (crossing, bridge, cut) = (5 + 256, 5 + 256 * 4, 4 + 65_536);
+    for number in 0..=255 {
+        let if_set = |set: i64, not_set: i64| if number == 0 { not_set } else { set };
+        assert_eq!(answer(&bow_tie, number, 0), if_set(2, crossing), "assume_simple {number}");
+        assert_eq!(answer(&bow_tie, 0, number), crossing, "skip_boundary_fallback {number}");
+        assert_eq!(answer(&across, 1, number), if_set(cut, bridge), "skip_boundary_fallback {number}");
+        assert_eq!(answer(&across, number, 1), if_set(cut, bridge), "assume_simple {number}");
+        assert_eq!(answer(&across, 0, number), bridge, "skip_boundary_fallback {number} alone");
+        for flags in 0..4 {
+            for part in [BOW_TIE, ACROSS_EAST] {
+                let checked = slices::check(&call(flags, &[part.to_vec()]), number.max(1));
+                assert!(checked.is_ok(), "flags {flags}, set by {number}: {checked:?}");
+            }
+        }
+    }
+}
+
+#[test]
+fn an_empty_exterior_with_coordinates_in_a_hole() {
+    for flags in 0..4 {
+        assert_eq!(answered(&call(flags, &[vec![], INSIDE.to_vec()])), 5 + 256);
+        assert_eq!(answered(&call(flags, &[vec![], ACROSS_EAST.to_vec(), vec![]])), 5 + 256);
+        assert_eq!(answered(&call(flags, &[vec![], APART.to_vec()])), 0);
+        assert_eq!(answered(&call(flags, &[vec![], vec![(1e150, 2.), (2., 2.)]])), 1);
+        assert_eq!(answered(&call(flags, &[vec![], vec![(f64::NAN, 2.)]])), 1);
+        assert_eq!(answered(&call(flags, &[vec![], vec![], vec![]])), 0);
+    }
+}
+
+/// Exteriors on both sides of the scan's limit and of any length, with 0 to 5 holes, looked at by the sweep where the flags
+/// have it.
+#[test]
+fn holes_and_long_rings_agree() {
+    for coordinates in [4, 5, 32, 33, 34, 35, 317, 1_025, 4_097, MOST_COORDINATES] {
+        for holes in 0..=5 {
+            let of_hole = (coordinates / 16).max(4);
+            let of_exterior = if coordinates == MOST_COORDINATES { coordinates - holes * of_hole } else { coordinates };
+            // No vertex lies on a bound, where a cut would repeat it.
+            for (centre, cut) in [((5., 5.), false), ((10.3, 5.), true), ((5.2, 10.3), true), ((-0.3, -0.2), true)] {
+                let mut part = vec![regular(of_exterior, centre, 4.)];
+                part.extend((0..holes).map(|k| regular(of_hole, (2.5 + 1.5 * k as f64, centre.1), 0.7)));
+                for flags in 0..4 {
+                    let label = checked(&call(flags, &part));
+                    let expected = if !cut {
+                        "unchanged"
+                    } else if flags == 3 {
+                        "cut"
+                    } else {
+                        "overlay"
+                    };
+                    assert_eq!(label, expected, "{coordinates} coordinates, {holes} holes, {centre:?}, flags {flags}");
+                }
+            }
+        }
+        if coordinates > 6 {
+            let mut crossing = regular(coordinates, (5., 5.), 4.);
+            crossing.swap(coordinates / 2, coordinates / 2 + 1);
+            let part = [crossing];
+            assert_eq!([0, 1, 2, 3].map(|flags| answered(&call(flags, &part))), [261, 2, 261, 2], "{coordinates}");
+        }
+    }
+}
+
+#[test]
+fn a_wrong_expected_answer_is_noticed() {
+    let call = lent(3, &[ACROSS_EAST.to_vec(), regular(7, (10., 6.), 1.)], Beside::all(1));
+    let right = oracle::slice_call(&call);
+    let Ok(SliceAnswer::Cut(rings)) = &right else { panic!("{right:?}") };
+    assert_eq!(check_against(&call, 1, &right), Ok("cut"));
+    let changed = |change: fn(&mut Part)| {
+        let mut rings = rings.clone();
+        change(&mut rings);
+        Ok(SliceAnswer::Cut(rings))
+    };
+    for wrong in [
+        Err(19),
+        Err(20),
+        Err(21),
+        Err(22),
+        Ok(SliceAnswer::Nothing),
+        Ok(SliceAnswer::Dropped),
+        Ok(SliceAnswer::Unchanged),
+        Ok(SliceAnswer::Overlay(4)),
+        changed(|rings| rings.truncate(1)),
+        changed(|rings| rings.push(Vec::new())),
+        changed(|rings| rings.swap(0, 1)),
+        changed(|rings| rings[0][2].1 = rings[0][2].1.next_up()),
+        changed(|rings| rings[1][0].0 = f64::NAN),
+        changed(|rings| rings[1].truncate(3)),
+        changed(|rings| {
+            // The same numbers, one coordinate of them in the other ring.
+            let moved = rings[0].pop().unwrap();
+            rings[1].insert(0, moved);
+        }),
+    ] {
+        assert!(check_against(&call, 1, &wrong).is_err(), "{wrong:?}");
+    }
+    // A call refused is held to lent slices that are as they were, and one of another flag to another answer.
+    let short = lent(3, &[ACROSS_EAST.to_vec()], Beside { out: -1, ..Beside::default() });
+    assert_eq!(check_against(&short, 1, &Err(22)), Ok("22"));
+    assert!(check_against(&short, 1, &Err(21)).is_err());
+    assert!(check_against(&short, 1, &Ok(SliceAnswer::Nothing)).is_err());
+    assert!(check_against(&call, 0, &right).is_err());
+}
+
+#[test]
+fn a_change_of_any_lent_number_is_noticed() {
+    let call = lent(3, &[ACROSS_EAST.to_vec()], Beside::all(2));
+    let expected = call.after(&oracle::slice_call(&call));
+    let after = slices::answer(&call, 1);
+    assert_eq!(after.difference(&expected), None);
+    let last = |length: usize| length - 1;
+    for at in 0..5 {
+        let mut changed = after.clone();
+        match at {
+            0 => changed.scratch_a[last(after.scratch_a.len())] = -0.0,
+            1 => changed.scratch_b[last(after.scratch_b.len())] = -0.0,
+            2 => changed.order[last(after.order.len())] = 1,
+            3 => changed.out[last(after.out.len())] = 0.0,
+            _ => changed.out_lengths[last(after.out_lengths.len())] = 0,
+        }
+        assert!(changed.difference(&expected).is_some(), "slice {at}");
+    }
+}
+
+/// Held to document 01's answer, and that to the Rust's.
+fn assert_worked(flags: &[u8], ring: &[Coord], expected: SliceAnswer) {
+    for &flags in flags {
+        let call = call(flags, &[ring.to_vec()]);
+        let checked = check_against(&call, 1, &Ok(expected.clone()));
+        assert!(checked.is_ok(), "flags {flags}: {checked:?}");
+        assert_eq!(slices::check(&call, 1), checked, "flags {flags}");
+    }
+}
+
+#[test]
+fn worked_polygons() {
+    use SliceAnswer::{Cut, Dropped, Nothing, Overlay, Unchanged};
+
+    const EVERY_FLAG: &[u8] = &[0, 1, 2, 3];
+    assert_worked(EVERY_FLAG, &INSIDE, Unchanged);
+    let cut: Ring = vec![(5., 5.), (10., 5.), (10., 8.), (5., 8.), (5., 5.)];
+    assert_worked(&[3], &ACROSS_EAST, Cut(vec![cut]));
+    assert_worked(&[0, 1, 2], &ACROSS_EAST, Overlay(4));
+    assert_worked(&[0], &BOW_TIE, Overlay(1));
+    assert_worked(&[1], &BOW_TIE, Unchanged);
+    assert_worked(EVERY_FLAG, &[(2., 2.), (8., 2.), (2., 2.)], Overlay(1));
+    assert_worked(EVERY_FLAG, &[(2., 2.), (2., 2.), (8., 2.), (8., 8.), (2., 2.)], Overlay(1));
+    assert_worked(EVERY_FLAG, &[(2., 2.), (8., 2.), (8., 8.), (2., 2.), (2., 2.)], Unchanged);
+    assert_worked(EVERY_FLAG, &[(10., 2.), (20., 2.), (20., 8.), (10., 8.), (10., 2.)], Overlay(2));
+    assert_worked(EVERY_FLAG, &[(2., 2.), (1e150, 2.), (2., 2.)], Dropped);
+    assert_worked(EVERY_FLAG, &[(2., 2.), (9e149, 2.), (2., 2.)], Overlay(1));
+    assert_worked(EVERY_FLAG, &APART, Nothing);
+    for place in 0..2 * APART.len() {
+        let mut ring = APART;
+        let vertex = &mut ring[place / 2];
+        if place % 2 == 0 {
+            vertex.0 = f64::NAN;
+        } else {
+            vertex.1 = f64::NAN;
+        }
+        assert_worked(EVERY_FLAG, &ring, Dropped);
+    }
+}
+
+#[test]
+fn worked_ring_gives_none() {
+    let room = 2 * most_cut(4);
+    let (mut a, mut b, mut out) = (vec![MARK; room], vec![MARK; room], vec![MARK; room]);
+    assert_eq!(calls::ring(&[1., 1., 2., 2., 1., 1., 1., 1.], &BOUNDS, &mut a, &mut b, &mut out), 0);
+}
+
+/// A cut ring is closed by the cutter, and once more as the polygon holds it: that shows where its first coordinate holds a
+/// NaN.
+#[test]
+fn overflowing_differences_close_twice() {
+    let ring = [(8., 8.), (1e308, 1e308), (-1.7e308, -1.7e308), (8., 8.)];
+    let nan = (f64::NAN, 0.);
+    let cut: Ring = vec![nan, (0., 0.), (8., 8.), (10., 10.), nan, nan, nan];
+    assert_worked(&[3], &ring, SliceAnswer::Cut(vec![cut]));
+}
