@@ -6,3 +6,4 @@ pub mod Holes
 pub mod LentRings
 pub mod Rectangles
 pub mod Walks
+pub mod Worked
