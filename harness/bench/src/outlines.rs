@@ -23,6 +23,11 @@ pub fn half_outside(n: usize) -> Vec<Coord<f64>> {
     around(n, (10.0, 5.0), |_| 4.0)
 }
 
+/// No vertex lies on a bound, where the cut would repeat it: half outside, and cut without an issue.
+pub fn astride(n: usize) -> Vec<Coord<f64>> {
+    around(n, (10.01, 5.0), |_| 4.0)
+}
+
 /// A radius that is up to 5 % longer or shorter, by a fixed rule that looks like chance.
 pub fn rough(n: usize) -> Vec<Coord<f64>> {
     let wavering = |k: usize| (k as u64).wrapping_mul(0x9e37_79b9_7f4a_7c15) >> 11;

@@ -2,6 +2,16 @@
 pub mod opened {
     use super::*;
 
+    pub fn clip_polygon(
+        poly: &Polygon<f64>,
+        bounds: &TileBounds,
+        assume_simple: bool,
+        skip_boundary_fallback: bool,
+        diagnostics: &crate::diagnostics::Diagnostics,
+    ) -> Option<Geometry<f64>> {
+        super::clip_polygon(poly, bounds, assume_simple, skip_boundary_fallback, diagnostics)
+    }
+
     pub fn has_structural_issues(poly: &Polygon<f64>, assume_simple: bool) -> bool {
         super::has_structural_issues(poly, assume_simple)
     }

@@ -1,0 +1,121 @@
+//! The slice call against the Rust's `clip_polygon`. The Rust clears nothing, and the library has no call that doesn't clear, so
+//! the clearing is timed by itself, by a call that does little else: with slices of the same lengths, on a triangle apart from
+//! the bounds. What is left of the whole call without it stands beside the Rust's time. Where an overlay is wanted the port only
+//! says so: the Rust's time is without its overlay, timed by itself too, which copies the polygon for the stand-in.
+
+use std::hint::black_box;
+
+use formats::room::most_cut;
+use geo::{Coord, LineString, Polygon};
+use i_overlay::record::take_calls;
+use port::calls::{self, Flags, Lent};
+use tylertoo::clip::opened::clip_polygon;
+use tylertoo::diagnostics::Diagnostics;
+use tylertoo::ioverlay_clip::clip_polygon_ioverlay;
+use tylertoo::tile::TileBounds;
+
+use crate::outlines::{astride, inside, BOUNDS};
+use crate::timing::medians;
+
+/// Document 01's numbers of a polygon's answers.
+const UNCHANGED: i64 = 2;
+const CUT_TO_ONE_RING: i64 = 4 + 65_536;
+const BRIDGE_ON_THE_RIGHT: i64 = 5 + 256 * 4;
+
+const APART: [f64; 8] = [20.0, 20.0, 30.0, 20.0, 30.0, 30.0, 20.0, 20.0];
+
+pub fn measure() {
+    println!(
+        "slice call: vertices, polygon, flags, Rust ns, port without clearing ns, ratio, clearing ns, whole call ns, ratio"
+    );
+    for vertices in [64, 1_024, 65_536] {
+        row(vertices, "inside", 1, inside(vertices - 1), UNCHANGED);
+        row(vertices, "inside", 0, inside(vertices - 1), UNCHANGED);
+        row(vertices, "half outside", 3, astride(vertices - 1), CUT_TO_ONE_RING);
+        row(vertices, "half outside", 0, astride(vertices - 1), BRIDGE_ON_THE_RIGHT);
+    }
+}
+
+/// The slices of one call to write to, exactly as long as a ring of so many vertices asks.
+struct Slices {
+    scratch_a: Vec<f64>,
+    scratch_b: Vec<f64>,
+    order: Vec<u32>,
+    out: Vec<f64>,
+    out_lengths: Vec<u32>,
+}
+
+impl Slices {
+    fn new(vertices: usize) -> Slices {
+        let room = most_cut(vertices);
+        let numbers = || vec![0.0; 2 * room];
+        Slices {
+            scratch_a: numbers(),
+            scratch_b: numbers(),
+            order: vec![0; room],
+            out: numbers(),
+            out_lengths: vec![0; 1],
+        }
+    }
+
+    fn call(&mut self, flags: Flags, ring: &[f64]) -> i64 {
+        let lent = Lent {
+            scratch_a: &mut self.scratch_a,
+            scratch_b: &mut self.scratch_b,
+            order: &mut self.order,
+            out: &mut self.out,
+            out_lengths: &mut self.out_lengths,
+        };
+        calls::polygon(flags, &BOUNDS, 0.0, ring, &[ring.len() as u32 / 2], lent)
+    }
+}
+
+/// A ring of so many vertices with its closing one, which it is given without.
+fn row(vertices: usize, name: &str, flags: u8, mut ring: Vec<Coord<f64>>, answer: i64) {
+    ring.push(ring[0]);
+    assert_eq!(ring.len(), vertices);
+    let (assume_simple, skip_boundary_fallback) = (flags & 1 != 0, flags & 2 != 0);
+    let bounds = TileBounds::new(BOUNDS[0], BOUNDS[1], BOUNDS[2], BOUNDS[3]);
+    let numbers: Vec<f64> = ring.iter().flat_map(|c| [c.x, c.y]).collect();
+    let polygon = Polygon::new(LineString::new(ring), Vec::new());
+    let diagnostics = Diagnostics::default();
+
+    let flag_numbers = Flags { assume_simple: flags & 1, skip_boundary_fallback: flags & 2 };
+    let (mut call, mut clearing) = (Slices::new(vertices), Slices::new(vertices));
+    assert_eq!(call.call(flag_numbers, &numbers), answer);
+    assert_eq!(clearing.call(flag_numbers, &APART), 0);
+
+    // The stand-in keeps each overlay call until it is taken.
+    take_calls();
+    let clipped = clip_polygon(&polygon, &bounds, assume_simple, skip_boundary_fallback, &diagnostics);
+    assert!(clipped.is_some());
+    let wants_overlay = !take_calls().is_empty();
+    assert_eq!(wants_overlay, answer == BRIDGE_ON_THE_RIGHT);
+
+    let times = medians(&mut [
+        &mut || {
+            black_box(clip_polygon(black_box(&polygon), &bounds, assume_simple, skip_boundary_fallback, &diagnostics));
+            take_calls();
+        },
+        &mut || {
+            if wants_overlay {
+                black_box(clip_polygon_ioverlay(black_box(&polygon), &bounds, &diagnostics));
+                take_calls();
+            }
+        },
+        &mut || {
+            black_box(clearing.call(flag_numbers, black_box(&APART)));
+        },
+        &mut || {
+            black_box(call.call(flag_numbers, black_box(&numbers)));
+        },
+    ]);
+    let overlay = if wants_overlay { times[1] } else { 0.0 };
+    let (rust, clearing, whole) = (times[0] - overlay, times[2], times[3]);
+    let port = whole - clearing;
+    println!(
+        "{vertices:>6} {name:<12} {flags} {rust:>9.0} {port:>9.0} {:>5.2} {clearing:>9.0} {whole:>9.0} {:>5.2}",
+        port / rust,
+        whole / rust
+    );
+}
