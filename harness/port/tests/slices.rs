@@ -465,3 +465,42 @@ fn overflowing_differences_close_twice() {
     let cut: Ring = vec![nan, (0., 0.), (8., 8.), (10., 10.), nan, nan, nan];
     assert_worked(&[3], &ring, SliceAnswer::Cut(vec![cut]));
 }
+
+/// Twice the area of a triangle, by its sign: exact where every number is whole once it is taken times `scale`.
+fn exact_side(scale: f64, [a, b, c]: [Coord; 3]) -> i128 {
+    let whole = |number: f64| {
+        let scaled = number * scale;
+        assert!(
+            scaled.fract() == 0.0 && scaled.abs() < 2f64.powi(60),
+            "{number} is not whole, or the product too long"
+        );
+        scaled as i128
+    };
+    let [(ax, ay), (bx, by), (cx, cy)] = [a, b, c].map(|(x, y)| (whole(x), whole(y)));
+    ((bx - ax) * (cy - ay) - (by - ay) * (cx - ax)).signum()
+}
+
+/// The rounded test takes the first and the third edge for crossing, though the third lies on one side of the first: only
+/// geo's `line_intersection`, which document 01 leaves out, would turn the pair down.
+#[test]
+fn a_pair_of_edges_crosses_by_rounding_alone() {
+    let decimals = [(0.1, 0.3), (0.6, 0.8), (0.4, 0.6), (0.3, 0.5), (0.1, 0.3)];
+    let degrees = [
+        (-31.568978182155334, -73.81603924119962),
+        (52.72819713971501, 55.28700857600569),
+        (34.43620047468073, 27.27239822754495),
+        (30.842900723745238, 21.76917765348354),
+        (-31.568978182155334, -73.81603924119962),
+    ];
+    for (ring, scale) in [(decimals, 2f64.powi(56)), (degrees, 2f64.powi(50))] {
+        let [a, b, c, d, _] = ring;
+        let side = |point: Coord| exact_side(scale, [a, b, point]);
+        assert_eq!(side(c), side(d), "the third edge is on one side of the first");
+        assert_ne!(side(c), 0);
+        let answers = [0, 1, 2, 3].map(|flags| {
+            let call = SliceCall { bounds: [-100.0, -100.0, 100.0, 100.0], ..call(flags, &[ring.to_vec()]) };
+            answered(&call)
+        });
+        assert_eq!(answers, [5 + 256, 2, 5 + 256, 2], "{ring:?}");
+    }
+}
