@@ -269,6 +269,29 @@ fn a_success_clears_scratch_and_order_and_keeps_the_output_past_the_answer() {
     }
 }
 
+/// The comparison takes any NaN for any NaN; what is not written keeps its bits too.
+#[test]
+fn what_is_not_written_keeps_its_bits() {
+    let payload = f64::from_bits(0xfff4_dead_beef_0001);
+    let same_bits = |a: &[f64], b: &[f64]| a.iter().map(|x| x.to_bits()).eq(b.iter().map(|x| x.to_bits()));
+    for (label, flags, part) in one_of_each_answer() {
+        for beside in [Beside::all(3), Beside { out_lengths: -1, ..Beside::default() }] {
+            let mut call = lent(flags, &part, beside);
+            for lent in [&mut call.scratch_a, &mut call.scratch_b, &mut call.out] {
+                lent.fill(payload);
+            }
+            let after = slices::answer(&call, 1);
+            if after.answer < 0 {
+                assert_eq!(after.answer, -22);
+                assert!(same_bits(&after.scratch_a, &call.scratch_a) && same_bits(&after.scratch_b, &call.scratch_b));
+            }
+            let rings = if after.answer > 0 && label == "cut" { after.answer as usize / 65_536 } else { 0 };
+            let written = 2 * after.out_lengths[..rings].iter().sum::<u32>() as usize;
+            assert!(same_bits(&after.out[written..], &call.out[written..]), "{label}, {beside:?}");
+        }
+    }
+}
+
 #[test]
 fn any_number_but_0_sets_a_flag() {
     let answer = |call: &SliceCall, assume_simple: u8, skip_boundary_fallback: u8| {
@@ -310,6 +333,52 @@ fn an_empty_exterior_with_coordinates_in_a_hole() {
         assert_eq!(answered(&call(flags, &[vec![], vec![(1e150, 2.), (2., 2.)]])), 1);
         assert_eq!(answered(&call(flags, &[vec![], vec![(f64::NAN, 2.)]])), 1);
         assert_eq!(answered(&call(flags, &[vec![], vec![], vec![]])), 0);
+    }
+}
+
+#[test]
+fn the_buffer_widens_and_narrows_the_bounds() {
+    let buffered = |buffer: f64, ring: &[Coord]| answered(&SliceCall { buffer, ..call(3, &[ring.to_vec()]) });
+    let (nothing, unchanged, cut) = (0, 2, 4 + 65_536);
+    for (buffer, inside, across_east, apart) in [
+        (0.0, unchanged, cut, nothing),
+        (-1.0, unchanged, cut, nothing),
+        (-2.5, cut, cut, nothing),
+        (-5.5, nothing, nothing, nothing),
+        (1.0, unchanged, cut, nothing),
+        (5.0, unchanged, unchanged, nothing),
+        (10.5, unchanged, unchanged, cut),
+        (20.0, unchanged, unchanged, unchanged),
+        (f64::NAN, nothing, nothing, nothing),
+        (f64::INFINITY, unchanged, unchanged, unchanged),
+    ] {
+        assert_eq!(buffered(buffer, &INSIDE), inside, "buffer {buffer}");
+        assert_eq!(buffered(buffer, &ACROSS_EAST), across_east, "buffer {buffer}");
+        assert_eq!(buffered(buffer, &APART), apart, "buffer {buffer}");
+    }
+}
+
+/// Edges that all but touch: the rounded test finds a crossing in the cut exterior and none in the input. Reason 2, unless
+/// `assume_simple` leaves the test out.
+#[test]
+fn a_cut_exterior_may_cross_where_the_input_does_not() {
+    let part = [vec![(1.5e-10, 0.), (0., 0.9999999999), (1., -1.00000000015), (1e-10, 5e-11), (1.5e-10, 0.)]];
+    let answers = [0, 1, 2, 3].map(|flags| {
+        let call = SliceCall { bounds: [0.0, 0.0, 4.0, 4.0], buffer: 1e-10, ..call(flags, &part) };
+        answered(&call)
+    });
+    assert_eq!(answers, [5 + 256 * 2, 5 + 256 * 5, 5 + 256 * 2, 4 + 65_536]);
+}
+
+/// There and back, the first vertex repeated: each pass leaves off one, so that a hole of seven coordinates is cut to three
+/// and left out, and one of eight is cut to four and stays.
+#[test]
+fn a_cut_hole_under_4_coordinates_is_left_out() {
+    for repeats in 0..9 {
+        let hole = [vec![(6., 6.), (7., 7.)], vec![(6., 6.); repeats]].concat();
+        let rings = if repeats < 6 { 1 } else { 2 };
+        let part = [ACROSS_EAST.to_vec(), hole];
+        assert_eq!(answered(&call(3, &part)), 4 + 65_536 * rings, "repeated {repeats} times");
     }
 }
 
@@ -457,13 +526,18 @@ fn worked_ring_gives_none() {
 }
 
 /// A cut ring is closed by the cutter, and once more as the polygon holds it: that shows where its first coordinate holds a
-/// NaN.
+/// NaN. So with holes.
 #[test]
 fn overflowing_differences_close_twice() {
-    let ring = [(8., 8.), (1e308, 1e308), (-1.7e308, -1.7e308), (8., 8.)];
+    let ring: Ring = vec![(8., 8.), (1e308, 1e308), (-1.7e308, -1.7e308), (8., 8.)];
     let nan = (f64::NAN, 0.);
     let cut: Ring = vec![nan, (0., 0.), (8., 8.), (10., 10.), nan, nan, nan];
-    assert_worked(&[3], &ring, SliceAnswer::Cut(vec![cut]));
+    assert_worked(&[3], &ring, SliceAnswer::Cut(vec![cut.clone()]));
+    let across: Ring = vec![(5., 5.), (10., 5.), (10., 8.), (5., 8.), (5., 5.)];
+    let with_holes = call(3, &[ACROSS_EAST.to_vec(), ring.clone(), ring]);
+    let expected = Ok(SliceAnswer::Cut(vec![across, cut.clone(), cut]));
+    assert_eq!(check_against(&with_holes, 1, &expected), Ok("cut"));
+    assert_eq!(checked(&with_holes), "cut");
 }
 
 /// Twice the area of a triangle, by its sign: exact where every number is whole once it is taken times `scale`.
