@@ -15,7 +15,7 @@ use tylertoo::ioverlay_clip::clip_polygon_ioverlay;
 use tylertoo::tile::TileBounds;
 
 use crate::outlines::{astride, inside, BOUNDS};
-use crate::timing::medians;
+use crate::timing::medians_in_step;
 
 /// Document 01's numbers of a polygon's answers.
 const UNCHANGED: i64 = 2;
@@ -92,7 +92,7 @@ fn row(vertices: usize, name: &str, flags: u8, mut ring: Vec<Coord<f64>>, answer
     let wants_overlay = !take_calls().is_empty();
     assert_eq!(wants_overlay, answer == BRIDGE_ON_THE_RIGHT);
 
-    let times = medians(&mut [
+    let times = medians_in_step(&mut [
         &mut || {
             black_box(clip_polygon(black_box(&polygon), &bounds, assume_simple, skip_boundary_fallback, &diagnostics));
             take_calls();

@@ -12,6 +12,17 @@ const RUN_NANOS: f64 = 2e6;
 /// falls on all of them.
 pub fn medians(tasks: &mut [&mut dyn FnMut()]) -> Vec<f64> {
     let repeats: Vec<u32> = tasks.iter_mut().map(|task| repeats(*task)).collect();
+    interleaved(tasks, &repeats)
+}
+
+/// The same, with as many calls of every task in a run as of the slowest. For times that are taken from each other: the first
+/// call of a run finds the caches cold, and it must weigh the same in both.
+pub fn medians_in_step(tasks: &mut [&mut dyn FnMut()]) -> Vec<f64> {
+    let fewest = tasks.iter_mut().map(|task| repeats(*task)).min().unwrap_or(1);
+    interleaved(tasks, &vec![fewest; tasks.len()])
+}
+
+fn interleaved(tasks: &mut [&mut dyn FnMut()], repeats: &[u32]) -> Vec<f64> {
     let mut times = vec![Vec::with_capacity(RUNS); tasks.len()];
     for _ in 0..RUNS {
         for (k, task) in tasks.iter_mut().enumerate() {
