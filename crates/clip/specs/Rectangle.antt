@@ -1,7 +1,8 @@
 -- The rectangle of all rings of a polygon, and where it lies (document 01, "Nothing, or dropped" and "Unchanged"). Definitions only.
+use mathlib.Core.Path.{_≡_}
 use mathlib.Core.Bool.{Bool, true, false, _&&_}
 use mathlib.Core.List.{List, [], _∷_}
-use lib.Ieee.{Float, le}
+use lib.Ieee.{Float, isNan, le}
 use lib.Ieee.Scale.{finite}
 use Rattle.binary64.specs.Compare.{minimum, maximum}
 use Rattle.tile.specs.declared.Coord.{Coord}
@@ -54,3 +55,12 @@ unfoldable pub isFullyInside : Rect → TileBounds → Bool
 isFullyInside R.Nothing b = false
 isFullyInside R.NotFinite b = false
 isFullyInside (R.Box w s e n) b = liesBetween w e (b .«lng_min») (b .«lng_max») && liesBetween s n (b .«lat_min») (b .«lat_max»)
+
+-- ---- what the code asks for
+
+-- four that are no NaN
+pub record Numbers (w s e n : Float) : Type 0 where
+  pub west : isNan w ≡ false
+  pub south : isNan s ≡ false
+  pub east : isNan e ≡ false
+  pub north : isNan n ≡ false

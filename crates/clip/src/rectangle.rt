@@ -1,7 +1,10 @@
 // The rectangle of all rings of a polygon, and where it lies: the source's `polygon_rect_all_rings`, `intersects_bounds` and `is_fully_inside`.
 ghost use mathlib.Core.Path.{_≡_};
+ghost use mathlib.Core.Bool.{false};
 ghost use Prim.Native.Nat.{_*_, _≤_};
-ghost use lib.ListN.{length, take};
+ghost use lib.Ieee.{isNan};
+ghost use lib.ListN.{length, take, drop};
+ghost use Rattle.binary64.specs.Compare as C;
 ghost use Rattle.tile.specs.Ring.{coords};
 ghost use Rattle.clip.specs.Rectangle as S;
 use binary64::compare::is_finite;
@@ -49,19 +52,65 @@ pub fn with_coord(r: Rect, p: Coord) -> Rect
     }
 }
 
+// `minimum` where the first is no NaN: one comparison, which the loop over a ring makes for every coordinate.
+fn smaller(a: f64, b: f64) -> f64
+    requires { ⌜ isNan a ≡ false ⌝ }
+    ensures { λ r. ⌜ r ≡ C.minimum a b ⌝ }
+{
+    if b < a {
+        return b;
+    }
+    a
+}
+
+// `maximum` likewise.
+fn larger(a: f64, b: f64) -> f64
+    requires { ⌜ isNan a ≡ false ⌝ }
+    ensures { λ r. ⌜ r ≡ C.maximum a b ⌝ }
+{
+    if a < b {
+        return b;
+    }
+    a
+}
+
+// The rectangle of four numbers with the coordinates at the front of a slice, from the second to the nth. The numbers are carried one by one: an enum would be stored and read back for every coordinate.
+fn box_with_rest(w: f64, s: f64, e: f64, n: f64, ring: &[f64], count: usize) -> Rect
+    requires { ⌜ S.Numbers w s e n × (2 * count ≤ length (now ring)) ⌝ }
+    ensures { λ a. ⌜ a ≡ S.withRing (Rect.Box w s e n) (drop 1 (coords (take (2 * count) (now (ring .entry))))) ⌝ }
+{
+    let mut west = w;
+    let mut south = s;
+    let mut east = e;
+    let mut north = n;
+    let mut i = 1usize;
+    while i < count {
+        let p = coord_at(ring, i);
+        if !is_finite_coord(p) {
+            return Rect::NotFinite;
+        }
+        west = smaller(west, p.x);
+        south = smaller(south, p.y);
+        east = larger(east, p.x);
+        north = larger(north, p.y);
+        i += 1;
+    }
+    Rect::Box(west, south, east, north)
+}
+
 // The rectangle with the n coordinates at the front of a slice.
 pub fn with_ring(r: Rect, ring: &[f64], n: usize) -> Rect
     requires { ⌜ 2 * n ≤ length (now ring) ⌝ }
     ensures { λ a. ⌜ a ≡ S.withRing r (coords (take (2 * n) (now (ring .entry)))) ⌝ }
 {
-    let mut rect = r;
-    let mut i = 0usize;
-    while i < n {
-        let p = coord_at(ring, i);
-        rect = with_coord(rect, p);
-        i += 1;
+    if n == 0 {
+        return r;
     }
-    rect
+    match with_coord(r, coord_at(ring, 0)) {
+        Rect::Nothing => Rect::Nothing,
+        Rect::NotFinite => Rect::NotFinite,
+        Rect::Box(west, south, east, north) => box_with_rest(west, south, east, north, ring, n),
+    }
 }
 
 // Whether the numbers from low to high and those from one bound to the other are not apart.
