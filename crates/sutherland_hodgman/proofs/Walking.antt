@@ -3,12 +3,12 @@ use mathlib.Core.Path.{_≡_, refl, sym, _∙_, ap}
 use mathlib.Core.Bool.{Bool, true, false}
 use mathlib.Core.List.{List, [], _∷_, _++_}
 use Prim.Native.Nat.{ℕ, zero, suc, _+_, _*_, _-_, _≤_, _<_}
-use native.Mathlib.Nat.{add-zero}
 use native.Mathlib.Numerals.{add-one}
 use native.Mathlib.Omega.{arith}
 use lib.Ieee.{Float}
 use lib.ListN.{length, getD, take, drop, length-append, drop-of-length-le}
 use lib.Seq.{sets, sets-eq, length-sets, drop-cons}
+use Rattle.binary64.proofs.Fill.{sets-append}
 use Rattle.tile.specs.declared.Coord.{Coord}
 use Rattle.tile.specs.declared.TileBounds.{TileBounds}
 use Rattle.tile.specs.declared.Edge.{Edge}
@@ -19,10 +19,6 @@ use Rattle.sutherland_hodgman.specs.Clip.{step, steps, leaveOff, around,
 use Rattle.sutherland_hodgman.specs.Walk.{none, before, left, Onward}
 use Rattle.sutherland_hodgman.specs.Growth.{halfGrowth}
 use Rattle.sutherland_hodgman.proofs.Growth.{pass-grows}
-
-sets-append : (d : List Float) (j : ℕ) (a r : List Float) → sets d j (a ++ r) ≡ sets (sets d j a) (j + length a) r
-sets-append d j [] r = rw (add-zero j)
-sets-append d j (x ∷ a) r = let n : j + suc (length a) ≡ suc j + length a = omega arith in rw n (sets-append _ (suc j) a r)
 
 module _ (l : Edge) (b : TileBounds) (ring : List Coord) where
   pub onward-here : (v : Bool) (i k : ℕ) (d : List Float) → Onward l b ring v i k d v i k d

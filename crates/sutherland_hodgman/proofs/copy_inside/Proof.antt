@@ -1,9 +1,10 @@
 -- `copy_inside` meets its contract: a step from in to in gives its end. Assumes nothing.
-use mathlib.Core.Path.{_≡_, refl, sym}
-use mathlib.Core.Bool.{Bool, true, false, not, true≢false}
+use mathlib.Core.Path.{_≡_, refl}
+use mathlib.Core.Bool.{true, false}
 use Prim.Native.Nat.{_+_, _*_, _-_, _≤_}
 use native.Mathlib.Omega.{arith}
 use borrow.Author.Needs.{needs}
+use borrow.Author.Tests.{not-true, not-false}
 use denote.Ref.{now}
 use lib.ListN.{length, take}
 use Rattle.tile.specs.Ring.{coords}
@@ -11,14 +12,6 @@ use Rattle.sutherland_hodgman.specs.Walk.{left, Onward}
 use Rattle.sutherland_hodgman.proofs.Walking.{onward-here, onward-then, in-in, in-in-room, judged, wrote}
 use Rattle.sutherland_hodgman.proofs.copy_inside.Statement.{statement}
 use Rattle.sutherland_hodgman.proofs.copy_inside.Tie as tie
-
-not-true : (t : Bool) → not t ≡ true → t ≡ false
-not-true true e = absurd (true≢false (sym e))
-not-true false e = refl
-
-not-false : (t : Bool) → not t ≡ false → t ≡ true
-not-false true e = refl
-not-false false e = absurd (true≢false e)
 
 abbrev Inv-loop : tie.InvT-loop
 Inv-loop ring m edge bounds out₀ i₀ len₀ out i len = (i₀ ≤ i) × (i ≤ m) × (length out ≡ length out₀) × Onward edge bounds (coords (take (2 * m) ring)) true i₀ len₀ out₀ true i len out
