@@ -23,8 +23,8 @@ use Rattle.clip.specs.Rings.{closedRings, allClosed}
 -- ---- of two numbers the one that comes first in an order; a NaN gives way
 
 -- x is a number, and a does not come before it
-record Covers (before : Float → Float → Bool) (x a : Float) : Type 0 where
-  number : isNan x ≡ false
+pub record Covers (before : Float → Float → Bool) (x a : Float) : Type 0 where
+  pub number : isNan x ≡ false
   first : before a x ≡ false
 
 module _ (before : Float → Float → Bool) (trans : (a b c : Float) → before a b ≡ true → before b c ≡ true → before a c ≡ true)
@@ -64,7 +64,7 @@ module _ (before : Float → Float → Bool) (trans : (a b c : Float) → before
 lt-trans : (a b c : Float) → lt a b ≡ true → lt b c ≡ true → lt a c ≡ true
 lt-trans a b c f g = lt-not-above a b c (lt-right b c g) f (lt-asym b c g)
 
-abbrev gt : Float → Float → Bool
+abbrev pub gt : Float → Float → Bool
 gt a b = lt b a
 
 gt-trans : (a b c : Float) → gt a b ≡ true → gt b c ≡ true → gt a c ≡ true
@@ -94,14 +94,14 @@ module _ (p : Coord) (f : isFiniteCoord p ≡ true) where
   number-y = finite-number (p .y) (both (finite (p .x)) (finite (p .y)) f .1)
 
 -- four numbers that hold p
-record Corners (p : Coord) (w s e n : Float) : Type 0 where
+pub record Corners (p : Coord) (w s e n : Float) : Type 0 where
   whole : isFiniteCoord p ≡ true
-  west : Covers lt w (p .x)
-  south : Covers lt s (p .y)
-  east : Covers gt e (p .x)
-  north : Covers gt n (p .y)
+  pub west : Covers lt w (p .x)
+  pub south : Covers lt s (p .y)
+  pub east : Covers gt e (p .x)
+  pub north : Covers gt n (p .y)
 
-abbrev Holds : Coord → Rect → Type 0
+abbrev pub Holds : Coord → Rect → Type 0
 Holds p R.Nothing = ⊥
 Holds p R.NotFinite = Unit {0}
 Holds p (R.Box w s e n) = Corners p w s e n
@@ -112,7 +112,7 @@ holds-same p R.Nothing h = absurd h
 holds-same p R.NotFinite h = refl
 holds-same p (R.Box w s e n) h = rw (h .whole, covers-same lt lt-trans lt-asym w (p .x) (h .west), covers-same lt lt-trans lt-asym s (p .y) (h .south), covers-same gt gt-trans gt-asym e (p .x) (h .east), covers-same gt gt-trans gt-asym n (p .y) (h .north))
 
-holds-new : (p : Coord) (r : Rect) → Holds p (withCoord r p)
+pub holds-new : (p : Coord) (r : Rect) → Holds p (withCoord r p)
 unfolding withCoord minimum maximum
 holds-new p r = go (isFiniteCoord p) refl r
   where

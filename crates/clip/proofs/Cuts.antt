@@ -4,7 +4,6 @@ use mathlib.Core.Bool.{Bool, true, false, cond}
 use mathlib.Core.List.{List, [], _∷_, _++_}
 use Prim.Native.Nat.{ℕ, zero, suc, _+_, _*_, _<_, _≤_}
 use native.Mathlib.Omega.{arith}
-use lib.Dec.{ltb}
 use lib.Ieee.{Float}
 use lib.ListN.{length, take, drop, length-append}
 use lib.Seq.{take-at, length-take-le}
@@ -17,7 +16,7 @@ use Rattle.sutherland_hodgman.specs.Clip.{leaveOff, around, pass, passes, finis
 use Rattle.sutherland_hodgman.specs.Cutter.{Room, Cut}
 use Rattle.sutherland_hodgman.proofs.Growth.{halfGrowth-mono, clipRing-grows, B-positive, le-four}
 use Rattle.sutherland_hodgman.proofs.LeavingOff.{clip-close}
-use Rattle.clip.specs.Polygon.{cutHole, RingRoom, Stands}
+use Rattle.clip.specs.Polygon.{leftOut, cutHole, RingRoom, Stands}
 
 -- ---- room
 
@@ -65,7 +64,7 @@ cut-fits-room b r = go (clipRing b r) (clip-more b r)
 
 pub hole-fits-room : (b : TileBounds) (r : List Coord) → length (cutHole b r) ≤ B (length r)
 unfolding cutHole
-hole-fits-room b r = go (ltb (length (clipRing b r)) 4)
+hole-fits-room b r = go (leftOut (clipRing b r))
   where
     go : (t : Bool) → length (cond t [] (close (clipRing b r))) ≤ B (length r)
     go true = omega arith

@@ -1,6 +1,6 @@
 -- What becomes of one polygon at a tile, in document 01's order ("Nothing, or dropped", "Unchanged", "Cut rings", "Overlay wanted"). Definitions only.
 use mathlib.Core.Path.{_≡_}
-use mathlib.Core.Bool.{true, _&&_, cond}
+use mathlib.Core.Bool.{Bool, true, _&&_, cond}
 use mathlib.Core.List.{List, [], _∷_}
 use Prim.Native.Nat.{ℕ, _*_, _<_, _≤_}
 use lib.Dec.{ltb}
@@ -62,9 +62,12 @@ routeExterior flags rect b r =
 
 -- ---- all rings
 
--- "A cut hole under 4 coordinates is left out."
+-- "A cut hole under 4 coordinates is left out." "Holes are not checked."
+abbrev pub leftOut : List Coord → Bool
+leftOut hole = ltb (length hole) 4
+
 unfoldable pub cutHole : TileBounds → List Coord → List Coord
-cutHole b r = cond (ltb (length (clipRing b r)) 4) [] (close (clipRing b r))
+cutHole b r = cond (leftOut (clipRing b r)) [] (close (clipRing b r))
 
 -- a ring that is not left out, before others
 abbrev pub unlessNone : List Coord → List (List Coord) → List (List Coord)

@@ -51,7 +51,7 @@ returns c =
     let n = a .args .n in
     let l = c .before .before .before .before .before .before .before .loop in
     let m = length-front s n (a .pre) in
-    let t : l .k + 1 < n = c .before .before .before .before .before .before .loop-test .taken in
+    let t : l .k + 1 < n = omega (arith, c .before .before .before .before .before .before .loop-test .taken) in
     let e = sym (c .before .before .before .bridge-of .ensures ∙ ap₂ (bridgeOf (a .args .bounds)) (c .before .before .before .before .before .coord-at .ensures ∙ sym (front-at s n (l .k) none (a .pre) (omega arith))) (c .before .before .before .before .coord-at2 .ensures ∙ sym (front-at s n (l .k + 1) none (a .pre) t)))
     ∙ c .before .found .given .1 in
     sym (l .inv .1 ∙ bridge-here (a .args .bounds) (coords (take (2 * n) s)) (l .k) none (omega arith) _ e)
@@ -72,7 +72,7 @@ loop-again c =
     let n = a .args .n in
     let l = c .before .before .before .before .before .before .loop in
     let m = length-front s n (a .pre) in
-    let t : l .k + 1 < n = c .before .before .before .before .before .loop-test .taken in
+    let t : l .k + 1 < n = omega (arith, c .before .before .before .before .before .loop-test .taken) in
     let e = sym (c .before .before .bridge-of .ensures ∙ ap₂ (bridgeOf (a .args .bounds)) (c .before .before .before .before .coord-at .ensures ∙ sym (front-at s n (l .k) none (a .pre) (omega arith))) (c .before .before .before .coord-at2 .ensures ∙ sym (front-at s n (l .k + 1) none (a .pre) t)))
     ∙ c .enum-told .given .1 in
     (search needs, l .inv .1 ∙ bridge-later (a .args .bounds) (coords (take (2 * n) s)) (l .k) none (omega arith) e)

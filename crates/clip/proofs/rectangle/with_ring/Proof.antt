@@ -9,7 +9,8 @@ use Rattle.tile.specs.Ring.{coords}
 use Rattle.tile.proofs.Rings.{length-front}
 use Rattle.clip.specs.declared.rectangle.Rect.{Rect}
 use Rattle.clip.specs.Rectangle.{withCoord, withRing}
-use Rattle.clip.proofs.Rectangles.{Begun, ring-first, ring-end, not-finite-stays, with-coord-begun}
+use Rattle.clip.proofs.Closing.{Holds, holds-new}
+use Rattle.clip.proofs.Rectangles.{ring-first, ring-end, not-finite-stays, corners-numbers}
 use Rattle.clip.proofs.rectangle.with_ring.Statement.{statement}
 use Rattle.clip.proofs.rectangle.with_ring.Tie as tie
 
@@ -38,12 +39,14 @@ box-with-rest-requires : tie.Need-box-with-rest-requires
 box-with-rest-requires c κs =
     let w = c .before .before .before in
     let a = w .before .before .before .before in
-    (subst Begun (sym (w .with-coord .ensures) ∙ c .before .west .given .1) (with-coord-begun (a .args .r) (w .before .coord-at .result)), a .pre)
+    let p = w .before .coord-at .result in
+    (corners-numbers p _ _ _ _ (subst (Holds p) (sym (w .with-coord .ensures) ∙ c .before .west .given .1) (holds-new p (a .args .r))), a .pre)
 
 returns-2 : tie.Need-returns-2
 returns-2 c =
     let w = c .before .before in
-    absurd (subst Begun (sym (w .with-coord .ensures) ∙ c .enum-told .given .1) (with-coord-begun (w .before .before .before .before .args .r) (w .before .coord-at .result)))
+    let p = w .before .coord-at .result in
+    absurd (subst (Holds p) (sym (w .with-coord .ensures) ∙ c .enum-told .given .1) (holds-new p (w .before .before .before .before .args .r)))
 
 returns-3 : tie.Need-returns-3
 returns-3 c =
