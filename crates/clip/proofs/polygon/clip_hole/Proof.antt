@@ -28,7 +28,7 @@ unfolding cutHole flat
 returns c =
     let a = c .before .before .before .before .before .before .before .before .before .before .before in
     let e = cut-count (a .args .n) (now (a .args .ring)) _ _ (a .pre) (a .args .bounds) _ _ (c .before .before .before .before .before .clip-ring .ensures) in
-    let t = lt-ltb _ _ (c .if1 .taken) in
+    let t = lt-ltb (c .before .before .before .before .before .clip-ring .result) 4 (omega (arith, c .if1 .taken)) in
     record { count = rw (← e, t); numbers = rw (← e, t) refl }
 
 close-requires : tie.Need-close-requires

@@ -42,14 +42,14 @@ returns-2 c = rw (← c .before .before .before .before .room-of .ensures .large
 
 returns-3 : tie.Need-returns-3
 unfolding checkedRoom
-returns-3 c = rw (← c .before .before .before .before .before .before .room-of .ensures .largest-room, le-ltb _ _ (c .before .before .before .before .if1 .left), le-ltb _ _ (c .before .before .if2 .left), lt-ltb _ _ (c .if3 .taken))
+returns-3 c = rw (← c .before .before .before .before .before .before .room-of .ensures .largest-room, le-ltb _ _ (c .before .before .before .before .if1 .left), le-ltb _ _ (c .before .before .if2 .left), lt-ltb (c .before .before .before .before .before .before .before .before .before .args .order) (c .before .before .before .before .before .before .room-of .result .largest) (omega (arith, c .if3 .taken)))
 
 mul-if4 : tie.Need-mul-if4
 mul-if4 c = omega (arith, few-rooms _ _ (c .before .before .before .before .before .before .before .before .before .before .pre) .1, c .before .before .before .before .before .before .before .room-of .ensures .whole-room)
 
 returns-4 : tie.Need-returns-4
 unfolding checkedRoom
-returns-4 c = rw (← c .before .before .before .before .before .before .before .before .room-of .ensures .largest-room, ← c .before .before .before .before .before .before .before .before .room-of .ensures .whole-room, le-ltb _ _ (c .before .before .before .before .before .before .if1 .left), le-ltb _ _ (c .before .before .before .before .if2 .left), le-ltb _ _ (c .before .before .if3 .left), lt-ltb _ _ (c .if4 .taken))
+returns-4 c = rw (← c .before .before .before .before .before .before .before .before .room-of .ensures .largest-room, ← c .before .before .before .before .before .before .before .before .room-of .ensures .whole-room, le-ltb _ _ (c .before .before .before .before .before .before .if1 .left), le-ltb _ _ (c .before .before .before .before .if2 .left), le-ltb _ _ (c .before .before .if3 .left), lt-ltb (c .before .before .before .before .before .before .before .before .before .before .before .args .out) (2 * c .before .before .before .before .before .before .before .before .room-of .result .all) (omega (arith, c .if4 .taken)))
 
 returns-5 : tie.Need-returns-5
 unfolding checkedRoom

@@ -2,6 +2,8 @@
 use native.Mathlib.Omega.{arith}
 use borrow.Author.Tests.{lt-ltb, le-leb, lt-leb}
 use denote.Ref.{now}
+use lib.ListN.{length}
+use Rattle.clip.specs.Rings.{mostRings}
 use Rattle.clip.specs.Slice.{lengthsFit}
 use Rattle.clip.proofs.LentRings.{sum-below}
 use mathlib.Core.Path.{_≡_}
@@ -22,7 +24,9 @@ returns c = rw (c .if1 .taken)
 
 returns-2 : tie.Need-returns-2
 unfolding lengthsFit
-returns-2 c = rw (lt-ltb 0 _ (some (c .before .if1 .left)), lt-leb _ _ (c .if2 .taken))
+returns-2 c =
+    let over : mostRings < length (now (c .before .before .before .before .args .lengths)) = c .if2 .taken in
+    rw (lt-ltb 0 _ (some (c .before .if1 .left)), lt-leb _ _ over)
 
 lent-count-requires : tie.Need-lent-count-requires
 lent-count-requires c κs = search needs
