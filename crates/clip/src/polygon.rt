@@ -52,6 +52,29 @@ fn has_issue(issue: Issue) -> bool
     }
 }
 
+// The number of the edge that a bridge runs along, as a reason.
+fn edge_number(edge: Edge) -> u8
+    ensures { λ r. ⌜ r ≡ S.edgeNumber edge ⌝ }
+{
+    match edge {
+        Edge::Left => 3,
+        Edge::Right => 4,
+        Edge::Bottom => 5,
+        Edge::Top => 6,
+    }
+}
+
+// Document 01's number of a reason.
+pub fn reason_number(reason: Reason) -> u8
+    ensures { λ r. ⌜ r ≡ S.reasonNumber reason ⌝ }
+{
+    match reason {
+        Reason::Input(issue) => 1,
+        Reason::Cut(issue) => 2,
+        Reason::Bridge(edge) => edge_number(edge),
+    }
+}
+
 // The issue of the ring of n coordinates at the front of a slice, closed. A ring that is not lent closed is closed in b.
 fn closed_issue(
     ring: &[f64],

@@ -1,4 +1,4 @@
--- The coordinates of a ring in a frame: how many they are, the last of them, and one more of them written. Assumes nothing.
+-- The coordinates of a ring in a frame: how many they are, the last of them, and what is left when one more is passed or written. Assumes nothing.
 use mathlib.Core.Path.{_≡_, refl, sym, _∙_, ap}
 use mathlib.Core.Bool.{Bool, true, false}
 use mathlib.Core.List.{List, [], _∷_}
@@ -40,30 +40,43 @@ close-grows n l = go (closed (coordsOf n l)) refl
     go true e = omega (arith, count-closed (coordsOf n l) e, length-coordsOf n l)
     go false e = omega (arith, count-open (coordsOf n l) e, length-coordsOf n l)
 
--- what is left to write, with one coordinate of it written
-module _ (frame : List ℕ) (at n start : ℕ) where
+-- what is left of the n coordinates at a place when i of them are passed
+module _ (frame : List ℕ) (at n : ℕ) where
   abbrev pub left : ℕ → List Coord
   left i = coordsOf (n - i) (drop (at + 16 * i) frame)
 
-  pub none-written : (ring : List Float) → sets ring (2 * start) (flat (coordsOf n (drop at frame))) ≡ sets ring (2 * (start + 0)) (flat (left 0))
-  none-written ring =
-      let e : start + 0 ≡ start = omega arith in
+  pub left-none : left 0 ≡ coordsOf n (drop at frame)
+  left-none =
       let m : n - 0 ≡ n = omega arith in
       let d : at + 16 * 0 ≡ at = omega arith in
-      rw (e, m, d)
+      rw (m, d)
+
+  pub left-one : (i : ℕ) → i < n → left i ≡ coordOf (drop (at + 16 * i) frame) ∷ left (i + 1)
+  unfolding coordsOf
+  left-one i h =
+      let e : n - i ≡ suc (n - (i + 1)) = omega arith in
+      let d : at + 16 * (i + 1) ≡ at + 16 * i + 16 = omega arith in
+      rw (e, d, ← drop-drop 16 (at + 16 * i) frame)
+
+  pub left-all : (i : ℕ) → n ≤ i → left i ≡ []
+  unfolding coordsOf
+  left-all i h = let e : n - i ≡ 0 = omega arith in rw e
+
+-- what is left to write, with one coordinate of it written
+module _ (frame : List ℕ) (at n start : ℕ) where
+  pub none-written : (ring : List Float) → sets ring (2 * start) (flat (coordsOf n (drop at frame))) ≡ sets ring (2 * (start + 0)) (flat (left frame at n 0))
+  none-written ring = let e : start + 0 ≡ start = omega arith in rw (e, left-none frame at n)
 
   pub one-written : (ring : List Float) (i : ℕ) → i < n
-      → sets ring (2 * (start + i)) (flat (left i)) ≡ sets (sets ring (2 * (start + i)) (coordOf (drop (at + 16 * i) frame) .x ∷ coordOf (drop (at + 16 * i) frame) .y ∷ [])) (2 * (start + (i + 1))) (flat (left (i + 1)))
-  unfolding coordsOf flat
+      → sets ring (2 * (start + i)) (flat (left frame at n i)) ≡ sets (sets ring (2 * (start + i)) (coordOf (drop (at + 16 * i) frame) .x ∷ coordOf (drop (at + 16 * i) frame) .y ∷ [])) (2 * (start + (i + 1))) (flat (left frame at n (i + 1)))
+  unfolding flat
   one-written ring i h =
-      let e : n - i ≡ suc (n - (i + 1)) = omega arith in
       let p : 2 * (start + (i + 1)) ≡ suc (suc (2 * (start + i))) = omega arith in
-      let d : at + 16 * (i + 1) ≡ at + 16 * i + 16 = omega arith in
-      rw (e, p, d, ← drop-drop 16 (at + 16 * i) frame)
+      rw (left-one frame at n i h, p)
 
-  pub all-written : (ring : List Float) (i : ℕ) → n ≤ i → sets ring (2 * (start + i)) (flat (left i)) ≡ ring
-  unfolding coordsOf flat
-  all-written ring i h = let e : n - i ≡ 0 = omega arith in rw e
+  pub all-written : (ring : List Float) (i : ℕ) → n ≤ i → sets ring (2 * (start + i)) (flat (left frame at n i)) ≡ ring
+  unfolding flat
+  all-written ring i h = rw (left-all frame at n i h)
 
 -- a ring that was written to the front of a slice stands there
 pub decoded : (ring : List Float) (n : ℕ) (l : List ℕ) → 2 * n ≤ length ring → coords (take (2 * n) (sets ring 0 (flat (coordsOf n l)))) ≡ coordsOf n l

@@ -1,5 +1,10 @@
 pub mod Coordinates
+pub mod CutParts
+pub mod Cutting
+pub mod Listings
+pub mod Measures
 pub mod Places
 pub mod Readings
 pub mod Rooms
 pub mod Walks
+pub mod Writing

@@ -6,7 +6,7 @@ use lib.ListN.{length}
 use Rattle.binary64.specs.Bytes.{Little, bytes, doubleBytes}
 use Rattle.tile.specs.declared.Coord.{Coord}
 use Rattle.clip.specs.Polygon as P
-use Rattle.clip.specs.Slice.{answerOf, answerNumber, answerReason, writtenRings, over}
+use Rattle.clip.specs.Slice.{answerOf, answerNumber, answerReason, over}
 use Rattle.frames.specs.Frame.{Reading, refused, read, Frame, refusalNumber}
 use Rattle.frames.specs.Room.{readCall}
 use Rattle.frames.specs.Answer.{Part, Answer, Nothing, Dropped, Unchanged, Listed, answerTo}
@@ -21,6 +21,10 @@ countBytes n = bytes Little 2 n
 -- "x and y, 8 bytes each"; "NaN is written with bits 7ff8000000000000"
 abbrev pub coordBytes : Coord → List ℕ
 coordBytes p = doubleBytes Little (p .x) ++ doubleBytes Little (p .y)
+
+-- "An answer: 1 byte .., guard count 2 bytes, number of listed parts 2 bytes."
+abbrev pub headerBytes : ℕ → ℕ → ℕ → List ℕ
+headerBytes number guard parts = number ∷ countBytes guard ++ countBytes parts
 
 module _ (coordinate : Coord → List ℕ) where
   -- "each ring: coordinate count, 2 bytes, then x and y"
@@ -38,10 +42,6 @@ module _ (coordinate : Coord → List ℕ) where
   -- "A listed part: index from 0, 2 bytes; 1 byte (2 unchanged, 4 cut, 5 overlay); reason, 1 byte, 0 unless overlay"
   unfoldable pub partBytes : Part → List ℕ
   partBytes part = countBytes (part .index) ++ (answerNumber (answerOf (part .outcome)) ∷ answerReason (answerOf (part .outcome)) ∷ cutBytes (part .outcome))
-
-  -- "An answer: 1 byte .., guard count 2 bytes, number of listed parts 2 bytes."
-  abbrev pub headerBytes : ℕ → ℕ → ℕ → List ℕ
-  headerBytes number guard parts = number ∷ countBytes guard ++ countBytes parts
 
   unfoldable pub answerBytes : Answer → List ℕ
   answerBytes (Nothing guard) = headerBytes 0 guard 0

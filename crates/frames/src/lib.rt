@@ -1,5 +1,8 @@
-// Frames of bytes: which are refused, what an accepted one holds, and the room that its answer may take.
+pub mod encode;
 pub mod head;
+pub mod measure;
+pub mod part;
+pub mod parts;
 pub mod reader;
 pub mod ring;
 pub mod room;

@@ -4,16 +4,14 @@ ghost use Prim.Native.Nat.{_^_, _<_};
 ghost use lib.ListN.{length};
 ghost use Rattle.tile.specs.Bounds.{newOf};
 ghost use Rattle.sutherland_hodgman.specs.Call as S;
-ghost use Rattle.clip.specs.Polygon.{edgeNumber, reasonNumber};
 ghost use Rattle.clip.specs.Slice as P;
 ghost use Rattle.ringcut_calls.specs.Flags.{isSet, flagsOf};
 use clip::polygon::Flags;
-use clip::polygon::Reason;
+use clip::polygon::reason_number;
 use clip::slice::PolygonAnswer;
 use clip::slice::SliceAnswer;
 use sutherland_hodgman::call::Refusal;
 use sutherland_hodgman::call::RingAnswer;
-use tile::Edge;
 use tile::TileBounds;
 
 // Minus the number of a refusal.
@@ -52,28 +50,6 @@ pub extern "C" fn ringcut_ring(
     }
 }
 
-// The number of the edge that a bridge runs along, as a reason.
-fn edge_number(edge: Edge) -> usize
-    ensures { λ r. ⌜ r ≡ edgeNumber edge ⌝ }
-{
-    match edge {
-        Edge::Left => 3,
-        Edge::Right => 4,
-        Edge::Bottom => 5,
-        Edge::Top => 6,
-    }
-}
-
-fn reason_number(reason: Reason) -> usize
-    ensures { λ r. ⌜ r ≡ reasonNumber reason ⌝ }
-{
-    match reason {
-        Reason::Input(issue) => 1,
-        Reason::Cut(issue) => 2,
-        Reason::Bridge(edge) => edge_number(edge),
-    }
-}
-
 // An answer as one number: what it is, 256 times the reason of an overlay, 65,536 times the count of a cut's rings.
 fn answer_code(answer: PolygonAnswer) -> usize
     requires { ⌜ P.answerCode answer < 2 ^ 32 ⌝ }
@@ -84,7 +60,7 @@ fn answer_code(answer: PolygonAnswer) -> usize
         PolygonAnswer::Dropped => 1,
         PolygonAnswer::Unchanged => 2,
         PolygonAnswer::Cut(rings) => 4 + 65536 * rings,
-        PolygonAnswer::Overlay(reason) => 5 + 256 * reason_number(reason),
+        PolygonAnswer::Overlay(reason) => 5 + 256 * reason_number(reason) as usize,
     }
 }
 

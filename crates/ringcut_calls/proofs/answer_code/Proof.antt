@@ -3,9 +3,6 @@ use native.Mathlib.Omega.{arith}
 use borrow.Author.Needs.{needs}
 use Rattle.ringcut_calls.proofs.answer_code.Statement.{statement}
 use Rattle.ringcut_calls.proofs.answer_code.Tie as tie
-use Rattle.ringcut_calls.proofs.answer_code.Reads as reads
-use Rattle.ringcut_calls.proofs.answer_code.Lts as lts
-use Rattle.ringcut_calls.proofs.reason_number.Reads as reason-number-reads
 
 enum-told : tie.Need-enum-told
 enum-told c = search needs
@@ -30,6 +27,9 @@ enum-known-answer-2 c = search needs
 
 reason-number-requires : tie.Need-reason-number-requires
 reason-number-requires c κs = search needs
+
+cast-result : tie.Need-cast-result
+cast-result c = search needs
 
 mul-result-2 : tie.Need-mul-result-2
 mul-result-2 c = let b = rw (c .before .before .answer2 .given .1) at (c .before .before .before .before .pre) in omega (arith, c .reason-number .ensures)
@@ -64,6 +64,7 @@ answer-code-spec =
     add-result
     enum-known-answer-2
     reason-number-requires
+    cast-result
     mul-result-2
     add-result-2
     returns

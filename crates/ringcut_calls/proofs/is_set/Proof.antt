@@ -3,8 +3,6 @@ use mathlib.Core.Path.{refl}
 use Rattle.ringcut_calls.specs.Flags.{isSet}
 use Rattle.ringcut_calls.proofs.is_set.Statement.{statement}
 use Rattle.ringcut_calls.proofs.is_set.Tie as tie
-use Rattle.ringcut_calls.proofs.is_set.Reads as reads
-use Rattle.ringcut_calls.proofs.is_set.Lts as lts
 
 returns : tie.Need-returns
 unfolding isSet

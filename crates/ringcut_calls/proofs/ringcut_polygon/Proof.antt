@@ -12,13 +12,6 @@ use borrow.Author.Needs.{needs, sfits-of}
 use borrow.Author.Needs.{needs}
 use Rattle.ringcut_calls.proofs.ringcut_polygon.Statement.{statement}
 use Rattle.ringcut_calls.proofs.ringcut_polygon.Tie as tie
-use Rattle.ringcut_calls.proofs.ringcut_polygon.Reads as reads
-use Rattle.ringcut_calls.proofs.ringcut_polygon.Lts as lts
-use Rattle.clip.proofs.slice.polygon.Reads as polygon-reads
-use Rattle.ringcut_calls.proofs.answer_code.Reads as answer-code-reads
-use Rattle.ringcut_calls.proofs.is_set.Reads as is-set-reads
-use Rattle.ringcut_calls.proofs.refusal_code.Reads as refusal-code-reads
-use Rattle.tile.proofs.TileBounds.new.Reads as new-reads
 
 is-set-requires : tie.Need-is-set-requires
 is-set-requires c κs = search needs

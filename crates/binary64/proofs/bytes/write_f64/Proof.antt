@@ -1,5 +1,4 @@
 -- `bytes::write_f64` meets its contract. Assumes nothing.
-use Rattle.binary64.specs.Bytes as S
 use borrow.Author.Needs.{needs}
 use Rattle.binary64.proofs.bytes.write_f64.Statement.{statement}
 use Rattle.binary64.proofs.bytes.write_f64.Tie as tie

@@ -3,10 +3,6 @@ use Rattle.clip.specs.Polygon.{bridgeUnlessSkipped}
 use borrow.Author.Needs.{needs}
 use Rattle.clip.proofs.polygon.bridge_unless_skipped.Statement.{statement}
 use Rattle.clip.proofs.polygon.bridge_unless_skipped.Tie as tie
-use Rattle.clip.proofs.polygon.bridge_unless_skipped.Reads as reads
-use Rattle.clip.proofs.polygon.bridge_unless_skipped.Lts as lts
-use Rattle.clip.proofs.bridge.first_bridge.Reads as first-bridge-reads
-use Rattle.clip.proofs.polygon.skips_bridges.Reads as skips-bridges-reads
 
 skips-bridges-requires : tie.Need-skips-bridges-requires
 skips-bridges-requires c κs = search needs

@@ -9,10 +9,6 @@ use Rattle.clip.proofs.Cuts.{cutter-room, cut-count, cut-fits, closed-w
 use borrow.Author.Needs.{needs}
 use Rattle.clip.proofs.polygon.clip_hole.Statement.{statement}
 use Rattle.clip.proofs.polygon.clip_hole.Tie as tie
-use Rattle.clip.proofs.polygon.clip_hole.Reads as reads
-use Rattle.clip.proofs.polygon.clip_hole.Lts as lts
-use Rattle.sutherland_hodgman.proofs.clip_ring.Reads as clip-ring-reads
-use Rattle.tile.proofs.ring.close.Reads as close-reads
 
 clip-ring-requires : tie.Need-clip-ring-requires
 clip-ring-requires c κs = let a = c .before .before .before .before .before in cutter-room (a .args .n) (now (a .args .ring)) _ _ (a .pre)

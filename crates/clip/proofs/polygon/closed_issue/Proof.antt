@@ -10,12 +10,6 @@ use Rattle.clip.proofs.Cuts.{le-B, lent-count, written-front, copied-fr
 use borrow.Author.Needs.{needs}
 use Rattle.clip.proofs.polygon.closed_issue.Statement.{statement}
 use Rattle.clip.proofs.polygon.closed_issue.Tie as tie
-use Rattle.clip.proofs.polygon.closed_issue.Reads as reads
-use Rattle.clip.proofs.polygon.closed_issue.Lts as lts
-use Rattle.binary64.proofs.slices.copy.Reads as copy-reads
-use Rattle.box_pairs.proofs.find_issue.Reads as find-issue-reads
-use Rattle.tile.proofs.ring.close.Reads as close-reads
-use Rattle.tile.proofs.ring.is_closed.Reads as is-closed-reads
 
 is-closed-requires : tie.Need-is-closed-requires
 is-closed-requires c κs = search needs

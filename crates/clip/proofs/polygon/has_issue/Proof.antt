@@ -3,8 +3,6 @@ use Rattle.box_pairs.specs.Issue.{hasIssue}
 use borrow.Author.Needs.{needs}
 use Rattle.clip.proofs.polygon.has_issue.Statement.{statement}
 use Rattle.clip.proofs.polygon.has_issue.Tie as tie
-use Rattle.clip.proofs.polygon.has_issue.Reads as reads
-use Rattle.clip.proofs.polygon.has_issue.Lts as lts
 
 enum-told : tie.Need-enum-told
 enum-told c = search needs

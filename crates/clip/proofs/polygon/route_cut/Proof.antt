@@ -12,13 +12,6 @@ use Rattle.clip.proofs.Cuts.{cutter-room, cut-count, cut-fits, closed-w
 use borrow.Author.Needs.{needs}
 use Rattle.clip.proofs.polygon.route_cut.Statement.{statement}
 use Rattle.clip.proofs.polygon.route_cut.Tie as tie
-use Rattle.clip.proofs.polygon.route_cut.Reads as reads
-use Rattle.clip.proofs.polygon.route_cut.Lts as lts
-use Rattle.box_pairs.proofs.find_issue.Reads as find-issue-reads
-use Rattle.clip.proofs.polygon.bridge_unless_skipped.Reads as bridge-unless-skipped-reads
-use Rattle.clip.proofs.polygon.has_issue.Reads as has-issue-reads
-use Rattle.sutherland_hodgman.proofs.clip_ring.Reads as clip-ring-reads
-use Rattle.tile.proofs.ring.close.Reads as close-reads
 
 some : {n : ℕ} → (n ≡ 0 → ⊥) → 0 < n
 some h = omega arith

@@ -5,13 +5,6 @@ use borrow.Author.Tests.{not-true, not-false}
 use borrow.Author.Needs.{needs}
 use Rattle.clip.proofs.polygon.route_exterior.Statement.{statement}
 use Rattle.clip.proofs.polygon.route_exterior.Tie as tie
-use Rattle.clip.proofs.polygon.route_exterior.Reads as reads
-use Rattle.clip.proofs.polygon.route_exterior.Lts as lts
-use Rattle.clip.proofs.polygon.closed_issue.Reads as closed-issue-reads
-use Rattle.clip.proofs.polygon.has_issue.Reads as has-issue-reads
-use Rattle.clip.proofs.polygon.route_cut.Reads as route-cut-reads
-use Rattle.clip.proofs.rectangle.intersects_bounds.Reads as intersects-bounds-reads
-use Rattle.clip.proofs.rectangle.is_fully_inside.Reads as is-fully-inside-reads
 
 intersects-bounds-requires : tie.Need-intersects-bounds-requires
 intersects-bounds-requires c κs = search needs

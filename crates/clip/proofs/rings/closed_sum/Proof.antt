@@ -13,9 +13,6 @@ use Rattle.clip.proofs.Cuts.{close-most}
 use borrow.Author.Needs.{needs}
 use Rattle.clip.proofs.rings.closed_sum.Statement.{statement}
 use Rattle.clip.proofs.rings.closed_sum.Tie as tie
-use Rattle.clip.proofs.rings.closed_sum.Reads as reads
-use Rattle.clip.proofs.rings.closed_sum.Lts as lts
-use Rattle.tile.proofs.ring.closed_count.Reads as closed-count-reads
 
 abbrev Inv-loop : tie.InvT-loop
 Inv-loop coords lengths count₀ at₀ k₀ count at k = Left lengths coords k at × (total length (closedRings lengths coords) ≡ count + total length (closedRings (drop k lengths) (drop at coords))) × (count ≤ at + k)

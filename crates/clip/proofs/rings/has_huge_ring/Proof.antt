@@ -13,9 +13,6 @@ use Rattle.binary64.proofs.Fill.{tail-part}
 use Rattle.clip.proofs.LentRings.{Left, left-start, left-ring, left-next, huge-step, huge-end}
 use Rattle.clip.proofs.rings.has_huge_ring.Statement.{statement}
 use Rattle.clip.proofs.rings.has_huge_ring.Tie as tie
-use Rattle.clip.proofs.rings.has_huge_ring.Reads as reads
-use Rattle.clip.proofs.rings.has_huge_ring.Lts as lts
-use Rattle.clip.proofs.representable.has_huge.Reads as has-huge-reads
 
 abbrev Inv-loop : tie.InvT-loop
 Inv-loop coords lengths at₀ k₀ at k = Left lengths coords k at × (anyHugeRing (closedRings lengths coords) ≡ anyHugeRing (closedRings (drop k lengths) (drop at coords)))

@@ -2,8 +2,6 @@
 use borrow.Author.Tests.{lt-ltb, le-ltb}
 use Rattle.clip.proofs.rings.larger.Statement.{statement}
 use Rattle.clip.proofs.rings.larger.Tie as tie
-use Rattle.clip.proofs.rings.larger.Reads as reads
-use Rattle.clip.proofs.rings.larger.Lts as lts
 
 returns : tie.Need-returns
 returns c = rw (lt-ltb _ _ (c .if1 .taken))

@@ -9,8 +9,6 @@ use Rattle.clip.proofs.LentRings.{sum-step, sum-end}
 use borrow.Author.Needs.{needs}
 use Rattle.clip.proofs.rings.lent_count.Statement.{statement}
 use Rattle.clip.proofs.rings.lent_count.Tie as tie
-use Rattle.clip.proofs.rings.lent_count.Reads as reads
-use Rattle.clip.proofs.rings.lent_count.Lts as lts
 
 abbrev Inv-loop : tie.InvT-loop
 Inv-loop lengths count₀ k₀ count k = (k ≤ length lengths) × (sum lengths ≡ count + sum (drop k lengths)) × (count ≤ k * 2 ^ 32)

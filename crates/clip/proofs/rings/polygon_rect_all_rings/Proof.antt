@@ -5,17 +5,14 @@ use native.Mathlib.Omega.{arith}
 use borrow.Author.Needs.{needs}
 use denote.Ref.{now}
 use lib.ListN.{length, getD, take, drop}
-use Rattle.clip.specs.declared.rectangle.Rect.{Rect}
 use Rattle.tile.specs.Ring.{coords as coordinates}
+use Rattle.clip.specs.declared.rectangle.Rect.{Rect}
 use Rattle.clip.specs.Rectangle.{rectangle, withRing, withRings}
 use Rattle.clip.specs.Rings.{closedRings}
 use Rattle.binary64.proofs.Fill.{tail-part}
 use Rattle.clip.proofs.LentRings.{Left, left-start, left-ring, left-next, rect-step, rect-end}
 use Rattle.clip.proofs.rings.polygon_rect_all_rings.Statement.{statement}
 use Rattle.clip.proofs.rings.polygon_rect_all_rings.Tie as tie
-use Rattle.clip.proofs.rings.polygon_rect_all_rings.Reads as reads
-use Rattle.clip.proofs.rings.polygon_rect_all_rings.Lts as lts
-use Rattle.clip.proofs.rectangle.with_ring.Reads as with-ring-reads
 
 abbrev Inv-loop : tie.InvT-loop
 Inv-loop coords lengths rect₀ at₀ k₀ rect at k = Left lengths coords k at × (rectangle (closedRings lengths coords) ≡ withRings rect (closedRings (drop k lengths) (drop at coords)))

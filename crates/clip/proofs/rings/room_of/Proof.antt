@@ -13,11 +13,6 @@ use Rattle.clip.proofs.LentRings.{Left, left-start, left-ring, left-nex
 use borrow.Author.Needs.{needs}
 use Rattle.clip.proofs.rings.room_of.Statement.{statement}
 use Rattle.clip.proofs.rings.room_of.Tie as tie
-use Rattle.clip.proofs.rings.room_of.Reads as reads
-use Rattle.clip.proofs.rings.room_of.Lts as lts
-use Rattle.clip.proofs.rings.larger.Reads as larger-reads
-use Rattle.sutherland_hodgman.proofs.call.room_for.Reads as room-for-reads
-use Rattle.tile.proofs.ring.closed_count.Reads as closed-count-reads
 
 abbrev Inv-loop : tie.InvT-loop
 Inv-loop coords lengths largest₀ all₀ at₀ k₀ largest all at k = Left lengths coords k at × (most ringRoom (closedRings lengths coords) ≡ larger largest (most ringRoom (closedRings (drop k lengths) (drop at coords)))) × (total ringRoom (closedRings lengths coords) ≡ all + total ringRoom (closedRings (drop k lengths) (drop at coords))) × (total length (closedRings (drop k lengths) (drop at coords)) ≤ mostCoordinates) × (all ≤ k * (8 * mostCoordinates))

@@ -8,11 +8,6 @@ use Rattle.clip.proofs.Checks.{fitting}
 use borrow.Author.Needs.{needs}
 use Rattle.clip.proofs.slice.check_polygon.Statement.{statement}
 use Rattle.clip.proofs.slice.check_polygon.Tie as tie
-use Rattle.clip.proofs.slice.check_polygon.Reads as reads
-use Rattle.clip.proofs.slice.check_polygon.Lts as lts
-use Rattle.clip.proofs.rings.closed_sum.Reads as closed-sum-reads
-use Rattle.clip.proofs.slice.check_room.Reads as check-room-reads
-use Rattle.clip.proofs.slice.lengths_fit.Reads as lengths-fit-reads
 
 lengths-fit-requires : tie.Need-lengths-fit-requires
 lengths-fit-requires c κs = search needs

@@ -12,9 +12,6 @@ use Rattle.sutherland_hodgman.specs.Growth.{mostCoordinates}
 use borrow.Author.Needs.{needs}
 use Rattle.clip.proofs.slice.check_room.Statement.{statement}
 use Rattle.clip.proofs.slice.check_room.Tie as tie
-use Rattle.clip.proofs.slice.check_room.Reads as reads
-use Rattle.clip.proofs.slice.check_room.Lts as lts
-use Rattle.clip.proofs.rings.room_of.Reads as room-of-reads
 
 few-rooms : (ns : List ℕ) (s : List Float) → Measurable ns s → (largest ringRoom (closedRings ns s) ≤ mostRings * (8 * mostCoordinates)) × (total ringRoom (closedRings ns s) ≤ mostRings * (8 * mostCoordinates))
 few-rooms ns s m =

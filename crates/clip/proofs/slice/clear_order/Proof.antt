@@ -8,8 +8,6 @@ use lib.ListN.{length, replicate, length-replicate, getD-replicate}
 use Rattle.binary64.proofs.Fill.{Upto, upto-start, upto-step, upto-whole}
 use Rattle.clip.proofs.slice.clear_order.Statement.{statement}
 use Rattle.clip.proofs.slice.clear_order.Tie as tie
-use Rattle.clip.proofs.slice.clear_order.Reads as reads
-use Rattle.clip.proofs.slice.clear_order.Lts as lts
 
 abbrev Inv-loop : tie.InvT-loop
 Inv-loop s₀ i₀ s i = (i ≤ length s₀) × Upto (replicate (length s₀) 0) s₀ i s

@@ -9,11 +9,6 @@ use Rattle.clip.proofs.Holes.{exterior-here, first-room, first-position
 use borrow.Author.Needs.{needs}
 use Rattle.clip.proofs.slice.clip_finite.Statement.{statement}
 use Rattle.clip.proofs.slice.clip_finite.Tie as tie
-use Rattle.clip.proofs.slice.clip_finite.Reads as reads
-use Rattle.clip.proofs.slice.clip_finite.Lts as lts
-use Rattle.clip.proofs.polygon.route_exterior.Reads as route-exterior-reads
-use Rattle.clip.proofs.slice.overlay_or_dropped.Reads as overlay-or-dropped-reads
-use Rattle.clip.proofs.slice.put_cut.Reads as put-cut-reads
 
 shared-slice-read-n : tie.Need-shared-slice-read-n
 shared-slice-read-n c = c .before .before .before .before .before .before .before .before .pre .some

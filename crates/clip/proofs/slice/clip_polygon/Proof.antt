@@ -9,10 +9,6 @@ use Rattle.clip.proofs.Checks.{passes-fit, fitting, passes-clippable}
 use borrow.Author.Needs.{needs}
 use Rattle.clip.proofs.slice.clip_polygon.Statement.{statement}
 use Rattle.clip.proofs.slice.clip_polygon.Tie as tie
-use Rattle.clip.proofs.slice.clip_polygon.Reads as reads
-use Rattle.clip.proofs.slice.clip_polygon.Lts as lts
-use Rattle.clip.proofs.rings.polygon_rect_all_rings.Reads as polygon-rect-all-rings-reads
-use Rattle.clip.proofs.slice.clip_finite.Reads as clip-finite-reads
 
 polygon-rect-all-rings-requires : tie.Need-polygon-rect-all-rings-requires
 polygon-rect-all-rings-requires c κs =

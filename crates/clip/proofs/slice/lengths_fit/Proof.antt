@@ -11,9 +11,6 @@ use Prim.Native.Nat.{ℕ, _<_}
 use borrow.Author.Needs.{needs}
 use Rattle.clip.proofs.slice.lengths_fit.Statement.{statement}
 use Rattle.clip.proofs.slice.lengths_fit.Tie as tie
-use Rattle.clip.proofs.slice.lengths_fit.Reads as reads
-use Rattle.clip.proofs.slice.lengths_fit.Lts as lts
-use Rattle.clip.proofs.rings.lent_count.Reads as lent-count-reads
 
 some : {n : ℕ} → (n ≡ 0 → ⊥) → 0 < n
 some h = omega arith

@@ -3,9 +3,6 @@ use Rattle.clip.specs.Polygon.{overlayOrDropped}
 use borrow.Author.Needs.{needs}
 use Rattle.clip.proofs.slice.overlay_or_dropped.Statement.{statement}
 use Rattle.clip.proofs.slice.overlay_or_dropped.Tie as tie
-use Rattle.clip.proofs.slice.overlay_or_dropped.Reads as reads
-use Rattle.clip.proofs.slice.overlay_or_dropped.Lts as lts
-use Rattle.clip.proofs.rings.has_huge_ring.Reads as has-huge-ring-reads
 
 has-huge-ring-requires : tie.Need-has-huge-ring-requires
 has-huge-ring-requires c κs = search needs

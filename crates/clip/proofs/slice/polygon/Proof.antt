@@ -9,13 +9,6 @@ use Rattle.clip.specs.declared.slice.SliceAnswer.the-variants.{Answered}
 use borrow.Author.Needs.{needs}
 use Rattle.clip.proofs.slice.polygon.Statement.{statement}
 use Rattle.clip.proofs.slice.polygon.Tie as tie
-use Rattle.clip.proofs.slice.polygon.Reads as reads
-use Rattle.clip.proofs.slice.polygon.Lts as lts
-use Rattle.binary64.proofs.slices.clear.Reads as clear-reads
-use Rattle.clip.proofs.slice.check_polygon.Reads as check-polygon-reads
-use Rattle.clip.proofs.slice.clear_order.Reads as clear-order-reads
-use Rattle.clip.proofs.slice.clip_polygon.Reads as clip-polygon-reads
-use Rattle.tile.proofs.TileBounds.buffered.Reads as buffered-reads
 
 zeroed : (m n : ℕ) (l : List ℕ) → l ≡ replicate m 0 → m ≡ n → l ≡ replicate n 0
 zeroed m n l h e = h ∙ rw e

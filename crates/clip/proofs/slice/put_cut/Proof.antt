@@ -12,10 +12,6 @@ use Rattle.clip.proofs.Holes.{exterior-room, start-fits, holes-room, sa
 use borrow.Author.Needs.{needs}
 use Rattle.clip.proofs.slice.put_cut.Statement.{statement}
 use Rattle.clip.proofs.slice.put_cut.Tie as tie
-use Rattle.clip.proofs.slice.put_cut.Reads as reads
-use Rattle.clip.proofs.slice.put_cut.Lts as lts
-use Rattle.clip.proofs.slice.put_holes.Reads as put-holes-reads
-use Rattle.clip.proofs.slice.put_ring.Reads as put-ring-reads
 
 put-ring-requires : tie.Need-put-ring-requires
 put-ring-requires c κs =

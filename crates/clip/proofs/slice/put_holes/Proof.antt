@@ -15,10 +15,6 @@ use Rattle.clip.proofs.Holes.{Ahead, ahead-start, ahead-then, ahead-rin
 use borrow.Author.Needs.{needs}
 use Rattle.clip.proofs.slice.put_holes.Statement.{statement}
 use Rattle.clip.proofs.slice.put_holes.Tie as tie
-use Rattle.clip.proofs.slice.put_holes.Reads as reads
-use Rattle.clip.proofs.slice.put_holes.Lts as lts
-use Rattle.clip.proofs.polygon.clip_hole.Reads as clip-hole-reads
-use Rattle.clip.proofs.slice.put_ring.Reads as put-ring-reads
 
 abbrev Inv-loop : tie.InvT-loop
 Inv-loop coords lengths bounds a₀ b₀ out₀ out-lengths₀ placed₀ at₀ k₀ a b out out-lengths placed at k =

@@ -8,9 +8,6 @@ use Rattle.clip.proofs.Holes.{length-some}
 use borrow.Author.Needs.{needs}
 use Rattle.clip.proofs.slice.put_ring.Statement.{statement}
 use Rattle.clip.proofs.slice.put_ring.Tie as tie
-use Rattle.clip.proofs.slice.put_ring.Reads as reads
-use Rattle.clip.proofs.slice.put_ring.Lts as lts
-use Rattle.binary64.proofs.slices.copy.Reads as copy-reads
 
 returns : tie.Need-returns
 returns c =

@@ -12,7 +12,7 @@ use Rattle.frames.proofs.ring.decode_ring.Statement.{statement}
 use Rattle.frames.proofs.ring.decode_ring.Tie as tie
 
 abbrev Inv-loop : tie.InvT-loop
-Inv-loop frame at n ring₀ start i₀ ring i = (i ≤ n) × (length ring ≡ length ring₀) × (sets ring₀ (2 * start) (flat (coordsOf n (drop at frame))) ≡ sets ring (2 * (start + i)) (flat (left frame at n start i)))
+Inv-loop frame at n ring₀ start i₀ ring i = (i ≤ n) × (length ring ≡ length ring₀) × (sets ring₀ (2 * start) (flat (coordsOf n (drop at frame))) ≡ sets ring (2 * (start + i)) (flat (left frame at n i)))
 
 abbrev μ-loop : tie.MeasureT-loop
 μ-loop frame at n ring₀ start i₀ ring i = n - i

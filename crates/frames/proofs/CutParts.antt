@@ -1,0 +1,186 @@
+-- A cut part of a frame: its exterior and its holes have room, and what is written is the part's bytes. Assumes nothing.
+use mathlib.Core.Path.{_≡_, refl, sym, _∙_, ap}
+use mathlib.Core.List.{List, [], _∷_, _++_, append-assoc}
+use Prim.Native.Nat.{ℕ, _+_, _*_, _-_, _<_, _≤_}
+use native.Mathlib.Omega.{arith}
+use lib.Ieee.{Float}
+use lib.ListN.{length, take, drop, length-append}
+use lib.Seq.{sets}
+use Rattle.binary64.proofs.Fill.{sets-append}
+use Rattle.tile.specs.declared.Coord.{Coord}
+use Rattle.tile.specs.declared.TileBounds.{TileBounds}
+use Rattle.tile.specs.Ring.{coords, flat, close}
+use Rattle.tile.proofs.Rings.{coords-flat}
+use Rattle.sutherland_hodgman.specs.Growth.{B}
+use Rattle.clip.specs.Polygon.{unlessNone, cutExterior, cutHoles, cutRings, cut, overlay, exterior, reasonNumber, Stands, ExteriorRoom}
+use Rattle.clip.specs.declared.polygon.Reason.{Reason}
+use Rattle.clip.specs.Representable.{anyHugeRing}
+use Rattle.clip.specs.Rings.{largest}
+use Rattle.clip.proofs.Cuts.{B-mono, cut-fits-room}
+use Rattle.clip.proofs.Holes.{cut-rings}
+use Rattle.clip.proofs.LentRings.{larger-least}
+use Rattle.frames.specs.declared.part.Written.{Written}
+use Rattle.frames.specs.Frame.{Reading, refused, read, Accepted, mostRings, countOf, coordsOf, readRing, readMany, readPart}
+use Rattle.frames.specs.Room.{sumOf, partRoom}
+use Rattle.frames.specs.Encoding.{each, countBytes, coordBytes, ringBytes, partBytes}
+use Rattle.frames.specs.Part.{ringsIn, partAt, ringsFrom, writtenPart, PutRings, Working, RingsRoom, PartRoom, CutRoom}
+use Rattle.frames.specs.Measure.{hugeOf}
+use Rattle.frames.proofs.Coordinates.{decoded}
+use Rattle.frames.proofs.Readings.{taken}
+use Rattle.frames.proofs.Places.{part-at}
+use Rattle.frames.proofs.Writing.{sets-before, length-count}
+use Rattle.frames.proofs.Cutting.{NextRing, next-ring, working-later, working-ring, unless-append, unless-bytes, unless-count, put-then}
+
+-- ---- the rings of a part
+
+pub record PartRings (frame : List ℕ) (at : ℕ) : Type 0 where
+  pub whole : at + 2 ≤ length frame
+  pub some : 0 < countOf (drop at frame)
+  pub few : countOf (drop at frame) ≤ mostRings
+  pub accepted : Accepted (readMany readRing (countOf (drop at frame)) (drop (at + 2) frame))
+  pub same : partAt frame at ≡ ringsFrom frame (at + 2) (countOf (drop at frame))
+
+pub part-rings : (frame : List ℕ) (at : ℕ) → at ≤ length frame → Accepted (readPart (drop at frame)) → PartRings frame at
+part-rings frame at h a = let t = taken (readPart (drop at frame)) a in go (t .value) (t .rest) (t .is)
+  where
+    go : (part : List (List Coord)) (rest : List ℕ) → readPart (drop at frame) ≡ read part rest → PartRings frame at
+    go part rest e =
+        let p = part-at frame at part rest h e in
+        let r = p .rings in
+        record { whole = p .whole; some = p .some; few = p .few; accepted = rw r; same = ap ringsIn e ∙ sym (ap ringsIn r) }
+
+-- the exterior, as it stands in the frame
+abbrev pub exteriorAt : List ℕ → ℕ → List Coord
+exteriorAt frame at = close (coordsOf (countOf (drop (at + 2) frame)) (drop (at + 2 + 2) frame))
+
+abbrev pub holesAt : List ℕ → ℕ → List (List Coord)
+holesAt frame at = ringsFrom frame (at + 2 + 2 + 16 * countOf (drop (at + 2) frame)) (countOf (drop at frame) - 1)
+
+module _ (frame : List ℕ) (at : ℕ) (h : at ≤ length frame) (a : Accepted (readPart (drop at frame))) where
+  pub first-ring : NextRing frame (at + 2) (countOf (drop at frame))
+  first-ring = let p = part-rings frame at h a in next-ring frame (at + 2) (countOf (drop at frame)) (p .whole) (p .some) (p .accepted)
+
+  pub part-here : partAt frame at ≡ exteriorAt frame at ∷ holesAt frame at
+  part-here = part-rings frame at h a .same ∙ first-ring .here
+
+-- ---- room
+
+module _ (bounds : TileBounds) (frame : List ℕ) (at m ring a : ℕ) (b : List Float) (out to : ℕ) (room : CutRoom bounds frame at m ring a b out to) where
+  here : partAt frame at ≡ exteriorAt frame at ∷ holesAt frame at
+  here = part-here frame at (room .within) (room .accepted)
+
+  working-here : Working (exteriorAt frame at ∷ holesAt frame at) ring a (length b)
+  working-here = rw here at (room .working)
+
+  stands-here : Stands (cutExterior bounds (exteriorAt frame at)) m b
+  stands-here = rw here at (room .stands)
+
+  output-here : to + partRoom 16 (exteriorAt frame at ∷ holesAt frame at) ≤ out
+  output-here = rw here at (room .output)
+
+  pub exterior-put : (2 * m ≤ length b) × (to + 6 + 2 + 16 * m ≤ out)
+  unfolding partRoom sumOf largest
+  exterior-put =
+      let g = larger-least (length (exteriorAt frame at)) (largest length (holesAt frame at)) in
+      let s = B-mono (length (exteriorAt frame at)) (largest length (exteriorAt frame at ∷ holesAt frame at)) (g .0) in
+      let f = cut-fits-room bounds (exteriorAt frame at) in
+      (omega (arith, stands-here .count, working-here .second), omega (arith, stands-here .count, output-here))
+
+  pub exterior-ring : coords (take (2 * m) b) ≡ cutExterior bounds (exteriorAt frame at)
+  exterior-ring = rw (stands-here .numbers) (coords-flat (cutExterior bounds (exteriorAt frame at)))
+
+  module _ (p r : Written) (o o′ : List ℕ) (put : PutRings (unlessNone (cutExterior bounds (exteriorAt frame at)) []) p o r o′) (e : p .next ≡ to + 6) (z : p .rings ≡ 0) where
+    pub holes-room : RingsRoom frame (at + 2 + 2 + 16 * countOf (drop (at + 2) frame)) (countOf (drop at frame) - 1) ring a (length b) out r
+    unfolding partRoom sumOf
+    holes-room =
+        let n = first-ring frame at (room .within) (room .accepted) in
+        record {
+          within = n .whole;
+          accepted = n .later;
+          working = working-later (exteriorAt frame at) (holesAt frame at) ring a (length b) working-here;
+          output = omega (arith, put .next-after, unless-bytes (cutExterior bounds (exteriorAt frame at)), cut-fits-room bounds (exteriorAt frame at), output-here);
+        }
+
+    pub holes-few : r .rings + (countOf (drop at frame) - 1) ≤ mostRings
+    holes-few = let q = part-rings frame at (room .within) (room .accepted) in omega (arith, put .rings-after, unless-count (cutExterior bounds (exteriorAt frame at)), q .some, q .few)
+
+    -- the exterior and the holes are all rings of the cut
+    pub all-put : (r′ : Written) (o″ : List ℕ) → PutRings (cutHoles bounds (holesAt frame at)) r o′ r′ o″ → PutRings (cutRings bounds (partAt frame at)) p o r′ o″
+    all-put r′ o″ g =
+        let x = unlessNone (cutExterior bounds (exteriorAt frame at)) [] in
+        let l = cutHoles bounds (holesAt frame at) in
+        let c : cutRings bounds (partAt frame at) ≡ x ++ l = rw here (cut-rings bounds (exteriorAt frame at) (holesAt frame at) (omega (arith, stands-here .count, room .whole)) ∙ unless-append (cutExterior bounds (exteriorAt frame at)) l) in
+        rw c (put-then x l p r r′ o o′ o″ put g)
+
+-- ---- the bytes of the part
+
+module _ (index : ℕ) (rings : List (List Coord)) where
+  whole-bytes : writtenPart index (cut rings) ≡ ((countBytes index ++ (4 ∷ 0 ∷ [])) ++ countBytes (length rings)) ++ each (ringBytes coordBytes) rings
+  unfolding partBytes
+  whole-bytes = sym (append-assoc (countBytes index ++ (4 ∷ 0 ∷ [])) (countBytes (length rings)) (each (ringBytes coordBytes) rings) ∙ append-assoc (countBytes index) (4 ∷ 0 ∷ []) (countBytes (length rings) ++ each (ringBytes coordBytes) rings))
+
+  head-length : length ((countBytes index ++ (4 ∷ 0 ∷ [])) ++ countBytes (length rings)) ≡ 6
+  head-length = omega (arith, length-append (countBytes index ++ (4 ∷ 0 ∷ [])) (countBytes (length rings)), length-append (countBytes index) (4 ∷ 0 ∷ []), length-count index, length-count (length rings))
+
+  pub part-bytes : length (writtenPart index (cut rings)) ≡ 6 + length (each (ringBytes coordBytes) rings)
+  part-bytes = omega (arith, ap length whole-bytes, length-append ((countBytes index ++ (4 ∷ 0 ∷ [])) ++ countBytes (length rings)) (each (ringBytes coordBytes) rings), head-length)
+
+  pub part-length : (to : ℕ) (p r : Written) (o o′ : List ℕ) → PutRings rings p o r o′ → p .next ≡ to + 6 → r .next ≡ to + length (writtenPart index (cut rings))
+  part-length to p r o o′ put e = omega (arith, put .next-after, part-bytes)
+
+  -- the rings first, then what stands before them
+  pub part-written : (to : ℕ) (p r : Written) (o o₁ o₂ o₃ : List ℕ) → PutRings rings p o r o₁ → p .next ≡ to + 6 → p .rings ≡ 0 → o₂ ≡ sets o₁ to (countBytes index ++ (4 ∷ 0 ∷ [])) → o₃ ≡ sets o₂ (to + 4) (countBytes (r .rings))
+      → o₃ ≡ sets o to (writtenPart index (cut rings))
+  part-written to p r o o₁ o₂ o₃ put e z h₂ h₃ =
+      let head = countBytes index ++ (4 ∷ 0 ∷ []) in
+      let k : to + 4 ≡ to + length head = omega (arith, length-append (countBytes index) (4 ∷ 0 ∷ []), length-count index) in
+      let n : r .rings ≡ length rings = omega (arith, put .rings-after) in
+      let s : p .next ≡ to + length (head ++ countBytes (length rings)) = omega (arith, head-length) in
+      h₃ ∙ rw (h₂, k, n, ← sets-append o₁ to head (countBytes (length rings)), put .output, s, sets-before o to (head ++ countBytes (length rings)) (each (ringBytes coordBytes) rings), ← whole-bytes)
+
+-- ---- an overlay
+
+pub huge-in : (x : Reading (List (List Coord))) → hugeOf x ≡ anyHugeRing (ringsIn x)
+unfolding anyHugeRing
+huge-in (refused r) = refl
+huge-in (read rings rest) = refl
+
+pub overlay-bytes : (index : ℕ) (reason : Reason) → writtenPart index (overlay reason) ≡ countBytes index ++ (5 ∷ reasonNumber reason ∷ [])
+unfolding partBytes
+overlay-bytes index reason = refl
+
+pub overlay-length : (index : ℕ) (reason : Reason) → length (writtenPart index (overlay reason)) ≡ 4
+overlay-length index reason = omega (arith, ap length (overlay-bytes index reason), length-append (countBytes index) (5 ∷ reasonNumber reason ∷ []), length-count index)
+
+-- ---- the exterior of a part, read into a slice
+
+module _ (frame : List ℕ) (at ring a b order out to : ℕ) (room : PartRoom frame at ring a b order out to) where
+  part-is : partAt frame at ≡ exteriorAt frame at ∷ holesAt frame at
+  part-is = part-here frame at (room .within) (room .accepted)
+
+  pub exterior-is : exterior (partAt frame at) ≡ exteriorAt frame at
+  exterior-is = ap exterior part-is
+
+  part-working : Working (exteriorAt frame at ∷ holesAt frame at) ring a b
+  part-working = rw part-is at (room .working)
+
+  pub exterior-whole : at + 2 + 2 + 16 * countOf (drop (at + 2) frame) ≤ length frame
+  exterior-whole = first-ring frame at (room .within) (room .accepted) .whole
+
+  pub exterior-room : (s : List Float) → length s ≡ ring → (2 * countOf (drop (at + 2) frame) ≤ ring) × ExteriorRoom (countOf (drop (at + 2) frame)) (sets s 0 (flat (coordsOf (countOf (drop (at + 2) frame)) (drop (at + 2 + 2) frame)))) a b order
+  unfolding largest
+  exterior-room s e =
+      let n = countOf (drop (at + 2) frame) in
+      let w = working-ring (exteriorAt frame at) (holesAt frame at) ring a b part-working n (drop (at + 2 + 2) frame) s refl e in
+      let g = larger-least (length (exteriorAt frame at)) (largest length (holesAt frame at)) in
+      let m = B-mono (length (exteriorAt frame at)) (largest length (exteriorAt frame at ∷ holesAt frame at)) (g .0) in
+      let d = decoded s n (drop (at + 2 + 2) frame) (omega (arith, w .0)) in
+      (w .0, record { room = w .1; positions = rw d (omega (arith, room .positions, ap (λ (l : List (List Coord)). B (largest length l)) part-is)) })
+
+  pub part-head : to + 4 ≤ out
+  unfolding partRoom
+  part-head = omega (arith, room .output)
+
+-- the slices have kept their lengths
+pub same-working : (rings : List (List Coord)) (ring a b ring′ a′ b′ : ℕ) → ring′ ≡ ring → a′ ≡ a → b′ ≡ b → Working rings ring a b → Working rings ring′ a′ b′
+same-working rings ring a b ring′ a′ b′ er ea eb w = rw (er, ea, eb) w

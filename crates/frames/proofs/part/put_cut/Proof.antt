@@ -1,0 +1,119 @@
+-- `put_cut` meets its contract: the rings are written, then what stands before them. Assumes nothing.
+use mathlib.Core.Path.{refl}
+use mathlib.Core.List.{[]}
+use Prim.Native.Nat.{_-_}
+use native.Mathlib.Omega.{arith}
+use denote.Ref.{now}
+use Rattle.clip.specs.Polygon.{unlessNone, cutExterior, cutHoles}
+use Rattle.frames.specs.Part.{partAt, PutRings}
+use Rattle.clip.specs.Polygon.{cutRings}
+use Rattle.frames.proofs.Cutting.{same-room}
+use Rattle.frames.proofs.CutParts.{part-rings, first-ring, exteriorAt, holesAt, exterior-put, exterior-ring, holes-room, holes-few, all-put, part-length, part-written}
+use borrow.Author.Needs.{needs}
+use Rattle.frames.proofs.part.put_cut.Statement.{statement}
+use Rattle.frames.proofs.part.put_cut.Tie as tie
+
+count-at-requires : tie.Need-count-at-requires
+count-at-requires c κs = part-rings (now (c .before .before .before .before .before .args .frame)) (c .before .before .before .before .before .args .at) (c .before .before .before .before .before .pre .within) (c .before .before .before .before .before .pre .accepted) .whole
+
+add-count-at : tie.Need-add-count-at
+add-count-at c = omega (arith, first-ring (now (c .before .before .before .before .before .before .args .frame)) (c .before .before .before .before .before .before .args .at) (c .before .before .before .before .before .before .pre .within) (c .before .before .before .before .before .before .pre .accepted) .whole)
+
+count-at-requires-2 : tie.Need-count-at-requires-2
+count-at-requires-2 c κs = omega (arith, first-ring (now (c .before .before .before .before .before .before .args .frame)) (c .before .before .before .before .before .before .args .at) (c .before .before .before .before .before .before .pre .within) (c .before .before .before .before .before .before .pre .accepted) .whole)
+
+add-holes : tie.Need-add-holes
+add-holes c = search needs
+
+add-holes-2 : tie.Need-add-holes-2
+add-holes-2 c = search needs
+
+put-cut-ring-requires : tie.Need-put-cut-ring-requires
+put-cut-ring-requires c κs =
+    let a = c .before .before .before .before .before .before .before .before .before .args in
+    let e = exterior-put (a .bounds) (now (a .frame)) (a .at) _ _ _ _ _ _ (c .before .before .before .before .before .before .before .before .before .pre) in
+    (e .0, omega (arith, e .1), omega arith)
+
+add-holes-3 : tie.Need-add-holes-3
+add-holes-3 c = search needs
+
+add-holes-4 : tie.Need-add-holes-4
+add-holes-4 c = search needs
+
+mul-holes : tie.Need-mul-holes
+mul-holes c = search needs
+
+add-holes-5 : tie.Need-add-holes-5
+add-holes-5 c = search needs
+
+sub-put-holes : tie.Need-sub-put-holes
+sub-put-holes c = omega (arith, part-rings (now (c .before .before .before .before .before .before .before .before .before .before .before .before .args .frame)) (c .before .before .before .before .before .before .before .before .before .before .before .before .args .at) (c .before .before .before .before .before .before .before .before .before .before .before .before .pre .within) (c .before .before .before .before .before .before .before .before .before .before .before .before .pre .accepted) .some, c .before .before .before .before .before .before .count-at .ensures .0)
+
+put-holes-requires : tie.Need-put-holes-requires
+put-holes-requires c κs =
+    let a = c .before .before .before .before .before .before .before .before .before .before .before .before .before .before .before .before .args in
+    let f = now (a .frame) in
+    let p = c .before .before .before .before .before .before .before .before .before .before .before .before .before .before .before .before .pre in
+    let put : PutRings (unlessNone (cutExterior (a .bounds) (exteriorAt f (a .at))) []) _ _ _ _ = rw (exterior-ring (a .bounds) f (a .at) _ _ _ _ _ _ p) at (c .before .before .before .before .before .before .put-cut-ring .ensures) in
+    let r = holes-room (a .bounds) f (a .at) _ _ _ _ _ (a .to) p _ _ _ _ put (omega arith) refl in
+    rw (c .before .before .before .before .before .before .before .before .before .count-at2 .ensures .0, c .before .before .before .before .before .before .before .before .before .before .count-at .ensures .0) (same-room _ _ _ _ _ _ _ _ _ _ _ _ refl refl refl (c .before .before .before .before .before .before .put-cut-ring .kept .1 .1 .0) r, holes-few (a .bounds) f (a .at) _ _ _ _ _ (a .to) p _ _ _ _ put (omega arith) refl)
+
+put-part-requires : tie.Need-put-part-requires
+put-part-requires c κs =
+    let a = c .before .before .before .before .before .before .before .before .before .before .before .before .before .before .before .before .before .before .before .before .before .before .before .before .before .before .args in
+    omega (arith, exterior-put (a .bounds) (now (a .frame)) (a .at) _ _ _ _ _ _ (c .before .before .before .before .before .before .before .before .before .before .before .before .before .before .before .before .before .before .before .before .before .before .before .before .before .before .pre) .1, c .before .before .before .before .before .before .before .before .before .put-holes .kept .1 .1 .1 .1 .1 .1 .1 .0, c .before .before .before .before .before .before .before .before .before .before .before .before .before .before .before .before .put-cut-ring .kept .1 .1 .0)
+
+add-put-count : tie.Need-add-put-count
+add-put-count c = search needs
+
+put-count-requires : tie.Need-put-count-requires
+put-count-requires c κs =
+    let a = c .before .before .before .before .before .before .before .before .before .before .before .before .before .before .before .before .before .before .before .before .before .before .before .before .before .before .before .before .before .before .args in
+    omega (arith, exterior-put (a .bounds) (now (a .frame)) (a .at) _ _ _ _ _ _ (c .before .before .before .before .before .before .before .before .before .before .before .before .before .before .before .before .before .before .before .before .before .before .before .before .before .before .before .before .before .before .pre) .1, c .before .before .before .put-part .kept .0, c .before .before .before .before .before .before .before .before .before .before .before .before .before .put-holes .kept .1 .1 .1 .1 .1 .1 .1 .0, c .before .before .before .before .before .before .before .before .before .before .before .before .before .before .before .before .before .before .before .before .put-cut-ring .kept .1 .1 .0)
+
+same-length : tie.Need-same-length
+same-length c = search needs
+
+same-length-2 : tie.Need-same-length-2
+same-length-2 c = search needs
+
+same-length-3 : tie.Need-same-length-3
+same-length-3 c = search needs
+
+same-length-4 : tie.Need-same-length-4
+same-length-4 c = search needs
+
+returns : tie.Need-returns
+returns c =
+    let a = c .before .before .before .before .before .before .before .before .before .before .before .before .before .before .before .before .before .before .before .before .before .before .before .before .before .before .before .before .before .before .before .before .before .args in
+    let f = now (a .frame) in
+    let p = c .before .before .before .before .before .before .before .before .before .before .before .before .before .before .before .before .before .before .before .before .before .before .before .before .before .before .before .before .before .before .before .before .before .pre in
+    let put : PutRings (unlessNone (cutExterior (a .bounds) (exteriorAt f (a .at))) []) _ _ _ _ = rw (exterior-ring (a .bounds) f (a .at) _ _ _ _ _ _ p) at (c .before .before .before .before .before .before .before .before .before .before .before .before .before .before .before .before .before .before .before .before .before .before .before .put-cut-ring .ensures) in
+    let holes : PutRings (cutHoles (a .bounds) (holesAt f (a .at))) _ _ _ _ = rw (c .before .before .before .before .before .before .before .before .before .before .before .before .before .before .before .before .before .before .before .before .before .before .before .before .before .before .count-at2 .ensures .0, c .before .before .before .before .before .before .before .before .before .before .before .before .before .before .before .before .before .before .before .before .before .before .before .before .before .before .before .count-at .ensures .0) at (c .before .before .before .before .before .before .before .before .before .before .before .before .before .before .before .before .put-holes .ensures) in
+    let all = all-put (a .bounds) f (a .at) _ _ _ _ _ (a .to) p _ _ _ _ put (omega arith) refl _ _ holes in
+    (part-length (a .index) (cutRings (a .bounds) (partAt f (a .at))) (a .to) _ _ _ _ all (omega arith), part-written (a .index) (cutRings (a .bounds) (partAt f (a .at))) (a .to) _ _ _ _ _ _ all (omega arith) refl (c .before .before .before .before .before .before .put-part .ensures) (c .before .before .put-count .ensures))
+
+pub put-cut-spec : {M : Type 1} → statement M
+put-cut-spec =
+    tie.close
+    (tie.spec
+    count-at-requires
+    add-count-at
+    count-at-requires-2
+    add-holes
+    add-holes-2
+    put-cut-ring-requires
+    add-holes-3
+    add-holes-4
+    mul-holes
+    add-holes-5
+    sub-put-holes
+    put-holes-requires
+    put-part-requires
+    add-put-count
+    put-count-requires
+    same-length
+    same-length-2
+    same-length-3
+    same-length-4
+    returns)

@@ -1,0 +1,28 @@
+-- What is measured of an accepted frame as it stands: the rectangle of a part and of all parts, and whether a part has a coordinate that the overlay can't take (document 01, "Nothing, or dropped", "Overlay wanted" and "Multipolygons"). Definitions only.
+use mathlib.Core.Bool.{Bool, false}
+use mathlib.Core.List.{List}
+use Prim.Native.Nat.{ℕ, _-_}
+use lib.ListN.{length}
+use Rattle.tile.specs.declared.Coord.{Coord}
+use Rattle.clip.specs.declared.rectangle.Rect.{Rect}
+use Rattle.clip.specs.declared.rectangle.Rect.the-variants as Rects
+use Rattle.clip.specs.Rectangle.{withRings}
+use Rattle.clip.specs.Representable.{anyHugeRing}
+use Rattle.frames.specs.declared.measure.Measured.{Measured}
+use Rattle.frames.specs.Frame.{Reading, refused, read, Frame}
+use Rattle.frames.specs.Answer.{withParts}
+
+-- of a part in a frame of so many bytes: a rectangle with its rings, and where the next part starts. Of a refusal there is nothing to measure, and no function asks: what stands there is of no use
+abbrev pub measuredOf : ℕ → Rect → Reading (List (List Coord)) → Measured
+measuredOf size rect (refused r) = record { rect = rect; next = 0 }
+measuredOf size rect (read rings rest) = record { rect = withRings rect rings; next = size - length rest }
+
+-- the rectangle of all parts; of a refusal, as above, no use
+abbrev pub frameRect : Reading Frame → Rect
+frameRect (refused r) = Rects.Nothing
+frameRect (read f rest) = withParts Rects.Nothing (f .parts)
+
+-- whether a part has such a coordinate; of a refusal, as above, no use
+abbrev pub hugeOf : Reading (List (List Coord)) → Bool
+hugeOf (refused r) = false
+hugeOf (read rings rest) = anyHugeRing rings

@@ -1,0 +1,116 @@
+-- The parts of a frame, one after the other: what the functions ask for and leave. Definitions only.
+use mathlib.Core.Path.{_≡_}
+use mathlib.Core.Bool.{cond}
+use mathlib.Core.List.{List, [], _∷_}
+use Prim.Native.Nat.{ℕ, _+_, _≤_}
+use lib.Dec.{eqb}
+use lib.ListN.{length, drop}
+use lib.Seq.{sets}
+use Rattle.tile.specs.declared.Coord.{Coord}
+use Rattle.tile.specs.declared.TileBounds.{TileBounds}
+use Rattle.sutherland_hodgman.specs.Growth.{B}
+use Rattle.clip.specs.declared.polygon.Flags.{Flags}
+use Rattle.clip.specs.declared.rectangle.Rect.{Rect}
+use Rattle.clip.specs.Rectangle.{intersectsBounds, isFullyInside}
+use Rattle.clip.specs.Polygon as P
+use Rattle.clip.specs.Rings.{largest}
+use Rattle.clip.specs.Slice.{answerOf, guardCount}
+use Rattle.frames.specs.declared.part.PartAnswer.{PartAnswer}
+use Rattle.frames.specs.declared.part.PartAnswer.the-variants as Is
+use Rattle.frames.specs.declared.parts.Listing as L
+use Rattle.frames.specs.Frame.{Reading, refused, read, Accepted, mostParts, readPart, readMany}
+use Rattle.frames.specs.Room.{coordinateBytes, sumOf, partRoom}
+use Rattle.frames.specs.Answer.{Answer, listedBefore, Listing, ofParts}
+use Rattle.frames.specs.Encoding.{each, coordBytes, headerBytes, partBytes, answerBytes}
+use Rattle.frames.specs.Part.{Working}
+
+-- what becomes of a part of a multipolygon that is measured as rect
+unfoldable pub routePartAs : Flags → Rect → TileBounds → List (List Coord) → P.Routed
+routePartAs flags rect b rings = cond (intersectsBounds rect b) (cond (isFullyInside rect b) P.unchanged (P.routeMeasured flags rect b rings)) P.nothing
+
+-- the parts that are read; of a refusal, none
+abbrev pub partsIn : Reading (List (List (List Coord))) → List (List (List Coord))
+partsIn (refused r) = []
+partsIn (read parts rest) = parts
+
+abbrev pub partsFrom : List ℕ → ℕ → ℕ → List (List (List Coord))
+partsFrom frame at k = partsIn (readMany readPart k (drop at frame))
+
+-- ---- what is listed
+
+-- a part that is listed in one word
+abbrev pub unchangedBytes : ℕ → PartAnswer → List ℕ
+unchangedBytes i Is.Nothing = []
+unchangedBytes i Is.Dropped = []
+unchangedBytes i Is.Unchanged = partBytes coordBytes (record { index = i; outcome = P.unchanged })
+unchangedBytes i (Is.Listed next) = []
+
+-- the counts and the place with one more part
+abbrev pub withPart : PartAnswer → L.Listing → L.Listing
+withPart Is.Nothing l = l
+withPart Is.Dropped l = record { guard = l .guard + 1; parts = l .parts; next = l .next }
+withPart Is.Unchanged l = record { guard = l .guard; parts = l .parts + 1; next = l .next + 4 }
+withPart (Is.Listed next) l = record { guard = l .guard; parts = l .parts + 1; next = next }
+
+-- listed parts are written behind what is written, and the counts go up by theirs
+pub record Lists (listing : Listing) (so-far : L.Listing) (out : List ℕ) (r : L.Listing) (out′ : List ℕ) : Type 0 where
+  pub output : out′ ≡ sets out (so-far .next) (each (partBytes coordBytes) (listing .parts))
+  pub next-after : r .next ≡ so-far .next + length (each (partBytes coordBytes) (listing .parts))
+  pub parts-after : r .parts ≡ so-far .parts + length (listing .parts)
+  pub guard-after : r .guard ≡ so-far .guard + listing .guard
+
+-- one part alone
+abbrev pub listingOf : ℕ → P.Routed → Listing
+listingOf i to = record { guard = guardCount (answerOf to); parts = listedBefore i to [] }
+
+-- the header and the length of an answer of which so much is listed
+abbrev pub finishedHeader : L.Listing → List ℕ
+finishedHeader l = cond (eqb (l .parts) 0) (headerBytes 0 (l .guard) 0) (headerBytes 3 (l .guard) (l .parts))
+
+abbrev pub finishedLength : L.Listing → ℕ
+finishedLength l = cond (eqb (l .parts) 0) 5 (l .next)
+
+-- of a polygon, by its only part
+abbrev pub polygonHeader : PartAnswer → List ℕ
+polygonHeader Is.Nothing = headerBytes 0 0 0
+polygonHeader Is.Dropped = headerBytes 1 1 0
+polygonHeader Is.Unchanged = headerBytes 2 0 0
+polygonHeader (Is.Listed next) = headerBytes 3 0 1
+
+abbrev pub polygonLength : PartAnswer → ℕ
+polygonLength Is.Nothing = 5
+polygonLength Is.Dropped = 5
+polygonLength Is.Unchanged = 5
+polygonLength (Is.Listed next) = next
+
+abbrev pub ofListing : Listing → Answer
+ofListing listing = ofParts (listing .guard) (listing .parts)
+
+-- the bytes of an answer stand at the front of the output, and their count is answered
+pub record Answers (answer : Answer) (out : List ℕ) (r : ℕ) (out′ : List ℕ) : Type 0 where
+  pub count : r ≡ length (answerBytes coordBytes answer)
+  pub output : out′ ≡ sets out 0 (answerBytes coordBytes answer)
+
+-- ---- room
+
+-- the counts stay small
+pub record Few (i : ℕ) (l : L.Listing) : Type 0 where
+  pub guards : l .guard ≤ i
+  pub listed : l .parts ≤ i
+  pub index : i ≤ mostParts
+
+-- the working slices have room for a part
+pub record Workable (ring a b order : ℕ) (rings : List (List Coord)) : Type 0 where
+  pub working : Working rings ring a b
+  pub positions : B (largest length rings) ≤ order
+
+abbrev pub AllParts : (List (List Coord) → Type 0) → List (List (List Coord)) → Type 0
+AllParts Q [] = Unit {0}
+AllParts Q (part ∷ parts) = Q part × AllParts Q parts
+
+-- so many parts are there from a place on, can be cut, and have room in the output at a place
+pub record PartsRoom (frame : List ℕ) (at k ring a b order out to : ℕ) : Type 0 where
+  pub within : at ≤ length frame
+  pub accepted : Accepted (readMany readPart k (drop at frame))
+  pub workable : AllParts (Workable ring a b order) (partsFrom frame at k)
+  pub output : to + sumOf (partRoom coordinateBytes) (partsFrom frame at k) ≤ out

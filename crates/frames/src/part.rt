@@ -1,0 +1,171 @@
+// One part of a frame, as a polygon: routed by its exterior, and what is listed of it written to the output.
+ghost use mathlib.Core.Path.{_≡_};
+ghost use mathlib.Core.List.{[]};
+ghost use Prim.Native.Nat.{_+_, _*_, _≤_};
+ghost use lib.ListN.{length, take, drop};
+ghost use lib.Seq.{sets};
+ghost use Rattle.tile.specs.Ring.{coords};
+ghost use Rattle.clip.specs.Polygon as P;
+ghost use Rattle.frames.specs.Frame as F;
+ghost use Rattle.frames.specs.Encoding as E;
+ghost use Rattle.frames.specs.Part as S;
+use super::encode::put_count;
+use super::encode::put_part;
+use super::encode::put_ring;
+use super::measure::part_has_huge;
+use super::ring::COORD;
+use super::ring::COUNT;
+use super::ring::count_at;
+use super::ring::decode_ring;
+use clip::polygon::Flags;
+use clip::polygon::Reason;
+use clip::polygon::Route;
+use clip::polygon::clip_hole;
+use clip::polygon::reason_number;
+use clip::polygon::route_exterior;
+use clip::rectangle::Rect;
+use tile::TileBounds;
+
+// The bytes of a listed part before the rings of a cut.
+pub const PART: usize = 4;
+
+// What becomes of a part; a listed one is written, and the next stands at the given place of the output.
+pub enum PartAnswer {
+    Nothing,
+    Dropped,
+    Unchanged,
+    Listed(usize),
+}
+
+// How far the rings of a part are written: how many, and where the next stands in the output.
+pub struct Written {
+    pub rings: usize,
+    pub next: usize,
+}
+
+// Writes the cut ring of n coordinates at the front of a slice; one without coordinates is left out.
+fn put_cut_ring(ring: &[f64], n: usize, out: &mut [u8], at: Written) -> Written
+    requires { ⌜ (2 * n ≤ length (now ring)) × (at .next + 2 + 16 * n ≤ length (now out)) × (at .rings ≤ F.mostRings) ⌝ }
+    ensures { λ r. ⌜ S.PutRings (P.unlessNone (coords (take (2 * n) (now (ring .entry)))) []) at (now (out .entry)) r (now (out .exit)) ⌝ }
+{
+    if n == 0 {
+        return at;
+    }
+    let next = put_ring(ring, n, out, at.next);
+    Written {
+        rings: at.rings + 1,
+        next,
+    }
+}
+
+// Cuts so many holes from a place of the frame on, and writes those that stay.
+fn put_holes(
+    frame: &[u8],
+    start: usize,
+    holes: usize,
+    bounds: TileBounds,
+    ring: &mut [f64],
+    a: &mut [f64],
+    b: &mut [f64],
+    out: &mut [u8],
+    exterior: Written,
+) -> Written
+    requires { ⌜ S.RingsRoom (now frame) start holes (length (now ring)) (length (now a)) (length (now b)) (length (now out)) exterior × (exterior .rings + holes ≤ F.mostRings) ⌝ }
+    ensures { λ r. ⌜ S.PutRings (P.cutHoles bounds (S.ringsFrom (now (frame .entry)) start holes)) exterior (now (out .entry)) r (now (out .exit)) ⌝ }
+{
+    let mut written = exterior;
+    let mut at = start;
+    let mut left = holes;
+    while left > 0 {
+        let n = count_at(frame, at);
+        let next = decode_ring(frame, at + COUNT, n, ring, 0);
+        let m = clip_hole(ring, n, bounds, a, b);
+        written = put_cut_ring(b, m, out, written);
+        at = next;
+        left -= 1;
+    }
+    written
+}
+
+// Writes a cut part: its exterior, of m coordinates, stands at the front of b.
+fn put_cut(
+    frame: &[u8],
+    at: usize,
+    index: usize,
+    m: usize,
+    bounds: TileBounds,
+    ring: &mut [f64],
+    a: &mut [f64],
+    b: &mut [f64],
+    out: &mut [u8],
+    to: usize,
+) -> usize
+    requires { ⌜ S.CutRoom bounds (now frame) at m (length (now ring)) (length (now a)) (now b) (length (now out)) to ⌝ }
+    ensures { λ r. ⌜ r ≡ to + length (S.writtenPart index (P.cut (P.cutRings bounds (S.partAt (now (frame .entry)) at)))) ⌝ }
+    ensures { λ _. ⌜ now (out .exit) ≡ sets (now (out .entry)) to (S.writtenPart index (P.cut (P.cutRings bounds (S.partAt (now (frame .entry)) at)))) ⌝ }
+{
+    let rings = count_at(frame, at);
+    let n = count_at(frame, at + COUNT);
+    let first = Written {
+        rings: 0,
+        next: to + PART + COUNT,
+    };
+    let exterior = put_cut_ring(b, m, out, first);
+    let holes = at + COUNT + COUNT + COORD * n;
+    let all = put_holes(frame, holes, rings - 1, bounds, ring, a, b, out, exterior);
+    put_part(out, to, index, 4, 0);
+    put_count(out, to + PART, all.rings);
+    all.next
+}
+
+// An overlay is wanted, unless a coordinate of the part is too large for it.
+fn overlay_or_dropped(
+    frame: &[u8],
+    at: usize,
+    index: usize,
+    reason: Reason,
+    out: &mut [u8],
+    to: usize,
+) -> PartAnswer
+    requires { ⌜ (at ≤ length (now frame)) × F.Accepted (F.readPart (drop at (now frame))) × (to + 4 ≤ length (now out)) ⌝ }
+    ensures { λ r. ⌜ r ≡ S.partAnswer to index (P.overlayOrDropped (S.partAt (now (frame .entry)) at) reason) ⌝ }
+    ensures { λ _. ⌜ now (out .exit) ≡ sets (now (out .entry)) to (S.writtenPart index (P.overlayOrDropped (S.partAt (now (frame .entry)) at) reason)) ⌝ }
+{
+    if part_has_huge(frame, at) {
+        return PartAnswer::Dropped;
+    }
+    put_part(out, to, index, 5, reason_number(reason));
+    PartAnswer::Listed(to + PART)
+}
+
+// What becomes of the part at a place as a polygon, rect being its rectangle, of four numbers.
+pub fn route_part(
+    frame: &[u8],
+    at: usize,
+    index: usize,
+    flags: Flags,
+    rect: Rect,
+    bounds: TileBounds,
+    ring: &mut [f64],
+    a: &mut [f64],
+    b: &mut [f64],
+    order: &mut [u32],
+    out: &mut [u8],
+    to: usize,
+) -> PartAnswer
+    requires { ⌜ S.PartRoom (now frame) at (length (now ring)) (length (now a)) (length (now b)) (length (now order)) (length (now out)) to ⌝ }
+    ensures { λ r. ⌜ r ≡ S.partAnswer to index (P.routeMeasured flags rect bounds (S.partAt (now (frame .entry)) at)) ⌝ }
+    ensures { λ _. ⌜ now (out .exit) ≡ sets (now (out .entry)) to (S.writtenPart index (P.routeMeasured flags rect bounds (S.partAt (now (frame .entry)) at))) ⌝ }
+{
+    let n = count_at(frame, at + COUNT);
+    decode_ring(frame, at + COUNT + COUNT, n, ring, 0);
+    match route_exterior(ring, n, flags, rect, bounds, a, b, order) {
+        Route::Nothing => PartAnswer::Nothing,
+        Route::Unchanged => PartAnswer::Unchanged,
+        Route::Overlay(reason) => overlay_or_dropped(frame, at, index, reason, out, to),
+        Route::Cut(m) => {
+            let next = put_cut(frame, at, index, m, bounds, ring, a, b, out, to);
+            PartAnswer::Listed(next)
+        }
+    }
+}

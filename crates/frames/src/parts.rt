@@ -1,0 +1,262 @@
+// The parts of a frame, one after the other: what is listed of each, and the guard count.
+ghost use mathlib.Core.Path.{_≡_};
+ghost use Prim.Native.Nat.{_+_, _≤_};
+ghost use lib.ListN.{length};
+ghost use lib.Seq.{sets};
+ghost use Rattle.clip.specs.Polygon as P;
+ghost use Rattle.frames.specs.Frame as F;
+ghost use Rattle.frames.specs.Answer as Answers;
+ghost use Rattle.frames.specs.Encoding as E;
+ghost use Rattle.frames.specs.Part as Q;
+ghost use Rattle.frames.specs.Parts as S;
+use super::encode::put_header;
+use super::encode::put_part;
+use super::head::HEAD;
+use super::measure::part_rect;
+use super::part::PART;
+use super::part::PartAnswer;
+use super::part::route_part;
+use super::room::LEAST_ROOM;
+use clip::polygon::Flags;
+use clip::rectangle::Rect;
+use clip::rectangle::intersects_bounds;
+use clip::rectangle::is_fully_inside;
+use tile::TileBounds;
+
+// What is listed so far: the guard count, how many parts, and where the next stands in the output.
+pub struct Listing {
+    pub guard: usize,
+    pub parts: usize,
+    pub next: usize,
+}
+
+// What becomes of a part of a multipolygon, rect being its rectangle.
+fn answer_part(
+    frame: &[u8],
+    at: usize,
+    index: usize,
+    flags: Flags,
+    rect: Rect,
+    bounds: TileBounds,
+    ring: &mut [f64],
+    a: &mut [f64],
+    b: &mut [f64],
+    order: &mut [u32],
+    out: &mut [u8],
+    to: usize,
+) -> PartAnswer
+    requires { ⌜ Q.PartRoom (now frame) at (length (now ring)) (length (now a)) (length (now b)) (length (now order)) (length (now out)) to ⌝ }
+    ensures { λ r. ⌜ r ≡ Q.partAnswer to index (S.routePartAs flags rect bounds (Q.partAt (now (frame .entry)) at)) ⌝ }
+    ensures { λ _. ⌜ now (out .exit) ≡ sets (now (out .entry)) to (Q.writtenPart index (S.routePartAs flags rect bounds (Q.partAt (now (frame .entry)) at))) ⌝ }
+{
+    if !intersects_bounds(rect, bounds) {
+        return PartAnswer::Nothing;
+    }
+    if is_fully_inside(rect, bounds) {
+        return PartAnswer::Unchanged;
+    }
+    route_part(
+        frame,
+        at,
+        index,
+        flags,
+        rect,
+        bounds,
+        ring,
+        a,
+        b,
+        order,
+        out,
+        to,
+    )
+}
+
+// The listing with one more part; one that is unchanged is still to be written.
+fn list_part(answer: PartAnswer, index: usize, out: &mut [u8], before: Listing) -> Listing
+    requires { ⌜ (before .next + 4 ≤ length (now out)) × S.Few index before ⌝ }
+    ensures { λ r. ⌜ (r ≡ S.withPart answer before) × (now (out .exit) ≡ sets (now (out .entry)) (before .next) (S.unchangedBytes index answer)) ⌝ }
+{
+    match answer {
+        PartAnswer::Nothing => before,
+        PartAnswer::Dropped => Listing {
+            guard: before.guard + 1,
+            parts: before.parts,
+            next: before.next,
+        },
+        PartAnswer::Unchanged => {
+            let at = before.next;
+            put_part(out, at, index, 2, 0);
+            Listing {
+                guard: before.guard,
+                parts: before.parts + 1,
+                next: at + PART,
+            }
+        }
+        PartAnswer::Listed(next) => Listing {
+            guard: before.guard,
+            parts: before.parts + 1,
+            next,
+        },
+    }
+}
+
+// One part of a multipolygon, routed and listed.
+fn add_part(
+    frame: &[u8],
+    at: usize,
+    index: usize,
+    flags: Flags,
+    rect: Rect,
+    bounds: TileBounds,
+    ring: &mut [f64],
+    a: &mut [f64],
+    b: &mut [f64],
+    order: &mut [u32],
+    out: &mut [u8],
+    before: Listing,
+) -> Listing
+    requires { ⌜ Q.PartRoom (now frame) at (length (now ring)) (length (now a)) (length (now b)) (length (now order)) (length (now out)) (before .next) × S.Few index before ⌝ }
+    ensures { λ r. ⌜ S.Lists (S.listingOf index (S.routePartAs flags rect bounds (Q.partAt (now (frame .entry)) at))) before (now (out .entry)) r (now (out .exit)) ⌝ }
+{
+    let to = before.next;
+    let answer = answer_part(
+        frame,
+        at,
+        index,
+        flags,
+        rect,
+        bounds,
+        ring,
+        a,
+        b,
+        order,
+        out,
+        to,
+    );
+    list_part(answer, index, out, before)
+}
+
+// Lists the parts of a multipolygon from the header's end on.
+fn list_parts(
+    frame: &[u8],
+    parts: usize,
+    flags: Flags,
+    bounds: TileBounds,
+    ring: &mut [f64],
+    a: &mut [f64],
+    b: &mut [f64],
+    order: &mut [u32],
+    out: &mut [u8],
+) -> Listing
+    requires { ⌜ S.PartsRoom (now frame) F.headBytes parts (length (now ring)) (length (now a)) (length (now b)) (length (now order)) (length (now out)) 5 × (parts ≤ F.mostParts) ⌝ }
+    ensures { λ r. ⌜ S.Lists (Answers.listParts flags bounds 0 (S.partsFrom (now (frame .entry)) F.headBytes parts)) (record { guard = 0; parts = 0; next = 5 }) (now (out .entry)) r (now (out .exit)) ⌝ }
+{
+    let mut listing = Listing {
+        guard: 0,
+        parts: 0,
+        next: LEAST_ROOM,
+    };
+    let mut at = HEAD;
+    let mut i = 0usize;
+    while i < parts {
+        let measured = part_rect(frame, at, Rect::Nothing);
+        let rect = measured.rect;
+        listing = add_part(
+            frame,
+            at,
+            i,
+            flags,
+            rect,
+            bounds,
+            ring,
+            a,
+            b,
+            order,
+            out,
+            listing,
+        );
+        at = measured.next;
+        i += 1;
+    }
+    listing
+}
+
+// Writes the header before what is listed, and answers how many bytes the answer has.
+fn finish(listing: Listing, out: &mut [u8]) -> usize
+    requires { ⌜ 5 ≤ length (now out) ⌝ }
+    ensures { λ r. ⌜ (r ≡ S.finishedLength listing) × (now (out .exit) ≡ sets (now (out .entry)) 0 (S.finishedHeader listing)) ⌝ }
+{
+    if listing.parts == 0 {
+        put_header(out, 0, listing.guard, 0);
+        return LEAST_ROOM;
+    }
+    put_header(out, 3, listing.guard, listing.parts);
+    listing.next
+}
+
+// The answer to a multipolygon that is neither apart nor inside as a whole.
+pub fn answer_parts(
+    frame: &[u8],
+    parts: usize,
+    flags: Flags,
+    bounds: TileBounds,
+    ring: &mut [f64],
+    a: &mut [f64],
+    b: &mut [f64],
+    order: &mut [u32],
+    out: &mut [u8],
+) -> usize
+    requires { ⌜ S.PartsRoom (now frame) F.headBytes parts (length (now ring)) (length (now a)) (length (now b)) (length (now order)) (length (now out)) 5 × (parts ≤ F.mostParts) ⌝ }
+    ensures { λ r. ⌜ S.Answers (S.ofListing (Answers.listParts flags bounds 0 (S.partsFrom (now (frame .entry)) F.headBytes parts))) (now (out .entry)) r (now (out .exit)) ⌝ }
+{
+    let listing = list_parts(frame, parts, flags, bounds, ring, a, b, order, out);
+    finish(listing, out)
+}
+
+// Writes an answer that lists nothing.
+pub fn put_alone(out: &mut [u8], number: u8, guard: usize) -> usize
+    requires { ⌜ 5 ≤ length (now out) ⌝ }
+    ensures { λ r. ⌜ (r ≡ 5) × (now (out .exit) ≡ sets (now (out .entry)) 0 (E.headerBytes number guard 0)) ⌝ }
+{
+    put_header(out, number, guard, 0);
+    LEAST_ROOM
+}
+
+// The answer to a polygon whose rectangle is four numbers.
+pub fn answer_polygon(
+    frame: &[u8],
+    flags: Flags,
+    rect: Rect,
+    bounds: TileBounds,
+    ring: &mut [f64],
+    a: &mut [f64],
+    b: &mut [f64],
+    order: &mut [u32],
+    out: &mut [u8],
+) -> usize
+    requires { ⌜ Q.PartRoom (now frame) F.headBytes (length (now ring)) (length (now a)) (length (now b)) (length (now order)) (length (now out)) 5 ⌝ }
+    ensures { λ r. ⌜ S.Answers (Answers.ofPolygon (P.routeMeasured flags rect bounds (Q.partAt (now (frame .entry)) F.headBytes))) (now (out .entry)) r (now (out .exit)) ⌝ }
+{
+    match route_part(
+        frame,
+        HEAD,
+        0,
+        flags,
+        rect,
+        bounds,
+        ring,
+        a,
+        b,
+        order,
+        out,
+        LEAST_ROOM,
+    ) {
+        PartAnswer::Nothing => put_alone(out, 0, 0),
+        PartAnswer::Dropped => put_alone(out, 1, 1),
+        PartAnswer::Unchanged => put_alone(out, 2, 0),
+        PartAnswer::Listed(next) => {
+            put_header(out, 3, 0, 1);
+            next
+        }
+    }
+}
