@@ -1,0 +1,4 @@
+pub mod Hexadecimal
+pub mod Kept
+pub mod Running
+pub mod Values
