@@ -64,7 +64,8 @@ stateOf (Lines.Whole n) kept = whole (take n kept)
 stateOf (Lines.Half n high) kept = half (take n kept) (high % 16)
 stateOf (Lines.Long odd) kept = long odd
 
--- Reading on in a block, from one place to another, within a line: whatever follows the block, what is to be printed from there on stays the same.
-pub record Reads (block : List ℕ) (from : ℕ) (st : State) (to : ℕ) (st′ : State) : Type 0 where
+-- Reading on in a block, from one place to another, with this written: whatever follows the block, what was to be printed is what was written and what is
+-- to be printed now. So blocks of any sizes, read one behind the other, print what the whole input prints.
+pub record Reads (block : List ℕ) (from : ℕ) (st : State) (to : ℕ) (written : List ℕ) (st′ : State) : Type 0 where
   pub within : to ≤ length block
-  pub same : (rest : List ℕ) → printedFrom st (drop from block ++ rest) ≡ printedFrom st′ (drop to block ++ rest)
+  pub same : (rest : List ℕ) → printedFrom st (drop from block ++ rest) ≡ written ++ printedFrom st′ (drop to block ++ rest)

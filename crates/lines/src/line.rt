@@ -1,5 +1,6 @@
 // A line of hexadecimal digits, taken character by character: a line of any length, of which the bytes of the longest frame are kept.
 ghost use mathlib.Core.Path.{_≡_};
+ghost use mathlib.Core.List.{[]};
 ghost use Prim.Native.Nat.{_<_, _≤_};
 ghost use lib.ListN.{length, getD, take};
 ghost use Rattle.frames.specs.Frame.{longest};
@@ -60,7 +61,7 @@ pub struct Pairs {
 // Takes pairs of digits from the front of a block, as long as there are any and a byte more is kept: nearly every line is such pairs.
 fn take_pairs(block: &[u8], bytes: usize, kept: &mut [u8]) -> Pairs
     requires { ⌜ length (now kept) ≡ longest ⌝ }
-    ensures { λ r. ⌜ T.Reads (now (block .entry)) 0 (T.whole (take bytes (now (kept .entry)))) (r .at) (T.whole (take (r .bytes) (now (kept .exit)))) ⌝ }
+    ensures { λ r. ⌜ T.Reads (now (block .entry)) 0 (T.whole (take bytes (now (kept .entry)))) (r .at) [] (T.whole (take (r .bytes) (now (kept .exit)))) ⌝ }
 {
     let mut n = bytes;
     let mut at = 0usize;
@@ -92,7 +93,7 @@ pub struct Place {
 // Takes characters from a place of a block on, to the next newline or to the block's end.
 fn take_chars(block: &[u8], from: usize, line: Line, kept: &mut [u8]) -> Place
     requires { ⌜ (from ≤ length (now block)) × (length (now kept) ≡ longest) ⌝ }
-    ensures { λ r. ⌜ (T.Reads (now (block .entry)) from (T.stateOf line (now (kept .entry))) (r .at) (T.stateOf (r .line) (now (kept .exit))))
+    ensures { λ r. ⌜ (T.Reads (now (block .entry)) from (T.stateOf line (now (kept .entry))) (r .at) [] (T.stateOf (r .line) (now (kept .exit))))
         × (r .at < length (now (block .entry)) → getD (now (block .entry)) (r .at) 0 ≡ S.newline) ⌝ }
 {
     let mut reached = line;
@@ -111,7 +112,7 @@ fn take_chars(block: &[u8], from: usize, line: Line, kept: &mut [u8]) -> Place
 // Takes a block's characters to its first newline or to its end.
 pub fn take_line(block: &[u8], line: Line, kept: &mut [u8]) -> Place
     requires { ⌜ length (now kept) ≡ longest ⌝ }
-    ensures { λ r. ⌜ (T.Reads (now (block .entry)) 0 (T.stateOf line (now (kept .entry))) (r .at) (T.stateOf (r .line) (now (kept .exit))))
+    ensures { λ r. ⌜ (T.Reads (now (block .entry)) 0 (T.stateOf line (now (kept .entry))) (r .at) [] (T.stateOf (r .line) (now (kept .exit))))
         × (r .at < length (now (block .entry)) → getD (now (block .entry)) (r .at) 0 ≡ S.newline) ⌝ }
 {
     if let Line::Whole(bytes) = line {

@@ -1,5 +1,6 @@
 -- `take_chars` meets its contract. The invariant: what is to be printed from here on is what was to be printed. Assumes nothing.
 use mathlib.Core.Path.{_≡_}
+use mathlib.Core.List.{[]}
 use Prim.Native.Nat.{_-_}
 use native.Mathlib.Omega.{arith}
 use denote.Ref.{now}
@@ -12,7 +13,7 @@ use Rattle.lines.proofs.line.take_chars.Statement.{statement}
 use Rattle.lines.proofs.line.take_chars.Tie as tie
 
 abbrev Inv-loop : tie.InvT-loop
-Inv-loop block from kept₀ reached₀ at₀ kept reached at = (length kept ≡ longest) × Reads block from (stateOf reached₀ kept₀) at (stateOf reached kept)
+Inv-loop block from kept₀ reached₀ at₀ kept reached at = (length kept ≡ longest) × Reads block from (stateOf reached₀ kept₀) at [] (stateOf reached kept)
 
 abbrev μ-loop : tie.MeasureT-loop
 μ-loop block from kept₀ reached₀ at₀ kept reached at = length block - at

@@ -1,5 +1,6 @@
 -- `take_pairs` meets its contract. The invariant: what is to be printed from here on is what was to be printed. Assumes nothing.
 use mathlib.Core.Path.{_≡_}
+use mathlib.Core.List.{[]}
 use Prim.Native.Nat.{_+_, _-_, _<_}
 use native.Mathlib.Omega.{arith}
 use denote.Ref.{now}
@@ -13,7 +14,7 @@ use Rattle.lines.proofs.line.take_pairs.Statement.{statement}
 use Rattle.lines.proofs.line.take_pairs.Tie as tie
 
 abbrev Inv-loop : tie.InvT-loop
-Inv-loop block bytes kept₀ n₀ at₀ kept n at = (length kept ≡ longest) × Reads block 0 (whole (take bytes kept₀)) at (whole (take n kept))
+Inv-loop block bytes kept₀ n₀ at₀ kept n at = (length kept ≡ longest) × Reads block 0 (whole (take bytes kept₀)) at [] (whole (take n kept))
 
 abbrev μ-loop : tie.MeasureT-loop
 μ-loop block bytes kept₀ n₀ at₀ kept n at = length block - at
