@@ -4,5 +4,5 @@ pub mod Kept
 pub mod Longest
 pub mod Printed
 pub mod Running
+pub mod Table
 pub mod TenTimes
-pub mod Values

@@ -1,48 +1,27 @@
--- `digit_of` meets its contract. Assumes nothing.
-use mathlib.Core.Path.{sym}
-use native.Mathlib.Omega.{arith}
+-- `digit_of` meets its contract: the table's rule is a test at each of its entries, which is computed. Assumes nothing.
+use mathlib.Core.List.{List, [], _∷_}
+use mathlib.Core.Bool.{Bool}
+use Prim.Native.Nat.{ℕ}
+use lib.Dec.{eqb, eqb→eq}
+use lib.ListN.{getD}
 use borrow.Author.Needs.{needs}
-use Rattle.lines.proofs.Values.{decimal-digit, upper-digit, lower-digit, below-digits, before-upper, before-lower, past-digits}
+use Rattle.lines.specs.Lines.{digit}
+use Rattle.lines.proofs.Table.{at}
 use Rattle.lines.proofs.digits.digit_of.Statement.{statement}
 use Rattle.lines.proofs.digits.digit_of.Tie as tie
 
+values : List ℕ
+values = 16 ∷ 16 ∷ 16 ∷ 16 ∷ 16 ∷ 16 ∷ 16 ∷ 16 ∷ 16 ∷ 16 ∷ 16 ∷ 16 ∷ 16 ∷ 16 ∷ 16 ∷ 16 ∷ 16 ∷ 16 ∷ 16 ∷ 16 ∷ 16 ∷ 16 ∷ 16 ∷ 16 ∷ 16 ∷ 16 ∷ 16 ∷ 16 ∷ 16 ∷ 16 ∷ 16 ∷ 16 ∷ 16 ∷ 16 ∷ 16 ∷ 16 ∷ 16 ∷ 16 ∷ 16 ∷ 16 ∷ 16 ∷ 16 ∷ 16 ∷ 16 ∷ 16 ∷ 16 ∷ 16 ∷ 16 ∷ 0 ∷ 1 ∷ 2 ∷ 3 ∷ 4 ∷ 5 ∷ 6 ∷ 7 ∷ 8 ∷ 9 ∷ 16 ∷ 16 ∷ 16 ∷ 16 ∷ 16 ∷ 16 ∷ 16 ∷ 10 ∷ 11 ∷ 12 ∷ 13 ∷ 14 ∷ 15 ∷ 16 ∷ 16 ∷ 16 ∷ 16 ∷ 16 ∷ 16 ∷ 16 ∷ 16 ∷ 16 ∷ 16 ∷ 16 ∷ 16 ∷ 16 ∷ 16 ∷ 16 ∷ 16 ∷ 16 ∷ 16 ∷ 16 ∷ 16 ∷ 16 ∷ 16 ∷ 16 ∷ 16 ∷ 16 ∷ 16 ∷ 10 ∷ 11 ∷ 12 ∷ 13 ∷ 14 ∷ 15 ∷ 16 ∷ 16 ∷ 16 ∷ 16 ∷ 16 ∷ 16 ∷ 16 ∷ 16 ∷ 16 ∷ 16 ∷ 16 ∷ 16 ∷ 16 ∷ 16 ∷ 16 ∷ 16 ∷ 16 ∷ 16 ∷ 16 ∷ 16 ∷ 16 ∷ 16 ∷ 16 ∷ 16 ∷ 16 ∷ 16 ∷ 16 ∷ 16 ∷ 16 ∷ 16 ∷ 16 ∷ 16 ∷ 16 ∷ 16 ∷ 16 ∷ 16 ∷ 16 ∷ 16 ∷ 16 ∷ 16 ∷ 16 ∷ 16 ∷ 16 ∷ 16 ∷ 16 ∷ 16 ∷ 16 ∷ 16 ∷ 16 ∷ 16 ∷ 16 ∷ 16 ∷ 16 ∷ 16 ∷ 16 ∷ 16 ∷ 16 ∷ 16 ∷ 16 ∷ 16 ∷ 16 ∷ 16 ∷ 16 ∷ 16 ∷ 16 ∷ 16 ∷ 16 ∷ 16 ∷ 16 ∷ 16 ∷ 16 ∷ 16 ∷ 16 ∷ 16 ∷ 16 ∷ 16 ∷ 16 ∷ 16 ∷ 16 ∷ 16 ∷ 16 ∷ 16 ∷ 16 ∷ 16 ∷ 16 ∷ 16 ∷ 16 ∷ 16 ∷ 16 ∷ 16 ∷ 16 ∷ 16 ∷ 16 ∷ 16 ∷ 16 ∷ 16 ∷ 16 ∷ 16 ∷ 16 ∷ 16 ∷ 16 ∷ 16 ∷ 16 ∷ 16 ∷ 16 ∷ 16 ∷ 16 ∷ 16 ∷ 16 ∷ 16 ∷ 16 ∷ 16 ∷ 16 ∷ 16 ∷ 16 ∷ 16 ∷ 16 ∷ 16 ∷ 16 ∷ 16 ∷ 16 ∷ 16 ∷ 16 ∷ 16 ∷ 16 ∷ 16 ∷ 16 ∷ 16 ∷ 16 ∷ 16 ∷ 16 ∷ 16 ∷ 16 ∷ 16 ∷ 16 ∷ 16 ∷ 16 ∷ 16 ∷ 16 ∷ 16 ∷ 16 ∷ 16 ∷ 16 ∷ 16 ∷ 16 ∷ 16 ∷ 16 ∷ 16 ∷ 16 ∷ 16 ∷ 16 ∷ 16 ∷ 16 ∷ []
+
+right : ℕ → ℕ → Bool
+right k x = eqb x (digit k)
+
+array-read-result : tie.Need-array-read-result
+array-read-result c = search needs
+
 returns : tie.Need-returns
-returns c = sym (below-digits (c .before .args .b) (omega arith))
-
-returns-2 : tie.Need-returns-2
-returns-2 c = sym (decimal-digit (c .before .before .args .b) (omega arith) (omega arith))
-
-returns-3 : tie.Need-returns-3
-returns-3 c = sym (before-upper (c .before .before .before .args .b) (omega arith) (omega arith))
-
-add-result : tie.Need-add-result
-add-result c = search needs
-
-returns-4 : tie.Need-returns-4
-returns-4 c = omega (arith, upper-digit (c .before .before .before .before .args .b) (omega arith) (omega arith))
-
-returns-5 : tie.Need-returns-5
-returns-5 c = sym (before-lower (c .before .before .before .before .before .args .b) (omega arith) (omega arith))
-
-add-result-2 : tie.Need-add-result-2
-add-result-2 c = search needs
-
-returns-6 : tie.Need-returns-6
-returns-6 c = omega (arith, lower-digit (c .before .before .before .before .before .before .args .b) (omega arith) (omega arith))
-
-returns-7 : tie.Need-returns-7
-returns-7 c = sym (past-digits (c .before .before .before .before .before .before .args .b) (omega arith))
+unfolding values right digit
+returns c = eqb→eq (getD values (c .args .b) 0) (digit (c .args .b)) (at right values tt (c .args .b) (search needs))
 
 pub digit-of-spec : {M : Type 1} → statement M
-digit-of-spec =
-    tie.close
-    (tie.spec
-    returns
-    returns-2
-    returns-3
-    add-result
-    returns-4
-    returns-5
-    add-result-2
-    returns-6
-    returns-7)
+digit-of-spec = tie.close (tie.spec array-read-result returns)
