@@ -1,0 +1,3 @@
+// Lines of hexadecimal digits: what they stand for, read in blocks of any sizes, and answers as lines.
+pub mod digits;
+pub mod line;
