@@ -1,83 +1,58 @@
 /*
- * Cuts one polygon by the frame call and prints the rings that are left of it: a rectangle that crosses the east bound of the
- * tile 0, 0, 10, 10. In the repository's root, with the library built by `rt staticlib ringcut_calls`:
+ * Cuts one polygon and prints the rings that are left of it: a rectangle that crosses the east bound of the tile 0, 0, 10, 10,
+ * with a hole that crosses it too. In the repository's root, with the library built by `rt staticlib ringcut_calls`:
  *
  *   cc -std=c11 -Wall -Wextra -I include examples/c/ringcut.c target/staticlib/libringcut_calls.a -o target/ringcut-in-c
  *   target/ringcut-in-c
+ *
+ * It prints the exterior and the hole:
+ *
+ *   (5,5)(10,5)(10,8)(5,8)(5,5)
+ *   (6,6)(10,6)(10,7)(6,7)(6,6)
  */
 
 #include <inttypes.h>
 #include <stdio.h>
-#include <string.h>
 
 #include "ringcut.h"
 
-/* The library is for x86-64, so a number in memory already has a frame's byte order. */
-static size_t put(uint8_t *bytes, size_t at, const void *value, size_t size)
-{
-    memcpy(bytes + at, value, size);
-    return at + size;
-}
+#define COUNT(array) (sizeof(array) / sizeof *(array))
 
-static uint16_t count_at(const uint8_t *bytes, size_t at)
-{
-    uint16_t count;
-    memcpy(&count, bytes + at, sizeof count);
-    return count;
-}
-
-/* Writes the frame of a polygon of one ring and tells its length. */
-static size_t put_polygon(uint8_t *frame, uint8_t flags, const double bounds_and_buffer[5], const double *ring,
-                          uint16_t coordinates)
-{
-    const uint8_t polygon = 3;
-    const uint16_t one = 1;
-    size_t len = 0;
-    len = put(frame, len, &polygon, sizeof polygon);
-    len = put(frame, len, &flags, sizeof flags);
-    len = put(frame, len, bounds_and_buffer, 5 * sizeof *bounds_and_buffer);
-    len = put(frame, len, &one, sizeof one); /* part */
-    len = put(frame, len, &one, sizeof one); /* ring */
-    len = put(frame, len, &coordinates, sizeof coordinates);
-    return put(frame, len, ring, 2 * coordinates * sizeof *ring);
-}
-
-/* Prints the rings of a cut part, whose ring count stands at that place. */
-static void print_rings(const uint8_t *answer, size_t at)
-{
-    uint16_t rings = count_at(answer, at);
-    at += 2;
-    while (rings-- > 0) {
-        uint16_t coordinates = count_at(answer, at);
-        at += 2;
-        while (coordinates-- > 0) {
-            double coordinate[2];
-            memcpy(coordinate, answer + at, sizeof coordinate);
-            at += sizeof coordinate;
-            printf("(%g,%g)", coordinate[0], coordinate[1]);
-        }
-        printf("\n");
-    }
-}
+enum {
+    RINGS = 2,
+    COORDINATES = 5, /* of each ring, the closing one counted */
+    ROOM = RINGCUT_ROOM(COORDINATES)
+};
 
 int main(void)
 {
-    static const double bounds_and_buffer[5] = {0, 0, 10, 10, 0};
-    static const double ring[] = {5, 5, 15, 5, 15, 8, 5, 8, 5, 5};
-    static uint8_t frame[5120], answer[RINGCUT_MOST_FRAME_OUTPUT];
-    const uint8_t both_flags = 3;
+    static const double coords[] = {
+        5, 5, 15, 5, 15, 8, 5, 8, 5, 5, /* exterior */
+        6, 6, 12, 6, 12, 7, 6, 7, 6, 6  /* hole */
+    };
+    static const uint32_t lengths[RINGS] = {COORDINATES, COORDINATES};
+    double scratch_a[2 * ROOM], scratch_b[2 * ROOM], out[2 * RINGS * ROOM];
+    uint32_t order[ROOM], out_lengths[RINGS];
+    const uint8_t assume_simple = 1, skip_boundary_fallback = 1;
 
-    size_t frame_len = put_polygon(frame, both_flags, bounds_and_buffer, ring, sizeof ring / (2 * sizeof *ring));
-    int64_t answer_len = ringcut_frame(frame, frame_len, answer, sizeof answer);
-    if (answer_len < 0) {
-        fprintf(stderr, "refused: %" PRId64 "\n", -answer_len);
+    int64_t code = ringcut_polygon(assume_simple, skip_boundary_fallback, 0, 0, 10, 10, 0, coords, COUNT(coords), lengths,
+                                   COUNT(lengths), scratch_a, COUNT(scratch_a), scratch_b, COUNT(scratch_b), order,
+                                   COUNT(order), out, COUNT(out), out_lengths, COUNT(out_lengths));
+    if (code < 0) {
+        fprintf(stderr, "refused: %" PRId64 "\n", -code);
         return 1;
     }
-    /* Five bytes of the whole; then of the one part its index (2 bytes), what became of it, a reason, and its rings. */
-    if (answer[0] != 3 || answer[7] != RINGCUT_CUT) {
+    if (code % 256 != RINGCUT_CUT) {
         fprintf(stderr, "not cut\n");
         return 1;
     }
-    print_rings(answer, 9);
+    const double *coordinate = out;
+    for (int64_t ring = 0; ring < code / 65536; ring++) {
+        for (uint32_t n = 0; n < out_lengths[ring]; n++) {
+            printf("(%g,%g)", coordinate[0], coordinate[1]);
+            coordinate += 2;
+        }
+        printf("\n");
+    }
     return 0;
 }

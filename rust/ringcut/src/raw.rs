@@ -1,4 +1,4 @@
-//! The three calls with the numbers that cross: flags as bytes, answers as codes. They are as safe as those of the crate's
+//! The calls with the numbers that cross: flags as bytes, answers as codes. They are as safe as those of the crate's
 //! root, which read these codes; this module is for comparing the codes themselves. `include/ringcut.h` says what each is.
 
 use crate::{Bounds, PolygonBuffers, RingBuffers};
@@ -6,6 +6,7 @@ use crate::{Bounds, PolygonBuffers, RingBuffers};
 /// The library's own names. A slice crosses as a pointer and a length, in that order.
 mod exported {
     extern "C" {
+        #[cfg(feature = "frame")]
         pub fn ringcut_frame(frame: *const u8, frame_len: usize, out: *mut u8, out_len: usize) -> i64;
 
         pub fn ringcut_ring(
@@ -50,6 +51,7 @@ mod exported {
 }
 
 /// The bytes of the answer, or minus the refusal.
+#[cfg(feature = "frame")]
 #[inline]
 pub fn frame(frame: &[u8], out: &mut [u8]) -> i64 {
     // SAFETY: each pointer and length is that of a slice borrowed for the call, and the call asks nothing else.

@@ -8,12 +8,14 @@ use core::fmt::{self, Display, Formatter};
 /// A frame call gives 11 to 18 and 22, a slice call and a ring call 19 to 22.
 ///
 /// ```
-/// use ringcut::{cut_frame, Refusal};
+/// use ringcut::{cut_ring, Bounds, Refusal, RingBuffers};
 ///
-/// let refusal = cut_frame(&[3], &mut [0; 5]).unwrap_err();
-/// assert_eq!(refusal, Refusal::Size);
-/// assert_eq!(refusal.number(), 11);
-/// assert_eq!(refusal.to_string(), "refusal 11: the frame has under 44 or over 5,120 bytes");
+/// let bounds = Bounds { west: 0.0, south: 0.0, east: 10.0, north: 10.0 };
+/// let lent = RingBuffers { scratch_a: &mut [], scratch_b: &mut [], out: &mut [] };
+/// let refusal = cut_ring(&[5.0, 5.0], bounds, lent).unwrap_err();
+/// assert_eq!(refusal, Refusal::Scratch);
+/// assert_eq!(refusal.number(), 21);
+/// assert_eq!(refusal.to_string(), "refusal 21: a scratch slice or the order slice is too short");
 /// ```
 #[derive(Clone, Copy, Debug, PartialEq, Eq, Hash)]
 pub enum Refusal {
