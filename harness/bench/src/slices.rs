@@ -8,7 +8,7 @@ use std::hint::black_box;
 use formats::room::most_cut;
 use geo::{Coord, LineString, Polygon};
 use i_overlay::record::take_calls;
-use port::calls::{self, Flags, Lent};
+use port::calls::{self, Flags, PolygonBuffers};
 use tylertoo::clip::opened::clip_polygon;
 use tylertoo::diagnostics::Diagnostics;
 use tylertoo::ioverlay_clip::clip_polygon_ioverlay;
@@ -59,7 +59,7 @@ impl Slices {
     }
 
     fn call(&mut self, flags: Flags, ring: &[f64]) -> i64 {
-        let lent = Lent {
+        let lent = PolygonBuffers {
             scratch_a: &mut self.scratch_a,
             scratch_b: &mut self.scratch_b,
             order: &mut self.order,

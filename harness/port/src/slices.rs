@@ -6,7 +6,7 @@ use compare::frames::refusal_label;
 use formats::calls::{SliceAfter, SliceAnswer, SliceCall};
 use formats::Refusal;
 
-use crate::calls::{self, Flags, Lent};
+use crate::calls::{self, Flags, PolygonBuffers};
 
 /// Numbers that set a flag: any but 0.
 const SET: [u8; 4] = [1, 2, 128, 255];
@@ -37,7 +37,7 @@ pub fn answer(call: &SliceCall, set: u8) -> SliceAfter {
     let flags =
         Flags { assume_simple: flag(call.assume_simple), skip_boundary_fallback: flag(call.skip_boundary_fallback) };
     let mut after = call.after(&Err(0));
-    let lent = Lent {
+    let lent = PolygonBuffers {
         scratch_a: &mut after.scratch_a,
         scratch_b: &mut after.scratch_b,
         order: &mut after.order,

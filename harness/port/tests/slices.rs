@@ -297,7 +297,7 @@ fn any_number_but_0_sets_a_flag() {
     let answer = |call: &SliceCall, assume_simple: u8, skip_boundary_fallback: u8| {
         let flags = calls::Flags { assume_simple, skip_boundary_fallback };
         let mut after = call.clone();
-        let lent = calls::Lent {
+        let lent = calls::PolygonBuffers {
             scratch_a: &mut after.scratch_a,
             scratch_b: &mut after.scratch_b,
             order: &mut after.order,

@@ -1,0 +1,76 @@
+//! The safe calls of crate `ringcut` against the Rust, on fewer calls than the codes that they read: the answer and every lent
+//! number.
+
+use std::fmt::Display;
+
+use compare::calls::styles;
+use compare::campaign::{self, Campaign, Checked};
+use formats::calls::{RingCall, SliceCall};
+use port::calls::named;
+use ringcut::{cut_polygon, cut_ring, Answer, Flags, PolygonBuffers, Refusal, RingBuffers};
+
+const SEED: u64 = 3;
+const COUNT: u64 = 1_000;
+
+fn refusal_code(refusal: Refusal) -> i64 {
+    -i64::from(refusal.number())
+}
+
+fn answer_code(answer: Answer) -> i64 {
+    match answer {
+        Answer::Nothing => 0,
+        Answer::Dropped => 1,
+        Answer::Unchanged => 2,
+        Answer::Cut { rings } => 4 + 65_536 * rings as i64,
+        Answer::Overlay(reason) => 5 + 256 * i64::from(reason.number()),
+    }
+}
+
+fn verdict(call: &impl Display, difference: Option<String>) -> Checked {
+    difference.map_or(Ok("same"), |difference| Err(format!("{call}: {difference}")))
+}
+
+fn check_ring(call: &RingCall) -> Checked {
+    let mut after = call.after(&Err(0));
+    let lent = RingBuffers { scratch_a: &mut after.scratch_a, scratch_b: &mut after.scratch_b, out: &mut after.out };
+    after.answer = cut_ring(&call.ring, named(&call.bounds), lent).map_or_else(refusal_code, |count| count as i64);
+    verdict(call, after.difference(&call.after(&oracle::ring_call(call))))
+}
+
+fn check_slice(call: &SliceCall) -> Checked {
+    let &SliceCall { assume_simple, skip_boundary_fallback, ref bounds, buffer, .. } = call;
+    let mut after = call.after(&Err(0));
+    let lent = PolygonBuffers {
+        scratch_a: &mut after.scratch_a,
+        scratch_b: &mut after.scratch_b,
+        order: &mut after.order,
+        out: &mut after.out,
+        out_lengths: &mut after.out_lengths,
+    };
+    let flags = Flags { assume_simple, skip_boundary_fallback };
+    let answered = cut_polygon(flags, named(bounds), buffer, &call.coords, &call.lengths, lent);
+    after.answer = answered.map_or_else(refusal_code, answer_code);
+    let guard_count = answered.map_or(0, Answer::guard_count);
+    assert_eq!(guard_count, u16::from(after.answer == 1));
+    verdict(call, after.difference(&call.after(&oracle::slice_call(call))))
+}
+
+fn all_agree(campaign: &Campaign) {
+    println!("{campaign}");
+    assert_eq!(campaign.difference(), None);
+    assert_eq!(campaign.agreed(), styles().len() as u64 * COUNT);
+}
+
+#[test]
+fn safe_ring_calls_agree() {
+    all_agree(&campaign::run("safe ring calls", SEED, COUNT, &styles(), |style, index| {
+        check_ring(&generator::ring_call(style, SEED, index))
+    }));
+}
+
+#[test]
+fn safe_slice_calls_agree() {
+    all_agree(&campaign::run("safe slice calls", SEED, COUNT, &styles(), |style, index| {
+        check_slice(&generator::slice_call(style, SEED, index))
+    }));
+}

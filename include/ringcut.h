@@ -1,0 +1,115 @@
+/*
+ * The C interface of the static library libringcut_calls.a, which cuts licence areas to a map tile. It is for x86-64 programs,
+ * and needs no other library: of C's own it uses functions such as memset.
+ *
+ * What every call answers. A count or a code from 0 up, or minus the number of a refusal:
+ *
+ *   11  a frame under 44 or over 5,120 bytes
+ *   12  a kind that is neither 3 nor 6
+ *   13  flags over 3
+ *   14  over 256 parts, or kind 3 with not one part
+ *   15  a frame that ends before a count or a coordinate is whole
+ *   16  a part with no ring or over 64
+ *   17  a ring of a frame with over 4,096 coordinates
+ *   18  bytes behind the last part
+ *   19  no ring, over 64 rings, or numbers that are not two for each coordinate
+ *   20  over 65,536 coordinates
+ *   21  a scratch or order slice too short
+ *   22  an output or a slice for lengths too short
+ *
+ * A frame call gives 11 to 18 and 22, the others 19 to 22: the first that holds in this order, 15 to 17 as a walk from the
+ * frame's front meets them. A refused call has changed nothing. One that is not refused fills scratch and order slices with
+ * zeros, from end to end, and leaves output and lengths past its answer as they were.
+ *
+ * What every call asks. A slice is a pointer and a length, counted in values of the pointer's type. The pointer is not null
+ * and is aligned for its type, also where the length is 0 (any address of that type will do); that many values behind it can
+ * be read, and, if they are not const, written. A slice that is not const shares no byte with another slice of the call.
+ * Nothing else: bounds, buffer and coordinates may be any numbers, NaN and infinities too. Calls keep nothing between them,
+ * so several may run at once.
+ */
+
+#ifndef RINGCUT_H
+#define RINGCUT_H
+
+#include <stddef.h>
+#include <stdint.h>
+
+#ifdef __cplusplus
+extern "C" {
+#endif
+
+/* The room, in coordinates, that a ring of n coordinates asks for: n grown by half, rounded down, four times, plus 2. A
+ * constant if n is one. A coordinate is two numbers. */
+#define RINGCUT_HALF_GROWTH(n) ((n) + (n) / 2)
+#define RINGCUT_ROOM(n) \
+    ((n) == 0 ? 0 : RINGCUT_HALF_GROWTH(RINGCUT_HALF_GROWTH(RINGCUT_HALF_GROWTH(RINGCUT_HALF_GROWTH(n)))) + 2)
+
+/* The library does not export the frame call yet, and a program that calls it does not link: define RINGCUT_FRAME only for a
+ * library that has it. */
+#ifdef RINGCUT_FRAME
+
+/* The bytes of output that are enough for every frame. */
+#define RINGCUT_MOST_FRAME_OUTPUT 50077
+
+/*
+ * Cuts a polygon or a multipolygon. Answers how many bytes of out the answer takes.
+ *
+ * A frame, numbers little-endian: kind, 1 byte (3 polygon, 6 multipolygon); flags, 1 byte (1 assume_simple,
+ * 2 skip_boundary_fallback, summed); west, south, east, north and buffer, 8 bytes each; part count, 2 bytes. Each part: ring
+ * count, 2 bytes, exterior first. Each ring: coordinate count, 2 bytes; x and y of each, 8 bytes each.
+ *
+ * An answer: 1 byte (0 nothing, 1 whole dropped, 2 whole unchanged, 3 listed); guard count, 2 bytes; number of listed parts,
+ * 2 bytes. Each listed part: index from 0, 2 bytes; 1 byte (2 unchanged, 4 cut, 5 overlay); an overlay's reason or 0, 1 byte;
+ * if cut, ring count and rings as in a frame. NaN is written with bits 7ff8000000000000.
+ *
+ * out needs 5 bytes and, for each part, 6, 2 for each ring and 16 * RINGCUT_ROOM of its coordinates. A ring whose last
+ * coordinate doesn't equal its first is closed, which makes one more; a NaN equals nothing. The call keeps up to 100 KiB on
+ * the stack.
+ */
+int64_t ringcut_frame(const uint8_t *frame, size_t frame_len, uint8_t *out, size_t out_len);
+
+#endif
+
+/*
+ * Cuts one ring of x, y numbers, closed or not, to four bounds used as given. Answers how many coordinates of out the cut ring
+ * takes: none, or at least three, the closing one counted. For a ring of n coordinates, not closed beforehand, each of the
+ * other slices needs 2 * RINGCUT_ROOM(n) numbers. Which bits a NaN in out has is open.
+ */
+int64_t ringcut_ring(const double *ring, size_t ring_len, double west, double south, double east, double north,
+                     double *scratch_a, size_t scratch_a_len, double *scratch_b, size_t scratch_b_len, double *out,
+                     size_t out_len);
+
+/* What becomes of a polygon: the lowest 8 bits of a slice call's code. */
+enum ringcut_answer {
+    RINGCUT_NOTHING = 0,   /* nothing of it is in the bounds */
+    RINGCUT_DROPPED = 1,   /* it can't be cut; counts as one guard drop */
+    RINGCUT_UNCHANGED = 2, /* it lies inside the bounds as it is */
+    RINGCUT_CUT = 4,       /* its rings stand at the front of out, their lengths at the front of out_lengths */
+    RINGCUT_OVERLAY = 5    /* a cut would not do: it is for the host's overlay */
+};
+
+/*
+ * Cuts one polygon, its rings one behind the other in coords as x, y numbers, exterior first, and their lengths in coordinates
+ * in lengths. Any number but 0 sets a flag. The bounds are widened by buffer on each side. Answers
+ *
+ *   a ringcut_answer
+ *   + 256 * the reason of an overlay: 1 an issue of the exterior, 2 an issue of the cut exterior, 3 to 6 an edge of the cut
+ *     exterior along the left, right, bottom or top bound
+ *   + 65536 * the count of a cut's rings.
+ *
+ * Only a cut writes out and out_lengths. A ring whose last coordinate doesn't equal its first is closed, and the closing one
+ * counts in what follows and in 20. With S the largest RINGCUT_ROOM of its rings: each scratch slice needs 2 * S numbers,
+ * order S, out 2 * the sum of RINGCUT_ROOM over the rings, and out_lengths as many as there are rings. Which bits a NaN in out
+ * has is open.
+ */
+int64_t ringcut_polygon(uint8_t assume_simple, uint8_t skip_boundary_fallback, double west, double south, double east,
+                        double north, double buffer, const double *coords, size_t coords_len, const uint32_t *lengths,
+                        size_t lengths_len, double *scratch_a, size_t scratch_a_len, double *scratch_b,
+                        size_t scratch_b_len, uint32_t *order, size_t order_len, double *out, size_t out_len,
+                        uint32_t *out_lengths, size_t out_lengths_len);
+
+#ifdef __cplusplus
+}
+#endif
+
+#endif

@@ -1,0 +1,213 @@
+//! Cuts licence areas to a map tile: safe calls of a static library in which every function is proved to meet its contract.
+//! No heap, no allocation: the caller lends every buffer.
+//!
+//! - [`cut_polygon`] takes one polygon as numbers.
+//! - [`cut_ring`] cuts one ring, and looks at nothing else.
+//! - `cut_frame` takes a polygon or a multipolygon as bytes and writes the answer as bytes. It comes with the library's
+//!   `ringcut_frame`: feature `frame`, off until the library has it.
+//!
+//! Each answers on every input, with a [`Refusal`] where it can't cut. A refused call has changed no lent buffer. One that is
+//! not refused fills scratch and order slices with zeros, from end to end, and leaves the output past its answer as it was.
+//! Bounds and buffer may be any numbers; a NaN bound has nothing inside.
+//!
+//! The functions here panic only if the library answers what its contract rules out, which is proved not to happen: a panic
+//! says that another library was linked.
+
+#![no_std]
+#![warn(missing_docs)]
+
+mod answer;
+pub mod raw;
+mod refusal;
+mod room;
+
+pub use answer::{Answer, Edge, Reason};
+pub use refusal::Refusal;
+pub use room::room_for_ring;
+#[cfg(feature = "frame")]
+pub use room::MOST_FRAME_OUTPUT;
+
+/// README.md, so that its example is run with the other tests.
+#[cfg(doctest)]
+#[doc = include_str!("../README.md")]
+struct Readme;
+
+/// The four bounds of a tile, x being longitude and y latitude.
+#[derive(Clone, Copy, Debug, PartialEq)]
+pub struct Bounds {
+    /// The lowest x.
+    pub west: f64,
+    /// The lowest y.
+    pub south: f64,
+    /// The highest x.
+    pub east: f64,
+    /// The highest y.
+    pub north: f64,
+}
+
+/// What a slice call leaves out.
+#[derive(Clone, Copy, Debug, Default, PartialEq, Eq)]
+pub struct Flags {
+    /// The exterior is not searched for edges that cross.
+    pub assume_simple: bool,
+    /// Together with `assume_simple`: a cut exterior is not searched for edges along a bound. Alone it does nothing.
+    pub skip_boundary_fallback: bool,
+}
+
+/// What is lent to a ring call to write to: for a ring of n coordinates each slice has at least 2 × [`room_for_ring`]`(n)`
+/// numbers.
+#[derive(Debug)]
+pub struct RingBuffers<'a> {
+    /// Zero after an answer.
+    pub scratch_a: &'a mut [f64],
+    /// Zero after an answer.
+    pub scratch_b: &'a mut [f64],
+    /// The cut ring from its front, as x, y numbers.
+    pub out: &'a mut [f64],
+}
+
+/// What is lent to a slice call to write to. A ring whose last coordinate doesn't equal its first counts one coordinate more
+/// than was lent, and every ring whose first coordinate holds a NaN does; [`room_for_ring`] of n + 1 is always enough.
+#[derive(Debug)]
+pub struct PolygonBuffers<'a> {
+    /// At least 2 × the largest ring's [`room_for_ring`] numbers; zero after an answer.
+    pub scratch_a: &'a mut [f64],
+    /// As long as the other; zero after an answer.
+    pub scratch_b: &'a mut [f64],
+    /// At least the largest ring's [`room_for_ring`]; zero after an answer.
+    pub order: &'a mut [u32],
+    /// At least 2 × the sum of the rings' [`room_for_ring`] numbers; the rings of a cut from its front, one behind the
+    /// other, as x, y numbers.
+    pub out: &'a mut [f64],
+    /// At least as many as rings are lent; how many coordinates each ring of a cut has, from its front.
+    pub out_lengths: &'a mut [u32],
+}
+
+/// Cuts the frame's polygon or multipolygon and answers how many bytes of `out` the answer takes.
+///
+/// `out` needs 5 bytes and, for each part, 6, 2 for each ring and 16 × [`room_for_ring`] of its coordinates, the closing one
+/// counted; [`MOST_FRAME_OUTPUT`] bytes are always enough. The call keeps up to 100 KiB on the stack.
+///
+/// A frame, numbers little-endian: kind, 1 byte (3 polygon, 6 multipolygon); flags, 1 byte (1 `assume_simple`,
+/// 2 `skip_boundary_fallback`, summed); west, south, east, north and buffer, 8 bytes each; part count, 2 bytes. Each part:
+/// ring count, 2 bytes, exterior first. Each ring: coordinate count, 2 bytes; x and y of each, 8 bytes each.
+///
+/// An answer: 1 byte (0 nothing, 1 whole dropped, 2 whole unchanged, 3 listed); guard count, 2 bytes; number of listed parts,
+/// 2 bytes. Each listed part: index from 0, 2 bytes; 1 byte (2 unchanged, 4 cut, 5 overlay); the overlay's
+/// [reason](Reason::number) or 0, 1 byte; if cut, ring count and rings as in a frame.
+///
+/// ```
+/// use ringcut::{cut_frame, MOST_FRAME_OUTPUT};
+///
+/// // A multipolygon of no parts, on the bounds 0, 0, 10, 10 with buffer 0.
+/// let mut frame = vec![6, 0];
+/// for number in [0.0, 0.0, 10.0, 10.0, 0.0_f64] {
+///     frame.extend(number.to_le_bytes());
+/// }
+/// frame.extend(0_u16.to_le_bytes());
+/// let mut out = [0; MOST_FRAME_OUTPUT];
+/// let len = cut_frame(&frame, &mut out)?;
+/// assert_eq!(out[..len], [0, 0, 0, 0, 0]);
+///
+/// // Turned into a polygon that crosses the east bound, with flags 3: part 0 is listed, cut to one ring.
+/// let ring = |numbers: [f64; 10]| numbers.into_iter().flat_map(f64::to_le_bytes);
+/// frame[..2].copy_from_slice(&[3, 3]);
+/// frame[42..].copy_from_slice(&1_u16.to_le_bytes());
+/// frame.extend([1, 0, 5, 0]);
+/// frame.extend(ring([5., 5., 15., 5., 15., 8., 5., 8., 5., 5.]));
+/// let len = cut_frame(&frame, &mut out)?;
+/// let mut answer = vec![3, 0, 0, 1, 0, 0, 0, 4, 0, 1, 0, 5, 0];
+/// answer.extend(ring([5., 5., 10., 5., 10., 8., 5., 8., 5., 5.]));
+/// assert_eq!(out[..len], answer);
+/// # Ok::<(), ringcut::Refusal>(())
+/// ```
+#[cfg(feature = "frame")]
+#[inline]
+pub fn cut_frame(frame: &[u8], out: &mut [u8]) -> Result<usize, Refusal> {
+    count(raw::frame(frame, out))
+}
+
+/// Cuts one polygon, its rings one behind the other in `coords` as x, y numbers, exterior first, and their lengths in
+/// coordinates in `lengths`. The bounds are widened by `buffer` on each side. Which bits a NaN in the output has is open.
+///
+/// ```
+/// use ringcut::{cut_polygon, room_for_ring, Answer, Bounds, Edge, Flags, PolygonBuffers, Reason};
+///
+/// const ROOM: usize = room_for_ring(5);
+/// let (mut scratch_a, mut scratch_b, mut order) = ([0.0; 2 * ROOM], [0.0; 2 * ROOM], [0; ROOM]);
+/// let (mut out, mut out_lengths) = ([0.0; 2 * ROOM], [0; 1]);
+/// let mut cut = |flags, coords: &[f64; 10]| {
+///     let bounds = Bounds { west: 0.0, south: 0.0, east: 10.0, north: 10.0 };
+///     let lent = PolygonBuffers {
+///         scratch_a: &mut scratch_a,
+///         scratch_b: &mut scratch_b,
+///         order: &mut order,
+///         out: &mut out,
+///         out_lengths: &mut out_lengths,
+///     };
+///     cut_polygon(flags, bounds, 0.0, coords, &[5], lent)
+/// };
+/// let both = Flags { assume_simple: true, skip_boundary_fallback: true };
+///
+/// // Inside the bounds.
+/// assert_eq!(cut(Flags::default(), &[2., 2., 8., 2., 8., 8., 2., 8., 2., 2.]), Ok(Answer::Unchanged));
+/// // A bow tie.
+/// let bow_tie = [2., 2., 8., 8., 8., 2., 2., 8., 2., 2.];
+/// assert_eq!(cut(Flags::default(), &bow_tie), Ok(Answer::Overlay(Reason::Input)));
+/// assert_eq!(cut(both, &bow_tie), Ok(Answer::Unchanged));
+/// // Across the east bound: its cut has an edge along it.
+/// let across = [5., 5., 15., 5., 15., 8., 5., 8., 5., 5.];
+/// assert_eq!(cut(Flags::default(), &across), Ok(Answer::Overlay(Reason::Bridge(Edge::Right))));
+/// assert_eq!(cut(both, &across), Ok(Answer::Cut { rings: 1 }));
+/// assert_eq!(out_lengths, [5]);
+/// assert_eq!(out[..10], [5., 5., 10., 5., 10., 8., 5., 8., 5., 5.]);
+/// ```
+#[inline]
+pub fn cut_polygon(
+    flags: Flags,
+    bounds: Bounds,
+    buffer: f64,
+    coords: &[f64],
+    lengths: &[u32],
+    lent: PolygonBuffers,
+) -> Result<Answer, Refusal> {
+    let Flags { assume_simple, skip_boundary_fallback } = flags;
+    Answer::from_code(raw::polygon(
+        assume_simple.into(),
+        skip_boundary_fallback.into(),
+        bounds,
+        buffer,
+        coords,
+        lengths,
+        lent,
+    ))
+}
+
+/// Cuts one ring of x, y numbers, closed or not, and answers how many coordinates of `lent.out` the cut ring takes: none, or
+/// at least three, the closing one counted. Which bits a NaN in the output has is open.
+///
+/// ```
+/// use ringcut::{cut_ring, room_for_ring, Bounds, RingBuffers};
+///
+/// const ROOM: usize = room_for_ring(4);
+/// let bounds = Bounds { west: 0.0, south: 0.0, east: 10.0, north: 10.0 };
+/// let (mut scratch_a, mut scratch_b, mut out) = ([0.0; 2 * ROOM], [0.0; 2 * ROOM], [0.0; 2 * ROOM]);
+/// let mut cut = |ring: &[f64; 8]| {
+///     let lent = RingBuffers { scratch_a: &mut scratch_a, scratch_b: &mut scratch_b, out: &mut out };
+///     cut_ring(ring, bounds, lent)
+/// };
+///
+/// assert_eq!(cut(&[1., 1., 2., 2., 1., 1., 1., 1.]), Ok(0));
+/// assert_eq!(cut(&[5., 5., 15., 5., 15., 8., 5., 8.]), Ok(5));
+/// assert_eq!(out[..10], [5., 5., 10., 5., 10., 8., 5., 8., 5., 5.]);
+/// ```
+#[inline]
+pub fn cut_ring(ring: &[f64], bounds: Bounds, lent: RingBuffers) -> Result<usize, Refusal> {
+    count(raw::ring(ring, bounds, lent))
+}
+
+/// What the code of a frame call or a ring call stands for: a count, or minus a refusal.
+#[inline]
+fn count(code: i64) -> Result<usize, Refusal> {
+    usize::try_from(code).map_err(|_| Refusal::from_code(code))
+}

@@ -1,0 +1,124 @@
+//! The calls with the numbers that cross: flags as bytes, answers as codes. They are as safe as those of the crate's
+//! root, which read these codes; this module is for comparing the codes themselves. `include/ringcut.h` says what each is.
+
+use crate::{Bounds, PolygonBuffers, RingBuffers};
+
+/// The library's own names. A slice crosses as a pointer and a length, in that order.
+mod exported {
+    extern "C" {
+        #[cfg(feature = "frame")]
+        pub fn ringcut_frame(frame: *const u8, frame_len: usize, out: *mut u8, out_len: usize) -> i64;
+
+        pub fn ringcut_ring(
+            ring: *const f64,
+            ring_len: usize,
+            west: f64,
+            south: f64,
+            east: f64,
+            north: f64,
+            scratch_a: *mut f64,
+            scratch_a_len: usize,
+            scratch_b: *mut f64,
+            scratch_b_len: usize,
+            out: *mut f64,
+            out_len: usize,
+        ) -> i64;
+
+        pub fn ringcut_polygon(
+            assume_simple: u8,
+            skip_boundary_fallback: u8,
+            west: f64,
+            south: f64,
+            east: f64,
+            north: f64,
+            buffer: f64,
+            coords: *const f64,
+            coords_len: usize,
+            lengths: *const u32,
+            lengths_len: usize,
+            scratch_a: *mut f64,
+            scratch_a_len: usize,
+            scratch_b: *mut f64,
+            scratch_b_len: usize,
+            order: *mut u32,
+            order_len: usize,
+            out: *mut f64,
+            out_len: usize,
+            out_lengths: *mut u32,
+            out_lengths_len: usize,
+        ) -> i64;
+    }
+}
+
+/// The bytes of the answer, or minus the refusal.
+#[cfg(feature = "frame")]
+#[inline]
+pub fn frame(frame: &[u8], out: &mut [u8]) -> i64 {
+    // SAFETY: each pointer and length is that of a slice borrowed for the call, and the call asks nothing else.
+    unsafe { exported::ringcut_frame(frame.as_ptr(), frame.len(), out.as_mut_ptr(), out.len()) }
+}
+
+/// The coordinates of the cut ring, or minus the refusal.
+#[inline]
+pub fn ring(ring: &[f64], bounds: Bounds, lent: RingBuffers) -> i64 {
+    let Bounds { west, south, east, north } = bounds;
+    let RingBuffers { scratch_a, scratch_b, out } = lent;
+    // SAFETY: each pointer and length is that of a slice borrowed for the call, and the call asks nothing else.
+    unsafe {
+        exported::ringcut_ring(
+            ring.as_ptr(),
+            ring.len(),
+            west,
+            south,
+            east,
+            north,
+            scratch_a.as_mut_ptr(),
+            scratch_a.len(),
+            scratch_b.as_mut_ptr(),
+            scratch_b.len(),
+            out.as_mut_ptr(),
+            out.len(),
+        )
+    }
+}
+
+/// The answer, 256 times an overlay's reason and 65,536 times a cut's rings, or minus the refusal. Any number but 0 sets a flag.
+#[inline]
+pub fn polygon(
+    assume_simple: u8,
+    skip_boundary_fallback: u8,
+    bounds: Bounds,
+    buffer: f64,
+    coords: &[f64],
+    lengths: &[u32],
+    lent: PolygonBuffers,
+) -> i64 {
+    let Bounds { west, south, east, north } = bounds;
+    let PolygonBuffers { scratch_a, scratch_b, order, out, out_lengths } = lent;
+    // SAFETY: each pointer and length is that of a slice borrowed for the call, and the call asks nothing else.
+    unsafe {
+        exported::ringcut_polygon(
+            assume_simple,
+            skip_boundary_fallback,
+            west,
+            south,
+            east,
+            north,
+            buffer,
+            coords.as_ptr(),
+            coords.len(),
+            lengths.as_ptr(),
+            lengths.len(),
+            scratch_a.as_mut_ptr(),
+            scratch_a.len(),
+            scratch_b.as_mut_ptr(),
+            scratch_b.len(),
+            order.as_mut_ptr(),
+            order.len(),
+            out.as_mut_ptr(),
+            out.len(),
+            out_lengths.as_mut_ptr(),
+            out_lengths.len(),
+        )
+    }
+}

@@ -1,0 +1,115 @@
+//! Why a call is refused, under document 01's numbers.
+
+use core::error::Error;
+use core::fmt::{self, Display, Formatter};
+
+/// Why a call was refused. A refused call has changed no lent buffer.
+///
+/// A frame call gives 11 to 18 and 22, a slice call and a ring call 19 to 22.
+///
+/// ```
+/// use ringcut::{cut_ring, Bounds, Refusal, RingBuffers};
+///
+/// let bounds = Bounds { west: 0.0, south: 0.0, east: 10.0, north: 10.0 };
+/// let lent = RingBuffers { scratch_a: &mut [], scratch_b: &mut [], out: &mut [] };
+/// let refusal = cut_ring(&[5.0, 5.0], bounds, lent).unwrap_err();
+/// assert_eq!(refusal, Refusal::Scratch);
+/// assert_eq!(refusal.number(), 21);
+/// assert_eq!(refusal.to_string(), "refusal 21: a scratch slice or the order slice is too short");
+/// ```
+#[derive(Clone, Copy, Debug, PartialEq, Eq, Hash)]
+pub enum Refusal {
+    /// The frame has under 44 or over 5,120 bytes.
+    Size = 11,
+    /// The frame's kind is neither 3 (polygon) nor 6 (multipolygon).
+    Kind = 12,
+    /// The frame's flags are over 3.
+    Flags = 13,
+    /// The frame has over 256 parts, or is a polygon's and has not one part.
+    PartCount = 14,
+    /// The frame ends before a count or a coordinate is whole.
+    Truncated = 15,
+    /// A part of the frame has no ring or over 64.
+    RingCount = 16,
+    /// A ring of the frame has over 4,096 coordinates.
+    CoordinateCount = 17,
+    /// Bytes follow the frame's last part.
+    Trailing = 18,
+    /// There is no ring or over 64, or the numbers lent are not two for each coordinate.
+    Lengths = 19,
+    /// There are over 65,536 coordinates; a slice call counts those that close its rings.
+    Coordinates = 20,
+    /// A scratch slice or the order slice is too short.
+    Scratch = 21,
+    /// The output or the slice for the lengths of cut rings is too short.
+    Output = 22,
+}
+
+impl Refusal {
+    /// Document 01's number of the refusal.
+    pub const fn number(self) -> u8 {
+        self as u8
+    }
+
+    const fn message(self) -> &'static str {
+        match self {
+            Refusal::Size => "the frame has under 44 or over 5,120 bytes",
+            Refusal::Kind => "the frame's kind is neither 3 (polygon) nor 6 (multipolygon)",
+            Refusal::Flags => "the frame's flags are over 3",
+            Refusal::PartCount => "the frame has over 256 parts, or is a polygon's and has not one part",
+            Refusal::Truncated => "the frame ends before a count or a coordinate is whole",
+            Refusal::RingCount => "a part of the frame has no ring or over 64",
+            Refusal::CoordinateCount => "a ring of the frame has over 4,096 coordinates",
+            Refusal::Trailing => "bytes follow the frame's last part",
+            Refusal::Lengths => "there is no ring or over 64, or the numbers lent are not two for each coordinate",
+            Refusal::Coordinates => "there are over 65,536 coordinates",
+            Refusal::Scratch => "a scratch slice or the order slice is too short",
+            Refusal::Output => "the output or the slice for the lengths of cut rings is too short",
+        }
+    }
+
+    /// The refusal that a negative code stands for: minus its number.
+    pub(crate) fn from_code(code: i64) -> Refusal {
+        match code {
+            -11 => Refusal::Size,
+            -12 => Refusal::Kind,
+            -13 => Refusal::Flags,
+            -14 => Refusal::PartCount,
+            -15 => Refusal::Truncated,
+            -16 => Refusal::RingCount,
+            -17 => Refusal::CoordinateCount,
+            -18 => Refusal::Trailing,
+            -19 => Refusal::Lengths,
+            -20 => Refusal::Coordinates,
+            -21 => Refusal::Scratch,
+            -22 => Refusal::Output,
+            _ => unreachable!("the library answered {code}, which its contract rules out"),
+        }
+    }
+}
+
+impl Display for Refusal {
+    fn fmt(&self, f: &mut Formatter) -> fmt::Result {
+        write!(f, "refusal {}: {}", self.number(), self.message())
+    }
+}
+
+impl Error for Refusal {}
+
+#[cfg(test)]
+mod tests {
+    use super::Refusal;
+
+    #[test]
+    fn a_code_is_minus_the_number() {
+        for number in 11..=22 {
+            assert_eq!(Refusal::from_code(-number).number(), number as u8);
+        }
+    }
+
+    #[test]
+    #[should_panic = "the library answered -10, which its contract rules out"]
+    fn the_programs_own_refusal_is_no_code() {
+        Refusal::from_code(-10);
+    }
+}

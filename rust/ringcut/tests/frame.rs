@@ -1,0 +1,150 @@
+//! The frame call: document 01's worked cases and the repository's examples, every refusal, outputs exact, one short and
+//! larger.
+
+use std::fs;
+
+use ringcut::{cut_frame, Refusal, MOST_FRAME_OUTPUT};
+
+/// What an output byte that no call has written holds here.
+const UNWRITTEN: u8 = 0xa5;
+
+const SQUARE: &[f64] = &[2., 2., 8., 2., 8., 8., 2., 8., 2., 2.];
+const ACROSS_EAST: &[f64] = &[5., 5., 15., 5., 15., 8., 5., 8., 5., 5.];
+const BOW_TIE: &[f64] = &[2., 2., 8., 8., 8., 2., 2., 8., 2., 2.];
+
+/// A frame on the bounds 0, 0, 10, 10 with buffer 0; a part is its rings, a ring x, y numbers.
+fn frame(kind: u8, flags: u8, parts: &[&[&[f64]]]) -> Vec<u8> {
+    let mut bytes = vec![kind, flags];
+    for number in [0.0, 0.0, 10.0, 10.0, 0.0_f64] {
+        bytes.extend(number.to_le_bytes());
+    }
+    let count = |n: usize| (n as u16).to_le_bytes();
+    bytes.extend(count(parts.len()));
+    for part in parts {
+        bytes.extend(count(part.len()));
+        for ring in *part {
+            bytes.extend(count(ring.len() / 2));
+            bytes.extend(ring.iter().flat_map(|number| number.to_le_bytes()));
+        }
+    }
+    bytes
+}
+
+/// The answer, with an output of that many bytes; what the call must leave as it was is looked at.
+fn answer(frame: &[u8], room: usize) -> Result<Vec<u8>, Refusal> {
+    let mut out = vec![UNWRITTEN; room];
+    let answered = cut_frame(frame, &mut out);
+    let rest = out.split_off(answered.unwrap_or(0));
+    assert!(rest.iter().all(|&byte| byte == UNWRITTEN));
+    answered.map(|_| out)
+}
+
+fn refusal(frame: &[u8]) -> Option<Refusal> {
+    answer(frame, MOST_FRAME_OUTPUT).err()
+}
+
+fn from_hex(line: &str) -> Option<Vec<u8>> {
+    let digits = line.as_bytes().chunks(2).map(|pair| std::str::from_utf8(pair).unwrap());
+    digits.map(|pair| u8::from_str_radix(pair, 16).ok()).collect()
+}
+
+#[test]
+fn worked_frames() {
+    let overlay = |reason| vec![3, 0, 0, 1, 0, 0, 0, 5, reason];
+    let polygon = |flags, ring| answer(&frame(3, flags, &[&[ring]]), MOST_FRAME_OUTPUT).unwrap();
+    for flags in 0..4 {
+        assert_eq!(polygon(flags, SQUARE), [2, 0, 0, 0, 0]);
+    }
+    for flags in 0..3 {
+        assert_eq!(polygon(flags, ACROSS_EAST), overlay(4));
+    }
+    let mut cut = vec![3, 0, 0, 1, 0, 0, 0, 4, 0, 1, 0, 5, 0];
+    cut.extend([5., 5., 10., 5., 10., 8., 5., 8., 5., 5.].into_iter().flat_map(f64::to_le_bytes));
+    assert_eq!(polygon(3, ACROSS_EAST), cut);
+    assert_eq!(polygon(0, BOW_TIE), overlay(1));
+    assert_eq!(polygon(1, BOW_TIE), [2, 0, 0, 0, 0]);
+    assert_eq!(polygon(0, &[2., 2., 1e150, 2., 2., 2.]), [1, 1, 0, 0, 0]);
+    assert_eq!(polygon(0, &[20., 20., 30., 20., 30., 30., 20., 20.]), [0; 5]);
+    assert_eq!(polygon(0, &[20., 20., f64::NAN, 20., 30., 30., 20., 20.]), [1, 1, 0, 0, 0]);
+    assert_eq!(answer(&frame(6, 0, &[&[BOW_TIE]]), MOST_FRAME_OUTPUT).unwrap(), [2, 0, 0, 0, 0]);
+    assert_eq!(answer(&frame(6, 0, &[]), 5).unwrap(), [0; 5]);
+}
+
+/// The lines that the program `ringcut` answers; 10, for a line that is no frame, is the program's alone.
+#[test]
+fn the_examples_of_the_repository() {
+    let read =
+        |name: &str| fs::read_to_string(format!("{}/../../examples/{name}", env!("CARGO_MANIFEST_DIR"))).unwrap();
+    let (frames, answers) = (read("frames.hex"), read("answers.hex"));
+    let mut compared = 0;
+    for (line, expected) in frames.lines().zip(answers.lines()) {
+        let Some(frame) = from_hex(line) else {
+            assert_eq!(expected, "0a00000000");
+            continue;
+        };
+        let printed = match answer(&frame, MOST_FRAME_OUTPUT) {
+            Ok(bytes) => bytes,
+            Err(refusal) => vec![refusal.number(), 0, 0, 0, 0],
+        };
+        assert_eq!(Some(printed), from_hex(expected), "{line}");
+        compared += 1;
+    }
+    assert_eq!(compared, 12);
+    assert_eq!(frames.lines().count(), answers.lines().count());
+}
+
+#[test]
+fn every_refusal() {
+    let good = frame(3, 0, &[&[SQUARE]]);
+    let (head, body) = good.split_at(44);
+    let with = |at: usize, byte: u8| {
+        let mut frame = good.clone();
+        frame[at] = byte;
+        refusal(&frame)
+    };
+    assert_eq!(refusal(&good), None);
+    assert_eq!(refusal(&[]), Some(Refusal::Size));
+    assert_eq!(refusal(&head[..43]), Some(Refusal::Size));
+    assert_eq!(refusal(&vec![3; 5_121]), Some(Refusal::Size));
+    assert_eq!(with(0, 4), Some(Refusal::Kind));
+    assert_eq!(with(1, 4), Some(Refusal::Flags));
+    assert_eq!(with(42, 0), Some(Refusal::PartCount));
+    assert_eq!(with(42, 2), Some(Refusal::PartCount));
+    assert_eq!(refusal(head), Some(Refusal::Truncated));
+    assert_eq!(refusal(&good[..good.len() - 1]), Some(Refusal::Truncated));
+    assert_eq!(with(44, 0), Some(Refusal::RingCount));
+    assert_eq!(with(44, 65), Some(Refusal::RingCount));
+    assert_eq!(with(47, 0x10), Some(Refusal::CoordinateCount));
+    assert_eq!(refusal(&[head, body, &[0]].concat()), Some(Refusal::Trailing));
+    assert_eq!(answer(&good, 0), Err(Refusal::Output));
+}
+
+#[test]
+fn the_output_is_exact_or_one_short() {
+    let two_rings: &[&[f64]] = &[ACROSS_EAST, &[6., 6., 14., 6., 14., 7., 6., 6.]];
+    // 5, and for each part 6 + 2 × rings + 16 × B: B(5) = 24, B(4) = 21, and a triangle lent unclosed has 4.
+    for (frame, room) in [
+        (frame(6, 0, &[]), 5),
+        (frame(3, 3, &[&[SQUARE]]), 5 + 8 + 16 * 24),
+        (frame(3, 3, &[two_rings]), 5 + 10 + 16 * (24 + 21)),
+        (frame(6, 3, &[&[SQUARE], &[&[20., 20., 30., 20., 30., 30.]]]), 5 + 8 + 16 * 24 + 8 + 16 * 21),
+        (frame(3, 0, &[&[&[f64::NAN, 0.]]]), 5 + 8 + 16 * 11),
+    ] {
+        let exact = answer(&frame, room);
+        assert!(exact.is_ok());
+        assert_eq!(answer(&frame, room - 1), Err(Refusal::Output));
+        assert_eq!(answer(&frame, room + 100), exact);
+    }
+}
+
+/// 281 rings of one NaN coordinate in nine parts, in a frame of 5,120 bytes.
+#[test]
+fn the_most_output_is_enough_and_no_byte_too_many() {
+    let ring: &[f64] = &[f64::NAN, 0.];
+    let rings = [ring; 281];
+    let parts: Vec<&[&[f64]]> = rings.chunks(32).collect();
+    let frame = frame(6, 0, &parts);
+    assert_eq!((frame.len(), parts.len()), (5_120, 9));
+    assert_eq!(answer(&frame, MOST_FRAME_OUTPUT).unwrap(), [1, 1, 0, 0, 0]);
+    assert_eq!(answer(&frame, MOST_FRAME_OUTPUT - 1), Err(Refusal::Output));
+}

@@ -1,0 +1,188 @@
+//! The slice call: document 01's worked polygons, every refusal, and the lent slices exact, one short and larger, with what
+//! a call leaves in them.
+
+use ringcut::{cut_polygon, room_for_ring, Answer, Bounds, Edge, Flags, PolygonBuffers, Reason, Refusal};
+
+const BOUNDS: Bounds = Bounds { west: 0., south: 0., east: 10., north: 10. };
+
+/// What a lent number that no call has written holds here.
+const UNWRITTEN: u32 = 77;
+
+/// The slices lent to a call: numbers in scratch, positions, numbers and lengths of output.
+#[derive(Clone, Copy)]
+struct Room {
+    scratch_a: usize,
+    scratch_b: usize,
+    order: usize,
+    out: usize,
+    out_lengths: usize,
+}
+
+impl Room {
+    /// What rings of these lengths ask for, closing coordinates counted.
+    fn of(closed: &[usize]) -> Room {
+        let rooms = closed.iter().map(|&n| room_for_ring(n));
+        let (largest, sum) = (rooms.clone().max().unwrap(), rooms.sum::<usize>());
+        Room { scratch_a: 2 * largest, scratch_b: 2 * largest, order: largest, out: 2 * sum, out_lengths: closed.len() }
+    }
+}
+
+fn flags(number: u8) -> Flags {
+    Flags { assume_simple: number & 1 != 0, skip_boundary_fallback: number & 2 != 0 }
+}
+
+/// The answer and a cut's rings; what the call must clear or leave as it was is looked at.
+fn cut(flags: Flags, coords: &[f64], lengths: &[u32], room: Room) -> Result<(Answer, Vec<Vec<f64>>), Refusal> {
+    cut_to(BOUNDS, 0., flags, coords, lengths, room)
+}
+
+fn cut_to(
+    bounds: Bounds,
+    buffer: f64,
+    flags: Flags,
+    coords: &[f64],
+    lengths: &[u32],
+    room: Room,
+) -> Result<(Answer, Vec<Vec<f64>>), Refusal> {
+    let unwritten = f64::from(UNWRITTEN);
+    let (mut scratch_a, mut scratch_b) = (vec![unwritten; room.scratch_a], vec![unwritten; room.scratch_b]);
+    let mut order = vec![UNWRITTEN; room.order];
+    let (mut out, mut out_lengths) = (vec![unwritten; room.out], vec![UNWRITTEN; room.out_lengths]);
+    let lent = PolygonBuffers {
+        scratch_a: &mut scratch_a,
+        scratch_b: &mut scratch_b,
+        order: &mut order,
+        out: &mut out,
+        out_lengths: &mut out_lengths,
+    };
+    let answered = cut_polygon(flags, bounds, buffer, coords, lengths, lent);
+
+    let working = if answered.is_ok() { 0 } else { UNWRITTEN };
+    assert!(scratch_a.iter().chain(&scratch_b).all(|&number| number == f64::from(working)));
+    assert!(order.iter().all(|&position| position == working));
+    let count = if let Ok(Answer::Cut { rings }) = answered { rings } else { 0 };
+    let (written, beyond) = out_lengths.split_at(count);
+    assert!(beyond.iter().all(|&length| length == UNWRITTEN));
+    let mut rest = out.as_slice();
+    let mut rings = Vec::new();
+    for &length in written {
+        let (ring, behind) = rest.split_at(2 * length as usize);
+        rings.push(ring.to_vec());
+        rest = behind;
+    }
+    assert!(rest.iter().all(|&number| number == unwritten));
+    answered.map(|answer| (answer, rings))
+}
+
+/// One closed ring in slices that are exactly as long as it asks.
+fn answer(number: u8, ring: &[f64]) -> Answer {
+    let n = ring.len() / 2;
+    cut(flags(number), ring, &[n as u32], Room::of(&[n])).unwrap().0
+}
+
+#[test]
+fn worked_polygons() {
+    let across_east = [5., 5., 15., 5., 15., 8., 5., 8., 5., 5.];
+    let bow_tie = [2., 2., 8., 8., 8., 2., 2., 8., 2., 2.];
+    let (input, cut_reason) = (Answer::Overlay(Reason::Input), Answer::Overlay(Reason::Cut));
+    for number in 0..4 {
+        assert_eq!(answer(number, &[2., 2., 8., 2., 8., 8., 2., 8., 2., 2.]), Answer::Unchanged);
+        assert_eq!(answer(number, &[2., 2., 8., 2., 2., 2.]), input);
+        assert_eq!(answer(number, &[2., 2., 2., 2., 8., 2., 8., 8., 2., 2.]), input);
+        assert_eq!(answer(number, &[2., 2., 8., 2., 8., 8., 2., 2., 2., 2.]), Answer::Unchanged);
+        assert_eq!(answer(number, &[10., 2., 20., 2., 20., 8., 10., 8., 10., 2.]), cut_reason);
+        assert_eq!(answer(number, &[2., 2., 1e150, 2., 2., 2.]), Answer::Dropped);
+        assert_eq!(answer(number, &[2., 2., 9e149, 2., 2., 2.]), input);
+        assert_eq!(answer(number, &[20., 20., 30., 20., 30., 30., 20., 20.]), Answer::Nothing);
+    }
+    for at in 0..8 {
+        let mut apart = [20., 20., 30., 20., 30., 30., 20., 20.];
+        apart[at] = f64::NAN;
+        // A NaN in the first or the last coordinate leaves the ring open: it is closed to five.
+        assert_eq!(cut(flags(0), &apart, &[4], Room::of(&[5])), Ok((Answer::Dropped, vec![])));
+    }
+    for number in 0..3 {
+        assert_eq!(answer(number, &across_east), Answer::Overlay(Reason::Bridge(Edge::Right)));
+    }
+    let rings = vec![vec![5., 5., 10., 5., 10., 8., 5., 8., 5., 5.]];
+    assert_eq!(cut(flags(3), &across_east, &[5], Room::of(&[5])), Ok((Answer::Cut { rings: 1 }, rings)));
+    assert_eq!(answer(0, &bow_tie), input);
+    assert_eq!(answer(1, &bow_tie), Answer::Unchanged);
+}
+
+#[test]
+fn a_bridge_names_its_edge() {
+    for (edge, ring) in [
+        (Edge::Left, [-5., 5., 5., 5., 5., 8., -5., 8., -5., 5.]),
+        (Edge::Right, [5., 5., 15., 5., 15., 8., 5., 8., 5., 5.]),
+        (Edge::Bottom, [5., -5., 8., -5., 8., 5., 5., 5., 5., -5.]),
+        (Edge::Top, [5., 5., 8., 5., 8., 15., 5., 15., 5., 5.]),
+    ] {
+        assert_eq!(answer(0, &ring), Answer::Overlay(Reason::Bridge(edge)));
+    }
+}
+
+#[test]
+fn each_bound_is_its_own_and_the_buffer_widens_all() {
+    let bounds = Bounds { west: 1., south: 2., east: 30., north: 40. };
+    let around = [-50., -50., 50., -50., 50., 50., -50., 50., -50., -50.];
+    let rings = vec![vec![0.5, 40.5, 0.5, 1.5, 30.5, 1.5, 30.5, 40.5, 0.5, 40.5]];
+    let cut = cut_to(bounds, 0.5, flags(3), &around, &[5], Room::of(&[5]));
+    assert_eq!(cut, Ok((Answer::Cut { rings: 1 }, rings)));
+}
+
+/// The square across the east bound with a hole across it and one inside.
+#[test]
+fn holes_are_cut_too() {
+    let coords = [
+        5., 5., 15., 5., 15., 8., 5., 8., 5., 5., // exterior
+        9., 6., 12., 6., 12., 7., 9., 7., 9., 6., // across
+        6., 6., 7., 6., 7., 7., 6., 6., // inside
+    ];
+    let rings = vec![
+        vec![5., 5., 10., 5., 10., 8., 5., 8., 5., 5.],
+        vec![9., 6., 10., 6., 10., 7., 9., 7., 9., 6.],
+        vec![6., 6., 7., 6., 7., 7., 6., 6.],
+    ];
+    let lengths = [5, 5, 4];
+    assert_eq!(cut(flags(3), &coords, &lengths, Room::of(&[5, 5, 4])), Ok((Answer::Cut { rings: 3 }, rings)));
+}
+
+#[test]
+fn slices_are_exact_one_short_and_larger() {
+    let coords = [5., 5., 15., 5., 15., 8., 5., 8., 9., 6., 12., 6., 12., 7., 9., 6.];
+    // The exterior is lent unclosed and counts one more.
+    let (lengths, exact) = ([4, 4], Room::of(&[5, 4]));
+    let expected = cut(flags(3), &coords, &lengths, exact);
+    assert!(matches!(expected, Ok((Answer::Cut { rings: 2 }, _))));
+    let with = |change: &dyn Fn(&mut Room)| {
+        let mut room = exact;
+        change(&mut room);
+        cut(flags(3), &coords, &lengths, room)
+    };
+    assert_eq!(with(&|room| room.scratch_a -= 1), Err(Refusal::Scratch));
+    assert_eq!(with(&|room| room.scratch_b -= 1), Err(Refusal::Scratch));
+    assert_eq!(with(&|room| room.order -= 1), Err(Refusal::Scratch));
+    assert_eq!(with(&|room| room.out -= 1), Err(Refusal::Output));
+    assert_eq!(with(&|room| room.out_lengths -= 1), Err(Refusal::Output));
+    let larger = |room: &mut Room| {
+        for length in [&mut room.scratch_a, &mut room.scratch_b, &mut room.order, &mut room.out, &mut room.out_lengths]
+        {
+            *length += 3;
+        }
+    };
+    assert_eq!(with(&larger), expected);
+}
+
+#[test]
+fn lengths_that_do_not_fit_are_refused() {
+    let room = Room::of(&[5; 65]);
+    let refused = |coords: &[f64], lengths: &[u32]| cut(flags(0), coords, lengths, room).unwrap_err();
+    assert_eq!(refused(&[], &[]), Refusal::Lengths);
+    assert_eq!(refused(&[], &[0; 65]), Refusal::Lengths);
+    assert_eq!(refused(&[1.], &[0]), Refusal::Lengths);
+    assert_eq!(refused(&[1., 1.], &[2]), Refusal::Lengths);
+    assert_eq!(refused(&[1., 1.], &[u32::MAX, 2]), Refusal::Lengths);
+    assert_eq!(refused(&vec![1.; 2 * 65_537], &[65_537]), Refusal::Coordinates);
+    assert_eq!(cut(flags(0), &[], &[0; 64], room), Ok((Answer::Nothing, vec![])));
+}

@@ -1,0 +1,64 @@
+//! The ring call: document 01's worked ring, every refusal, and the lent slices exact, one short and larger, with what a
+//! call leaves in them.
+
+use ringcut::{cut_ring, room_for_ring, Bounds, Refusal, RingBuffers};
+
+const BOUNDS: Bounds = Bounds { west: 0., south: 0., east: 10., north: 10. };
+const ACROSS_EAST: &[f64] = &[5., 5., 15., 5., 15., 8., 5., 8.];
+
+/// What a lent number that no call has written holds here.
+const UNWRITTEN: f64 = 77.;
+
+/// The cut ring, with two scratch slices and an output of these lengths; what the call must clear or leave as it was is
+/// looked at.
+fn cut(ring: &[f64], lengths: [usize; 3]) -> Result<Vec<f64>, Refusal> {
+    cut_to(BOUNDS, ring, lengths)
+}
+
+fn cut_to(bounds: Bounds, ring: &[f64], [a, b, out]: [usize; 3]) -> Result<Vec<f64>, Refusal> {
+    let (mut scratch_a, mut scratch_b, mut out) = (vec![UNWRITTEN; a], vec![UNWRITTEN; b], vec![UNWRITTEN; out]);
+    let lent = RingBuffers { scratch_a: &mut scratch_a, scratch_b: &mut scratch_b, out: &mut out };
+    let answered = cut_ring(ring, bounds, lent);
+    let working = if answered.is_ok() { 0. } else { UNWRITTEN };
+    assert!(scratch_a.iter().chain(&scratch_b).all(|&number| number == working));
+    let rest = out.split_off(2 * answered.unwrap_or(0));
+    assert!(rest.iter().all(|&number| number == UNWRITTEN));
+    answered.map(|_| out)
+}
+
+#[test]
+fn worked_rings() {
+    let exact = [2 * room_for_ring(4); 3];
+    assert_eq!(cut(&[1., 1., 2., 2., 1., 1., 1., 1.], exact), Ok(vec![]));
+    assert_eq!(cut(ACROSS_EAST, exact), Ok(vec![5., 5., 10., 5., 10., 8., 5., 8., 5., 5.]));
+    assert_eq!(cut(&[], [0; 3]), Ok(vec![]));
+}
+
+#[test]
+fn each_bound_is_its_own() {
+    let bounds = Bounds { west: 1., south: 2., east: 30., north: 40. };
+    let around = [-50., -50., 50., -50., 50., 50., -50., 50.];
+    let cut = cut_to(bounds, &around, [2 * room_for_ring(4); 3]);
+    assert_eq!(cut, Ok(vec![1., 40., 1., 2., 30., 2., 30., 40., 1., 40.]));
+}
+
+#[test]
+fn slices_are_exact_one_short_and_larger() {
+    let exact = 2 * room_for_ring(4);
+    let expected = cut(ACROSS_EAST, [exact; 3]);
+    assert_eq!(cut(ACROSS_EAST, [exact - 1, exact, exact]), Err(Refusal::Scratch));
+    assert_eq!(cut(ACROSS_EAST, [exact, exact - 1, exact]), Err(Refusal::Scratch));
+    assert_eq!(cut(ACROSS_EAST, [exact, exact, exact - 1]), Err(Refusal::Output));
+    assert_eq!(cut(ACROSS_EAST, [exact + 3; 3]), expected);
+}
+
+#[test]
+fn the_longest_ring() {
+    let most = 65_536;
+    let room = [2 * room_for_ring(most); 3];
+    assert_eq!(room[0], 2 * 331_778);
+    let ring = vec![5.; 2 * most + 2];
+    assert!(cut(&ring[2..], room).is_ok());
+    assert_eq!(cut(&ring, room), Err(Refusal::Coordinates));
+    assert_eq!(cut(&ring[1..], room), Err(Refusal::Lengths));
+}
