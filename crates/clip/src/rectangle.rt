@@ -98,7 +98,7 @@ fn box_with_rest(w: f64, s: f64, e: f64, n: f64, ring: &[f64], count: usize) -> 
     Rect::Box(west, south, east, north)
 }
 
-// The rectangle with the n coordinates at the front of a slice.
+// The rectangle with the n coordinates at the front of a slice. The first leaves something in it, so the arm for Nothing is never taken.
 pub fn with_ring(r: Rect, ring: &[f64], n: usize) -> Rect
     requires { ⌜ 2 * n ≤ length (now ring) ⌝ }
     ensures { λ a. ⌜ a ≡ S.withRing r (coords (take (2 * n) (now (ring .entry)))) ⌝ }
