@@ -103,7 +103,7 @@ abbrev pub exterior : List (List Coord) → List Coord
 exterior [] = []
 exterior (r ∷ rs) = r
 
--- a polygon whose rectangle is four numbers
+-- a polygon as if rect were its rectangle; `routeRect` gives it one of four numbers
 abbrev pub routeMeasured : Flags → Rect → TileBounds → List (List Coord) → Routed
 routeMeasured flags rect b rings = routed (routeExterior flags rect b (exterior rings)) b rings
 

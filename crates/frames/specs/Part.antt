@@ -32,7 +32,7 @@ ringsFrom frame at k = ringsIn (readMany readRing k (drop at frame))
 
 -- ---- what is answered and written
 
--- the bytes of a part whose outcome is listed with more than a word
+-- what the routing of a part writes: the bytes of a cut or an overlay
 abbrev pub writtenPart : ℕ → P.Routed → List ℕ
 writtenPart index P.nothing = []
 writtenPart index P.dropped = []

@@ -38,7 +38,7 @@ partsFrom frame at k = partsIn (readMany readPart k (drop at frame))
 
 -- ---- what is listed
 
--- a part that is listed in one word
+-- what is still to be written of a part then: an unchanged one
 abbrev pub unchangedBytes : ℕ → PartAnswer → List ℕ
 unchangedBytes i Is.Nothing = []
 unchangedBytes i Is.Dropped = []

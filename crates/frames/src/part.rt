@@ -138,7 +138,7 @@ fn overlay_or_dropped(
     PartAnswer::Listed(to + PART)
 }
 
-// What becomes of the part at a place as a polygon, rect being its rectangle, of four numbers.
+// What becomes of the part at a place as a polygon, as if rect were its rectangle; one that is not finite is dropped before. What the working slices hold afterwards is open.
 pub fn route_part(
     frame: &[u8],
     at: usize,

@@ -30,7 +30,7 @@ pub struct Listing {
     pub next: usize,
 }
 
-// What becomes of a part of a multipolygon, rect being its rectangle.
+// What becomes of a part of a multipolygon, as if rect were its rectangle. What the working slices hold afterwards is open.
 fn answer_part(
     frame: &[u8],
     at: usize,
@@ -194,7 +194,7 @@ fn finish(listing: Listing, out: &mut [u8]) -> usize
     listing.next
 }
 
-// The answer to a multipolygon that is neither apart nor inside as a whole.
+// The answer to a multipolygon that is neither apart nor inside as a whole. What the working slices hold afterwards is open.
 pub fn answer_parts(
     frame: &[u8],
     parts: usize,
@@ -222,7 +222,7 @@ pub fn put_alone(out: &mut [u8], number: u8, guard: usize) -> usize
     LEAST_ROOM
 }
 
-// The answer to a polygon whose rectangle is four numbers.
+// The answer to a polygon, as if rect were its rectangle; one that is not finite is dropped before. What the working slices hold afterwards is open.
 pub fn answer_polygon(
     frame: &[u8],
     flags: Flags,

@@ -25,7 +25,7 @@ before r (suc i) = getD r i none
 unfoldable pub left : Edge → TileBounds → List Coord → Bool → ℕ → List Coord
 left l b r v i = steps l b v (before r i) (drop i r)
 
--- Before the i-th vertex, with the verdict v on the one before it and k vertices written in d, the pass has the same left to write, over the same, as it has in the other stand.
+-- A stand is before the i-th vertex, with the verdict v on the one before it and k vertices written in d. Finishing the pass from one stand and from the other gives the same count and the same slice.
 pub record Onward (l : Edge) (b : TileBounds) (r : List Coord) (v : Bool) (i k : ℕ) (d : List Float) (v′ : Bool) (i′ k′ : ℕ) (d′ : List Float) : Type 0 where
   pub count : k + length (left l b r v i) ≡ k′ + length (left l b r v′ i′)
   pub numbers : sets d (2 * k) (flat (left l b r v i)) ≡ sets d′ (2 * k′) (flat (left l b r v′ i′))

@@ -32,7 +32,7 @@ pub fn is_inside(coord: Coord, edge: Edge, bounds: TileBounds) -> bool
     }
 }
 
-// Where the line of an edge crosses the segment from a to b, one end of which is in and the other out; between other ends a number that means nothing.
+// Where the line of an edge crosses the segment from a to b, one end of which is in and the other out; between other ends a coordinate that means nothing.
 pub fn intersect(a: Coord, b: Coord, edge: Edge, bounds: TileBounds) -> Coord
     ensures { λ r. ⌜ r ≡ L.crossing edge bounds a b ⌝ }
 {
