@@ -100,10 +100,9 @@ pub extern "C" fn ringcut_polygon(
         assume_simple: is_set(assume_simple),
         skip_boundary_fallback: is_set(skip_boundary_fallback),
     };
-    let bounds = TileBounds::new(west, south, east, north);
     match clip::slice::polygon(
         flags,
-        bounds,
+        TileBounds::new(west, south, east, north),
         buffer,
         coords,
         lengths,
