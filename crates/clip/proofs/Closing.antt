@@ -1,4 +1,4 @@
--- Closing a ring changes neither the rectangle nor whether a coordinate is huge, and a rectangle of four numbers says that every ring could be closed. Assumes nothing.
+-- Closing a ring changes neither the rectangle nor whether a coordinate is huge, and a rectangle that is finite says that every ring could be closed. Assumes nothing.
 use mathlib.Core.Path.{_≡_, refl, sym, _∙_}
 use mathlib.Core.Bool.{Bool, true, false, cond, _&&_, _||_, true≢false}
 use mathlib.Core.List.{List, [], _∷_, _++_}
@@ -198,7 +198,7 @@ huge-close (p ∷ c) = go (closed (p ∷ c))
     go true = refl
     go false = huge-append (p ∷ c) p ∙ or-again (hugeCoord p) (anyHuge c)
 
--- ---- four numbers say that every coordinate is finite, so that closing closes every ring
+-- ---- a rectangle that is finite says that every coordinate is, so that closing closes every ring
 
 self-equal : (x : Float) → finite x ≡ true → eq x x ≡ true
 unfolding ne
@@ -219,27 +219,26 @@ unfolding withRing withCoord
 stays-ring [] = refl
 stays-ring (p ∷ c) = stays-ring c
 
-stays-rings : (rings : List (List Coord)) → withRings R.NotFinite rings ≡ R.NotFinite
+pub stays-rings : (rings : List (List Coord)) → withRings R.NotFinite rings ≡ R.NotFinite
 unfolding withRings
 stays-rings [] = refl
 stays-rings (c ∷ rings) = rw (stays-ring c) (stays-rings rings)
 
-module _ (w s e n : Float) where
-  no-box : R.NotFinite ≡ R.Box w s e n → ⊥
-  no-box q = let z : _≡_ {A = ℕ} 0 1 = cc in omega arith
+pub ring-closed : (r : Rect) (c : List Coord) (rest : List (List Coord)) → (withRings (withRing r (close c)) rest ≡ R.NotFinite → ⊥) → closed (close c) ≡ true
+unfolding close closed withRing
+ring-closed r [] rest q = refl
+ring-closed r (p ∷ c) rest q = go (isFiniteCoord p) refl
+  where
+    go : (t : Bool) → isFiniteCoord p ≡ t → closed (close (p ∷ c)) ≡ true
+    go true f = close-closes p c (self-same p f)
+    go false f = absurd (q (rw (rect-close r (p ∷ c), not-finite r p f, stays-ring c) (stays-rings rest)))
 
-  ring-closed : (r : Rect) (c : List Coord) (rest : List (List Coord)) → withRings (withRing r (close c)) rest ≡ R.Box w s e n → closed (close c) ≡ true
-  unfolding close closed withRing
-  ring-closed r [] rest q = refl
-  ring-closed r (p ∷ c) rest q = go (isFiniteCoord p) refl
-    where
-      go : (t : Bool) → isFiniteCoord p ≡ t → closed (close (p ∷ c)) ≡ true
-      go true f = close-closes p c (self-same p f)
-      go false f = absurd (no-box (sym (rw (rect-close r (p ∷ c), not-finite r p f, stays-ring c) (stays-rings rest)) ∙ q))
+pub all-closed : (r : Rect) (ns : List ℕ) (numbers : List Float) → (withRings r (closedRings ns numbers) ≡ R.NotFinite → ⊥) → allClosed (closedRings ns numbers) ≡ true
+unfolding closedRings withRings allClosed
+all-closed r [] numbers q = refl
+all-closed r (k ∷ ns) numbers q =
+    let c = coords (take (2 * k) numbers) in
+    rw (ring-closed r c (closedRings ns (drop (2 * k) numbers)) q, all-closed (withRing r (close c)) ns (drop (2 * k) numbers) q)
 
-  pub box-closed : (r : Rect) (ns : List ℕ) (numbers : List Float) → withRings r (closedRings ns numbers) ≡ R.Box w s e n → allClosed (closedRings ns numbers) ≡ true
-  unfolding closedRings withRings allClosed
-  box-closed r [] numbers q = refl
-  box-closed r (k ∷ ns) numbers q =
-      let c = coords (take (2 * k) numbers) in
-      rw (ring-closed r c (closedRings ns (drop (2 * k) numbers)) q, box-closed (withRing r (close c)) ns (drop (2 * k) numbers) q)
+pub box-finite : (r : Rect) (w s e n : Float) → r ≡ R.Box w s e n → r ≡ R.NotFinite → ⊥
+box-finite r w s e n p q = let z : _≡_ {A = ℕ} 0 1 = cc in omega arith

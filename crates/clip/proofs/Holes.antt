@@ -158,7 +158,7 @@ holes-lengths b (r ∷ rings) =
     let l = cutHoles b rings in
     omega (arith, ap length (unless-lengths c l), length-append (lengthUnlessNone (length c)) (lengthsOf l), length-at-most (length c), holes-lengths b rings)
 
-whole-over : {A : Type 0} (vs l : List A) → length vs ≤ length l → sets l 0 vs ≡ over vs l
+pub whole-over : {A : Type 0} (vs l : List A) → length vs ≤ length l → sets l 0 vs ≡ over vs l
 whole-over vs l h = sets-eq vs l 0 (omega arith) ∙ rw (zero-add (length vs))
 
 -- the exterior is written, then the holes

@@ -82,7 +82,7 @@ listed-part i (P.overlay reason) l out = record {
 
 -- ---- what is listed, and what is left to list
 
-listed-append : (i : ℕ) (to : P.Routed) (parts : List Part) → listedBefore i to parts ≡ listedBefore i to [] ++ parts
+pub listed-append : (i : ℕ) (to : P.Routed) (parts : List Part) → listedBefore i to parts ≡ listedBefore i to [] ++ parts
 listed-append i P.nothing parts = refl
 listed-append i P.dropped parts = refl
 listed-append i P.unchanged parts = refl
@@ -137,7 +137,7 @@ rings-bytes b (r ∷ rings) =
     omega (arith, length-append (f (P.cutExterior b r)) (each f (P.cutHoles b rings)), length-ring (P.cutExterior b r), cut-fits-room b r, holes-bytes b rings)
 
 module _ (i : ℕ) (b : TileBounds) (rings : List (List Coord)) where
-  routed-fits : (to : Route) → length (each (partBytes coordBytes) (listedBefore i (P.routed to b rings) [])) ≤ partRoom 16 rings
+  pub routed-fits : (to : Route) → length (each (partBytes coordBytes) (listedBefore i (P.routed to b rings) [])) ≤ partRoom 16 rings
   unfolding each partRoom P.overlayOrDropped
   routed-fits To.Nothing = omega arith
   routed-fits To.Unchanged = omega (arith, length-append (partBytes coordBytes (record { index = i; outcome = P.unchanged })) [], unchanged-length i)
@@ -166,6 +166,7 @@ nextPlace frame at = measuredOf (length frame) Rects.Nothing (readPart (drop at 
 pub record NextPart (frame : List ℕ) (at k : ℕ) : Type 0 where
   pub accepted : Accepted (readPart (drop at frame))
   pub rect : measuredOf (length frame) Rects.Nothing (readPart (drop at frame)) .rect ≡ rectangle (partAt frame at)
+  pub onward : at ≤ nextPlace frame at
   pub within : nextPlace frame at ≤ length frame
   pub here : partsFrom frame at k ≡ partAt frame at ∷ partsFrom frame (nextPlace frame at) (k - 1)
   pub later : Accepted (readMany readPart (k - 1) (drop (nextPlace frame at) frame))
@@ -183,6 +184,7 @@ next-part frame at k h pos a = let t = taken (readMany readPart k (drop at frame
         record {
           accepted = rw f;
           rect = ap (λ (x : Reading (List (List Coord))). measuredOf (length frame) Rects.Nothing x .rect) f ∙ rw p;
+          onward = rw n (s .onward);
           within = rw n (s .within);
           here = ap partsIn e ∙ s .whole ∙ rw (p, l);
           later = rw l;
@@ -256,7 +258,7 @@ finished guard (part ∷ parts) l out out₁ out₂ r p hr ho =
 -- ---- a polygon's answer
 
 module _ (out out₁ out₂ : List ℕ) (r : ℕ) where
-  alone : (number guard : ℕ) (answer : Answer) → answerBytes coordBytes answer ≡ headerBytes number guard 0 → out₁ ≡ out → r ≡ 5 → out₂ ≡ sets out₁ 0 (headerBytes number guard 0) → Answers answer out r out₂
+  pub alone : (number guard : ℕ) (answer : Answer) → answerBytes coordBytes answer ≡ headerBytes number guard 0 → out₁ ≡ out → r ≡ 5 → out₂ ≡ sets out₁ 0 (headerBytes number guard 0) → Answers answer out r out₂
   alone number guard answer e h hr ho = record { count = hr ∙ rw e (sym (length-header number guard 0)); output = ho ∙ rw (h, e) }
 
   listed-alone : (part : Part) → out₁ ≡ sets out 5 (partBytes coordBytes part) → r ≡ 5 + length (partBytes coordBytes part) → out₂ ≡ sets out₁ 0 (headerBytes 3 0 1) → Answers (Listed 0 (part ∷ [])) out r out₂

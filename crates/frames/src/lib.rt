@@ -1,4 +1,5 @@
 pub mod encode;
+pub mod entry;
 pub mod head;
 pub mod measure;
 pub mod part;

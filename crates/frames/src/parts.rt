@@ -9,13 +9,16 @@ ghost use Rattle.frames.specs.Answer as Answers;
 ghost use Rattle.frames.specs.Encoding as E;
 ghost use Rattle.frames.specs.Part as Q;
 ghost use Rattle.frames.specs.Parts as S;
+ghost use Rattle.frames.specs.Entry as Y;
 use super::encode::put_header;
 use super::encode::put_part;
 use super::head::HEAD;
+use super::head::Head;
 use super::measure::part_rect;
 use super::part::PART;
 use super::part::PartAnswer;
 use super::part::route_part;
+use super::reader::POLYGON;
 use super::room::LEAST_ROOM;
 use clip::polygon::Flags;
 use clip::rectangle::Rect;
@@ -259,4 +262,29 @@ pub fn answer_polygon(
             next
         }
     }
+}
+
+// The answer to a frame as if rect were its rectangle, in the working slices lent. What they hold afterwards is open.
+pub fn answer_in(
+    frame: &[u8],
+    head: Head,
+    rect: Rect,
+    bounds: TileBounds,
+    ring: &mut [f64],
+    a: &mut [f64],
+    b: &mut [f64],
+    order: &mut [u32],
+    out: &mut [u8],
+) -> usize
+    requires { ⌜ Y.PartsReady (now frame) head (length (now ring)) (length (now a)) (length (now b)) (length (now order)) (length (now out)) ⌝ }
+    ensures { λ r. ⌜ S.Answers (Y.answerMeasured head rect bounds (S.partsFrom (now (frame .entry)) F.headBytes (head .parts))) (now (out .entry)) r (now (out .exit)) ⌝ }
+{
+    let flags = Flags {
+        assume_simple: head.assume_simple,
+        skip_boundary_fallback: head.skip_boundary_fallback,
+    };
+    if head.kind == POLYGON {
+        return answer_polygon(frame, flags, rect, bounds, ring, a, b, order, out);
+    }
+    answer_parts(frame, head.parts, flags, bounds, ring, a, b, order, out)
 }

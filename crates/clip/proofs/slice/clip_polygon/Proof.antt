@@ -4,7 +4,7 @@ use denote.Ref.{now}
 use Rattle.clip.specs.declared.rectangle.Rect.the-variants as R
 use Rattle.clip.specs.Polygon.{route, routeRect}
 use Rattle.clip.specs.Slice.{numbersOf, lengthsOf}
-use Rattle.clip.proofs.Closing.{box-closed}
+use Rattle.clip.proofs.Closing.{all-closed, box-finite}
 use Rattle.clip.proofs.Checks.{passes-fit, fitting, passes-clippable}
 use borrow.Author.Needs.{needs}
 use Rattle.clip.proofs.slice.clip_polygon.Statement.{statement}
@@ -29,7 +29,7 @@ clip-finite-requires : tie.Need-clip-finite-requires
 clip-finite-requires c κs =
     let s = now (c .before .before .before .before .before .before .before .before .before .before .before .before .before .before .before .before .args .coords) in
     let ns = now (c .before .before .before .before .before .before .before .before .before .before .before .before .before .before .before .before .args .lengths) in
-    passes-clippable ns s _ _ _ _ _ (c .before .before .before .before .before .before .before .before .before .before .before .before .before .before .before .before .pre) (box-closed _ _ _ _ R.Nothing ns s (sym (c .before .before .before .before .before .before .before .before .polygon-rect-all-rings .ensures) ∙ c .before .before .before .before .before .before .rect .given .1))
+    passes-clippable ns s _ _ _ _ _ (c .before .before .before .before .before .before .before .before .before .before .before .before .before .before .before .before .pre) (all-closed R.Nothing ns s (box-finite _ _ _ _ _ (sym (c .before .before .before .before .before .before .before .before .polygon-rect-all-rings .ensures) ∙ c .before .before .before .before .before .before .rect .given .1)))
 
 returns : tie.Need-returns
 unfolding route routeRect numbersOf lengthsOf

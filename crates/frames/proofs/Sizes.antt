@@ -1,0 +1,85 @@
+-- The rings of an accepted frame are short for its size, and where its rectangle is finite closing closes them all: so the working slices of a size have room for every part. Assumes nothing.
+use mathlib.Core.Path.{_≡_, refl, sym, _∙_, ap, subst}
+use mathlib.Core.Bool.{Bool, true, false, cond}
+use mathlib.Core.List.{List, [], _∷_}
+use Prim.Native.Nat.{ℕ, zero, suc, _+_, _*_, _-_, _≤_}
+use native.Mathlib.Omega.{arith}
+use lib.Dec.{ltb}
+use lib.ListN.{length, drop}
+use Rattle.tile.specs.declared.Coord.{Coord}
+use Rattle.tile.specs.Ring.{close}
+use Rattle.sutherland_hodgman.specs.Growth.{B}
+use Rattle.clip.specs.declared.rectangle.Rect.{Rect}
+use Rattle.clip.specs.declared.rectangle.Rect.the-variants as Rects
+use Rattle.clip.specs.Rectangle.{withRing, withRings}
+use Rattle.clip.specs.Rings.{larger, largest, allClosed}
+use Rattle.clip.proofs.Closing.{stays-rings, ring-closed}
+use Rattle.clip.proofs.Cuts.{B-mono}
+use Rattle.frames.specs.Frame.{Accepted, mostCoordinates, countOf, coordsOf, readRing, readMany, readPart}
+use Rattle.frames.specs.Answer.{withParts}
+use Rattle.frames.specs.Part.{ringsFrom, partAt}
+use Rattle.frames.specs.Parts.{AllParts, Workable, partsFrom}
+use Rattle.frames.proofs.Coordinates.{close-grows}
+use Rattle.frames.proofs.Cutting.{next-ring}
+use Rattle.frames.proofs.CutParts.{part-rings}
+use Rattle.frames.proofs.Listings.{nextPlace, next-part}
+
+larger-most : (m a b : ℕ) → a ≤ m → b ≤ m → larger a b ≤ m
+larger-most m a b ha hb = go (ltb a b)
+  where
+    go : (t : Bool) → cond t b a ≤ m
+    go true = hb
+    go false = ha
+
+stays-parts : (parts : List (List (List Coord))) → withParts Rects.NotFinite parts ≡ Rects.NotFinite
+unfolding withParts
+stays-parts [] = refl
+stays-parts (part ∷ parts) = rw (stays-rings part) (stays-parts parts)
+
+-- m coordinates, closed, are the most that a ring can have behind the head and two counts
+module _ (frame : List ℕ) (m : ℕ) (small : length frame ≤ 47 + 16 * m) where
+  -- rings that are short, and closed
+  record Rings (rings : List (List Coord)) : Type 0 where
+    short : largest length rings ≤ m
+    closes : allClosed rings ≡ true
+
+  rings-fit : (k at : ℕ) (r : Rect) → 46 ≤ at → at ≤ length frame → Accepted (readMany readRing k (drop at frame)) → (withRings r (ringsFrom frame at k) ≡ Rects.NotFinite → ⊥) → Rings (ringsFrom frame at k)
+  unfolding readMany largest withRings allClosed
+  rings-fit zero at r h w a q = record { short = omega arith; closes = refl }
+  rings-fit (suc k) at r h w a q =
+      let n = next-ring frame at (suc k) w (omega arith) a in
+      let p : suc k - 1 ≡ k = omega arith in
+      let to = at + 2 + 16 * countOf (drop at frame) in
+      let c = coordsOf (countOf (drop at frame)) (drop (at + 2) frame) in
+      let here : ringsFrom frame at (suc k) ≡ close c ∷ ringsFrom frame to k = n .here ∙ rw p in
+      let q′ : withRings (withRing r (close c)) (ringsFrom frame to k) ≡ Rects.NotFinite → ⊥ = λ z. q (ap (withRings r) here ∙ z) in
+      let later = rings-fit k to (withRing r (close c)) (omega arith) (n .whole) (subst (λ (j : ℕ). Accepted (readMany readRing j (drop to frame))) p (n .later)) q′ in
+      subst Rings (sym here) (record {
+        short = larger-most m _ _ (omega (arith, n .whole, close-grows (countOf (drop at frame)) (drop (at + 2) frame))) (later .short);
+        closes = rw (ring-closed r c (ringsFrom frame to k) q′, later .closes);
+      })
+
+  -- working slices of these lengths have room for a ring of m coordinates
+  module _ (ring a b order : ℕ) (hm : m ≤ mostCoordinates + 1) (hring : 2 * m ≤ ring) (ha : 2 * B m ≤ a) (hb : 2 * B m ≤ b) (horder : B m ≤ order) where
+    workable : (rings : List (List Coord)) → Rings rings → Workable ring a b order rings
+    workable rings r =
+        let l = B-mono (largest length rings) m (r .short) in
+        record {
+          working = record { small = omega (arith, r .short); closes = r .closes; lent = omega (arith, r .short); first = omega (arith, l); second = omega (arith, l) };
+          positions = omega (arith, l);
+        }
+
+    pub parts-fit : (k at : ℕ) (r : Rect) → 44 ≤ at → at ≤ length frame → Accepted (readMany readPart k (drop at frame)) → (withParts r (partsFrom frame at k) ≡ Rects.NotFinite → ⊥) → AllParts (Workable ring a b order) (partsFrom frame at k)
+    unfolding readMany withParts
+    parts-fit zero at r h w x q = tt
+    parts-fit (suc k) at r h w x q =
+        let n = next-part frame at (suc k) w (omega arith) x in
+        let p : suc k - 1 ≡ k = omega arith in
+        let to = nextPlace frame at in
+        let here : partsFrom frame at (suc k) ≡ partAt frame at ∷ partsFrom frame to k = n .here ∙ rw p in
+        let q′ : withParts (withRings r (partAt frame at)) (partsFrom frame to k) ≡ Rects.NotFinite → ⊥ = λ z. q (ap (withParts r) here ∙ z) in
+        let later = parts-fit k to (withRings r (partAt frame at)) (omega (arith, n .onward)) (n .within) (subst (λ (j : ℕ). Accepted (readMany readPart j (drop to frame))) p (n .later)) q′ in
+        let rs = part-rings frame at w (n .accepted) in
+        let finite : withRings r (ringsFrom frame (at + 2) (countOf (drop at frame))) ≡ Rects.NotFinite → ⊥ = λ z. q′ (rw (rs .same, z) (stays-parts (partsFrom frame to k))) in
+        let first = subst Rings (sym (rs .same)) (rings-fit (countOf (drop at frame)) (at + 2) r (omega arith) (rs .whole) (rs .accepted) finite) in
+        subst (AllParts (Workable ring a b order)) (sym here) (workable (partAt frame at) first, later)

@@ -1,0 +1,159 @@
+// The frame call: the bytes of a frame, and an output. It is open to callers and refuses what it can't read.
+ghost use mathlib.Core.Path.{_≡_};
+ghost use Prim.Native.Nat.{_≤_};
+ghost use lib.ListN.{length};
+ghost use Rattle.frames.specs.Frame as F;
+ghost use Rattle.frames.specs.Room as R;
+ghost use Rattle.frames.specs.Encoding as E;
+ghost use Rattle.frames.specs.Measure as M;
+ghost use Rattle.frames.specs.Parts as S;
+ghost use Rattle.frames.specs.Entry as Y;
+use super::head::Head;
+use super::head::read_head;
+use super::measure::whole_rect;
+use super::parts::answer_in;
+use super::parts::put_alone;
+use super::reader::FrameCheck;
+use super::reader::FrameRefusal;
+use super::reader::MULTIPOLYGON;
+use super::room::check_call;
+use clip::rectangle::Rect;
+use clip::rectangle::intersects_bounds;
+use clip::rectangle::is_fully_inside;
+use tile::TileBounds;
+
+// The longest frames of the two smaller sizes of working arrays: with 17 and 81 coordinates in a ring, closed.
+const SMALL: usize = 304;
+
+const MEDIUM: usize = 1328;
+
+// A refusal, or the count of the answer's bytes.
+pub enum FrameAnswer {
+    Refused(FrameRefusal),
+    Answered(usize),
+}
+
+fn answer_small(frame: &[u8], head: Head, rect: Rect, bounds: TileBounds, out: &mut [u8]) -> usize
+    requires { ⌜ Y.Cuttable (now frame) head (length (now out)) × (length (now frame) ≤ 304) ⌝ }
+    ensures { λ r. ⌜ S.Answers (Y.answerMeasured head rect bounds (Y.partsOf (F.readFrame (now (frame .entry))))) (now (out .entry)) r (now (out .exit)) ⌝ }
+{
+    let mut ring = [0.0; 34];
+    let mut a = [0.0; 168];
+    let mut b = [0.0; 168];
+    let mut order = [0u32; 84];
+    answer_in(
+        frame,
+        head,
+        rect,
+        bounds,
+        &mut ring,
+        &mut a,
+        &mut b,
+        &mut order,
+        out,
+    )
+}
+
+fn answer_medium(frame: &[u8], head: Head, rect: Rect, bounds: TileBounds, out: &mut [u8]) -> usize
+    requires { ⌜ Y.Cuttable (now frame) head (length (now out)) × (length (now frame) ≤ 1328) ⌝ }
+    ensures { λ r. ⌜ S.Answers (Y.answerMeasured head rect bounds (Y.partsOf (F.readFrame (now (frame .entry))))) (now (out .entry)) r (now (out .exit)) ⌝ }
+{
+    let mut ring = [0.0; 162];
+    let mut a = [0.0; 816];
+    let mut b = [0.0; 816];
+    let mut order = [0u32; 408];
+    answer_in(
+        frame,
+        head,
+        rect,
+        bounds,
+        &mut ring,
+        &mut a,
+        &mut b,
+        &mut order,
+        out,
+    )
+}
+
+fn answer_full(frame: &[u8], head: Head, rect: Rect, bounds: TileBounds, out: &mut [u8]) -> usize
+    requires { ⌜ Y.Cuttable (now frame) head (length (now out)) ⌝ }
+    ensures { λ r. ⌜ S.Answers (Y.answerMeasured head rect bounds (Y.partsOf (F.readFrame (now (frame .entry))))) (now (out .entry)) r (now (out .exit)) ⌝ }
+{
+    let mut ring = [0.0; 636];
+    let mut a = [0.0; 3220];
+    let mut b = [0.0; 3220];
+    let mut order = [0u32; 1610];
+    answer_in(
+        frame,
+        head,
+        rect,
+        bounds,
+        &mut ring,
+        &mut a,
+        &mut b,
+        &mut order,
+        out,
+    )
+}
+
+// By the size of the frame: clearing arrays for the longest ring costs more than cutting a short one.
+fn answer_sized(frame: &[u8], head: Head, rect: Rect, bounds: TileBounds, out: &mut [u8]) -> usize
+    requires { ⌜ Y.Cuttable (now frame) head (length (now out)) ⌝ }
+    ensures { λ r. ⌜ S.Answers (Y.answerMeasured head rect bounds (Y.partsOf (F.readFrame (now (frame .entry))))) (now (out .entry)) r (now (out .exit)) ⌝ }
+{
+    if frame.len() <= SMALL {
+        return answer_small(frame, head, rect, bounds, out);
+    }
+    if frame.len() <= MEDIUM {
+        return answer_medium(frame, head, rect, bounds, out);
+    }
+    answer_full(frame, head, rect, bounds, out)
+}
+
+// A multipolygon that is inside as a whole is unchanged, with no issue check.
+fn is_inside_whole(kind: u8, rect: Rect, bounds: TileBounds) -> bool
+    ensures { λ r. ⌜ r ≡ Y.insideWhole kind rect bounds ⌝ }
+{
+    kind == MULTIPOLYGON && is_fully_inside(rect, bounds)
+}
+
+// The answer to a frame whose rectangle is rect: what is apart, and a multipolygon that is inside, is answered before there is any array.
+fn answer_measured(frame: &[u8], head: Head, rect: Rect, out: &mut [u8]) -> usize
+    requires { ⌜ Y.Cuttable (now frame) head (length (now out)) × (rect ≡ M.frameRect (F.readFrame (now frame))) ⌝ }
+    ensures { λ r. ⌜ S.Answers (Y.answerIn (F.readFrame (now (frame .entry)))) (now (out .entry)) r (now (out .exit)) ⌝ }
+{
+    let bounds = head.bounds.buffered(head.buffer);
+    if !intersects_bounds(rect, bounds) {
+        return put_alone(out, 0, 0);
+    }
+    if is_inside_whole(head.kind, rect, bounds) {
+        return put_alone(out, 2, 0);
+    }
+    answer_sized(frame, head, rect, bounds, out)
+}
+
+// Writes the answer to an accepted frame and tells how many bytes it has.
+fn answer(frame: &[u8], out: &mut [u8]) -> usize
+    requires { ⌜ F.Accepted (F.readFrame (now frame)) × (R.frameRoom R.coordinateBytes (F.readFrame (now frame)) ≤ length (now out)) ⌝ }
+    ensures { λ r. ⌜ S.Answers (Y.answerIn (F.readFrame (now (frame .entry)))) (now (out .entry)) r (now (out .exit)) ⌝ }
+{
+    let head = read_head(frame);
+    match whole_rect(frame) {
+        Rect::Nothing => put_alone(out, 0, 0),
+        Rect::NotFinite => put_alone(out, 1, 1),
+        Rect::Box(w, s, e, n) => {
+            let rect = Rect::Box(w, s, e, n);
+            answer_measured(frame, head, rect, out)
+        }
+    }
+}
+
+pub fn frame(frame: &[u8], out: &mut [u8]) -> FrameAnswer
+    ensures { λ r. ⌜ r ≡ Y.callAnswer (now (frame .entry)) (now (out .entry)) ⌝ }
+    ensures { λ _. ⌜ now (out .exit) ≡ E.callOutput (now (frame .entry)) (now (out .entry)) ⌝ }
+{
+    if let FrameCheck::Fails(refusal) = check_call(frame, out.len()) {
+        return FrameAnswer::Refused(refusal);
+    }
+    FrameAnswer::Answered(answer(frame, out))
+}
