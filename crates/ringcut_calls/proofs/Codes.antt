@@ -1,16 +1,28 @@
 -- An answer's code fits an i64. Assumes nothing.
-use Prim.Native.Nat.{ℕ, _*_, _<_, _≤_}
+use mathlib.Core.Path.{_≡_, refl}
+use mathlib.Core.List.{List}
+use Prim.Native.Nat.{ℕ, _*_, _≤_}
 use native.Mathlib.Omega.{arith}
 use lib.Dec.{lit<}
-use lib.IntN.{pos}
+use lib.IntN.{pos, negℤ, _-ℤ_}
+use lib.ListN.{length}
 use mir.Syntax.{w64}
-use mir.Val.{SFits}
+use mir.Val.{SFits, toZ, ofZ}
 use borrow.Author.Needs.{sfits-of}
 use Rattle.sutherland_hodgman.specs.declared.call.Refusal.{Refusal}
 use Rattle.sutherland_hodgman.specs.declared.call.Refusal.the-variants.{Lengths, Coordinates, Scratch, Output}
 use Rattle.sutherland_hodgman.specs.declared.call.RingAnswer.the-variants.{Refused}
 use Rattle.sutherland_hodgman.specs.Growth.{mostCoordinates}
 use Rattle.sutherland_hodgman.specs.Call.{code}
+use Rattle.frames.specs.declared.reader.FrameRefusal.{FrameRefusal}
+use Rattle.frames.specs.declared.reader.FrameRefusal.the-variants as Frames
+use Rattle.frames.specs.declared.entry.FrameAnswer.the-variants as FrameAnswers
+use Rattle.frames.specs.declared.entry.FrameAnswer.the-variants.{Answered}
+use Rattle.frames.specs.Frame.{Reading, refused, read, Frame, refusalNumber}
+use Rattle.frames.specs.Encoding.{frameBytes}
+use Rattle.frames.specs.Encoding.{code as frameCode}
+use Rattle.frames.specs.Entry.{answerOfReading, callAnswer}
+use Rattle.frames.proofs.Entries.{answered-few}
 
 pub count-fits : (n : ℕ) → n ≤ 8 * mostCoordinates → SFits w64 (pos n)
 count-fits n h = sfits-of (omega arith)
@@ -20,3 +32,31 @@ refusal-fits Lengths = sfits-of (lit< tt)
 refusal-fits Coordinates = sfits-of (lit< tt)
 refusal-fits Scratch = sfits-of (lit< tt)
 refusal-fits Output = sfits-of (lit< tt)
+
+-- the same of a frame call: minus the refusal's number, as it is computed, and the count
+pub record Negated (r : FrameRefusal) : Type 0 where
+  pub fits : SFits w64 (pos 0 -ℤ toZ w64 (refusalNumber r))
+  pub value : toZ w64 (ofZ w64 (pos 0 -ℤ toZ w64 (refusalNumber r))) ≡ negℤ (pos (refusalNumber r))
+
+pub negated : (r : FrameRefusal) → Negated r
+negated Frames.Size = record { fits = sfits-of (lit< tt); value = refl }
+negated Frames.Kind = record { fits = sfits-of (lit< tt); value = refl }
+negated Frames.Flags = record { fits = sfits-of (lit< tt); value = refl }
+negated Frames.PartCount = record { fits = sfits-of (lit< tt); value = refl }
+negated Frames.Truncated = record { fits = sfits-of (lit< tt); value = refl }
+negated Frames.RingCount = record { fits = sfits-of (lit< tt); value = refl }
+negated Frames.CoordinateCount = record { fits = sfits-of (lit< tt); value = refl }
+negated Frames.Trailing = record { fits = sfits-of (lit< tt); value = refl }
+negated Frames.Output = record { fits = sfits-of (lit< tt); value = refl }
+
+pub bytes-fit : (frame out : List ℕ) (n : ℕ) → callAnswer frame out ≡ Answered n → SFits w64 (pos n)
+bytes-fit frame out n e = sfits-of (omega (arith, answered-few frame (length out) n e))
+
+-- the code of an answer
+pub refused-code : (x : Reading Frame) (r : FrameRefusal) → answerOfReading x ≡ FrameAnswers.Refused r → negℤ (pos (refusalNumber r)) ≡ frameCode x
+refused-code (refused s) r e = let same : s ≡ r = cc in rw same
+refused-code (read f rest) r e = absurd (let z : _≡_ {A = ℕ} 0 1 = cc in omega arith)
+
+pub answered-code : (x : Reading Frame) (n : ℕ) → answerOfReading x ≡ Answered n → pos n ≡ frameCode x
+answered-code (refused s) n e = absurd (let z : _≡_ {A = ℕ} 0 1 = cc in omega arith)
+answered-code (read f rest) n e = let same : length (frameBytes f) ≡ n = cc in rw same

@@ -5,11 +5,14 @@ ghost use lib.ListN.{length};
 ghost use Rattle.tile.specs.Bounds.{newOf};
 ghost use Rattle.sutherland_hodgman.specs.Call as S;
 ghost use Rattle.clip.specs.Slice as P;
+ghost use Rattle.frames.specs.Encoding as F;
 ghost use Rattle.ringcut_calls.specs.Flags.{isSet, flagsOf};
 use clip::polygon::Flags;
 use clip::polygon::reason_number;
 use clip::slice::PolygonAnswer;
 use clip::slice::SliceAnswer;
+use frames::entry::FrameAnswer;
+use frames::reader::refusal_number;
 use sutherland_hodgman::call::Refusal;
 use sutherland_hodgman::call::RingAnswer;
 use tile::TileBounds;
@@ -114,5 +117,17 @@ pub extern "C" fn ringcut_polygon(
     ) {
         SliceAnswer::Refused(r) => refusal_code(r),
         SliceAnswer::Answered(answer) => answer_code(answer) as i64,
+    }
+}
+
+// The frame call: the count of the answer's bytes, which stand at the front of the output, or minus the refusal.
+#[no_mangle]
+pub extern "C" fn ringcut_frame(frame: &[u8], out: &mut [u8]) -> i64
+    ensures { λ c. ⌜ c ≡ F.callCode (now (frame .entry)) (now (out .entry)) ⌝ }
+    ensures { λ _. ⌜ now (out .exit) ≡ F.callOutput (now (frame .entry)) (now (out .entry)) ⌝ }
+{
+    match frames::entry::frame(frame, out) {
+        FrameAnswer::Refused(r) => -(refusal_number(r) as i64),
+        FrameAnswer::Answered(n) => n as i64,
     }
 }
