@@ -44,10 +44,6 @@ extern "C" {
 #define RINGCUT_ROOM(n) \
     ((n) == 0 ? 0 : RINGCUT_HALF_GROWTH(RINGCUT_HALF_GROWTH(RINGCUT_HALF_GROWTH(RINGCUT_HALF_GROWTH(n)))) + 2)
 
-/* The library does not export the frame call yet, and a program that calls it does not link: define RINGCUT_FRAME only for a
- * library that has it. */
-#ifdef RINGCUT_FRAME
-
 /* The bytes of output that are enough for every frame. */
 #define RINGCUT_MOST_FRAME_OUTPUT 50077
 
@@ -67,8 +63,6 @@ extern "C" {
  * the stack.
  */
 int64_t ringcut_frame(const uint8_t *frame, size_t frame_len, uint8_t *out, size_t out_len);
-
-#endif
 
 /*
  * Cuts one ring of x, y numbers, closed or not, to four bounds used as given. Answers how many coordinates of out the cut ring

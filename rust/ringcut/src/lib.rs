@@ -1,10 +1,9 @@
 //! Cuts licence areas to a map tile: safe calls of a static library in which every function is proved to meet its contract.
 //! No heap, no allocation: the caller lends every buffer.
 //!
+//! - [`cut_frame`] takes a polygon or a multipolygon as bytes and writes the answer as bytes.
 //! - [`cut_polygon`] takes one polygon as numbers.
 //! - [`cut_ring`] cuts one ring, and looks at nothing else.
-//! - `cut_frame` takes a polygon or a multipolygon as bytes and writes the answer as bytes. It comes with the library's
-//!   `ringcut_frame`: feature `frame`, off until the library has it.
 //!
 //! Each answers on every input, with a [`Refusal`] where it can't cut. A refused call has changed no lent buffer. One that is
 //! not refused fills scratch and order slices with zeros, from end to end, and leaves the output past its answer as it was.
@@ -23,9 +22,7 @@ mod room;
 
 pub use answer::{Answer, Edge, Reason};
 pub use refusal::Refusal;
-pub use room::room_for_ring;
-#[cfg(feature = "frame")]
-pub use room::MOST_FRAME_OUTPUT;
+pub use room::{room_for_ring, MOST_FRAME_OUTPUT};
 
 /// README.md, so that its example is run with the other tests.
 #[cfg(doctest)]
@@ -121,7 +118,6 @@ pub struct PolygonBuffers<'a> {
 /// assert_eq!(out[..len], answer);
 /// # Ok::<(), ringcut::Refusal>(())
 /// ```
-#[cfg(feature = "frame")]
 #[inline]
 pub fn cut_frame(frame: &[u8], out: &mut [u8]) -> Result<usize, Refusal> {
     count(raw::frame(frame, out))

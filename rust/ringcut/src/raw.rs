@@ -6,7 +6,6 @@ use crate::{Bounds, PolygonBuffers, RingBuffers};
 /// The library's own names. A slice crosses as a pointer and a length, in that order.
 mod exported {
     extern "C" {
-        #[cfg(feature = "frame")]
         pub fn ringcut_frame(frame: *const u8, frame_len: usize, out: *mut u8, out_len: usize) -> i64;
 
         pub fn ringcut_ring(
@@ -51,7 +50,6 @@ mod exported {
 }
 
 /// The bytes of the answer, or minus the refusal.
-#[cfg(feature = "frame")]
 #[inline]
 pub fn frame(frame: &[u8], out: &mut [u8]) -> i64 {
     // SAFETY: each pointer and length is that of a slice borrowed for the call, and the call asks nothing else.
