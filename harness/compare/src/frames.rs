@@ -60,7 +60,7 @@ fn shown(answer: &Answer) -> String {
 }
 
 /// An answer in a word; a list is named after its first part.
-fn label(answer: &Answer) -> &'static str {
+pub fn label(answer: &Answer) -> &'static str {
     match answer {
         Err(refusal) => refusal_label(*refusal),
         Ok(bytes) => match bytes[0] {

@@ -6,7 +6,7 @@ pub mod command;
 pub mod frames;
 pub mod lines;
 pub mod mistakes;
-mod shrink;
+pub mod shrink;
 
 /// Bytes as lower-case hexadecimal digits.
 pub fn hex(bytes: &[u8]) -> String {

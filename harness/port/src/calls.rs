@@ -1,6 +1,8 @@
 //! The calls of crate `ringcut` on the harness's bounds, with their answers as the numbers that cross.
 
 use formats::Bounds;
+/// The count of bytes of the answer, or minus the refusal.
+pub use ringcut::raw::frame;
 pub use ringcut::PolygonBuffers;
 use ringcut::{raw, RingBuffers};
 

@@ -6,5 +6,6 @@ pub mod frames;
 pub mod issues;
 pub mod probe;
 pub mod promise;
+pub mod reader;
 pub mod rings;
 pub mod slices;

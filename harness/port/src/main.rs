@@ -4,7 +4,7 @@ use std::process::exit;
 
 use compare::command::Command;
 
-const USAGE: &str = "usage: port bounds|frames|issues|rings|slices [--seed S] [--count N]";
+const USAGE: &str = "usage: port bounds|frames|issues|reader|rings|slices [--seed S] [--count N]";
 
 fn main() {
     let Command { what, seed, count } = Command::read(USAGE);
@@ -12,6 +12,7 @@ fn main() {
         "bounds" => port::bounds::compare(seed, count),
         "frames" => port::frames::compare(seed, count),
         "issues" => port::issues::compare(seed, count),
+        "reader" => port::reader::compare(seed, count),
         "rings" => port::rings::compare(seed, count),
         "slices" => port::slices::compare(seed, count),
         _ => {

@@ -2,7 +2,7 @@
 
 #[test]
 fn refusals_and_room_agree() {
-    let campaign = port::frames::compare(1, 20_000);
+    let campaign = port::reader::compare(1, 20_000);
     println!("{campaign}");
     assert_eq!(campaign.difference(), None);
 }

@@ -5,9 +5,11 @@ use std::fmt::Display;
 
 use compare::calls::styles;
 use compare::campaign::{self, Campaign, Checked};
+use compare::frames::kinds;
 use formats::calls::{RingCall, SliceCall};
+use generator::Specimen;
 use port::calls::named;
-use ringcut::{cut_polygon, cut_ring, Answer, Flags, PolygonBuffers, Refusal, RingBuffers};
+use ringcut::{cut_frame, cut_polygon, cut_ring, Answer, Flags, PolygonBuffers, Refusal, RingBuffers};
 
 const SEED: u64 = 3;
 const COUNT: u64 = 1_000;
@@ -55,22 +57,41 @@ fn check_slice(call: &SliceCall) -> Checked {
     verdict(call, after.difference(&call.after(&oracle::slice_call(call))))
 }
 
-fn all_agree(campaign: &Campaign) {
+fn check_frame(Specimen { frame, room }: &Specimen) -> Checked {
+    let mut out = vec![0; *room];
+    let answered = cut_frame(frame, &mut out).map(|len| out[..len].to_vec()).map_err(Refusal::number);
+    if answered != oracle::answer(frame, *room) {
+        return Err(format!("room {room}, frame {frame:?}: {answered:?}"));
+    }
+    Ok("same")
+}
+
+fn all_agree(campaign: &Campaign, kinds: usize) {
     println!("{campaign}");
     assert_eq!(campaign.difference(), None);
-    assert_eq!(campaign.agreed(), styles().len() as u64 * COUNT);
+    assert_eq!(campaign.agreed(), kinds as u64 * COUNT);
+}
+
+#[test]
+fn safe_frame_calls_agree() {
+    let campaign = campaign::run("safe frame calls", SEED, COUNT, &kinds(), |kind, index| {
+        check_frame(&generator::frame(kind, SEED, index))
+    });
+    all_agree(&campaign, kinds().len());
 }
 
 #[test]
 fn safe_ring_calls_agree() {
-    all_agree(&campaign::run("safe ring calls", SEED, COUNT, &styles(), |style, index| {
+    let campaign = campaign::run("safe ring calls", SEED, COUNT, &styles(), |style, index| {
         check_ring(&generator::ring_call(style, SEED, index))
-    }));
+    });
+    all_agree(&campaign, styles().len());
 }
 
 #[test]
 fn safe_slice_calls_agree() {
-    all_agree(&campaign::run("safe slice calls", SEED, COUNT, &styles(), |style, index| {
+    let campaign = campaign::run("safe slice calls", SEED, COUNT, &styles(), |style, index| {
         check_slice(&generator::slice_call(style, SEED, index))
-    }));
+    });
+    all_agree(&campaign, styles().len());
 }

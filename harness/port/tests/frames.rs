@@ -1,0 +1,75 @@
+//! The frame entry of the port against the Rust, the share that every test run takes: random and damaged frames, and rings of
+//! every length that a frame can hold, as its length picks the working arrays.
+
+use compare::frames::kinds;
+use formats::frame::{Frame, MULTIPOLYGON, POLYGON};
+use formats::Ring;
+use generator::Specimen;
+use port::frames;
+
+const BOUNDS: [f64; 4] = [0.0, 0.0, 10.0, 10.0];
+
+/// The most coordinates of a frame's one ring.
+const MOST: usize = 317;
+
+#[test]
+fn frames_agree() {
+    let campaign = frames::compare(1, 15_000);
+    println!("{campaign}");
+    assert_eq!(campaign.difference(), None);
+    assert_eq!(campaign.agreed(), kinds().len() as u64 * 15_000);
+}
+
+/// In and out at every vertex, over all four bounds; not closed.
+fn zigzag(coordinates: usize) -> Ring {
+    let vertex = |k: usize| {
+        let angle = std::f64::consts::TAU * k as f64 / coordinates as f64;
+        let distance = if k.is_multiple_of(2) { 3.0 } else { 9.0 };
+        (5.0 + distance * angle.cos(), 5.0 + distance * angle.sin())
+    };
+    (0..coordinates).map(vertex).collect()
+}
+
+fn specimen(kind: u8, flags: u8, ring: Ring) -> Specimen {
+    let frame = Frame { kind, flags, bounds: BOUNDS, buffer: 0.0, parts: vec![vec![ring]] };
+    Specimen { frame: frame.encode(), room: frame.room() }
+}
+
+/// A ring alone, left open or closed. A zigzag of three vertices or more is cut.
+#[test]
+fn every_length_of_a_ring_agrees() {
+    for coordinates in 0..=MOST {
+        for kind in [POLYGON, MULTIPOLYGON] {
+            for flags in 0..4 {
+                let mut ring = zigzag(coordinates);
+                let open = frames::check(&specimen(kind, flags, ring.clone()));
+                if let Some(last) = ring.len().checked_sub(1) {
+                    ring[last] = ring[0];
+                }
+                let closed = frames::check(&specimen(kind, flags, ring));
+                assert!(open.is_ok() && closed.is_ok(), "{coordinates} coordinates: {open:?}, {closed:?}");
+            }
+        }
+    }
+    assert_eq!(frames::check(&specimen(POLYGON, 3, zigzag(MOST))), Ok("cut"));
+    assert_eq!(frames::check(&specimen(POLYGON, 3, zigzag(MOST + 1))), Ok("11"));
+}
+
+/// An answer, a refusal and a byte of the output that are not the port's are each noticed.
+#[test]
+fn differences_are_noticed() {
+    let Specimen { frame, room } = specimen(POLYGON, 3, zigzag(16));
+    let answer = oracle::answer(&frame, room).unwrap();
+    assert_eq!(frames::check_in(&frame, room, &Ok(answer.clone())), Ok(()));
+    assert_eq!(frames::check_in(&frame, room - 1, &Err(22)), Ok(()));
+    for place in 0..answer.len() {
+        let mut other = answer.clone();
+        other[place] ^= 1;
+        let difference = frames::check_in(&frame, room, &Ok(other)).unwrap_err();
+        assert!(difference.ends_with(&format!("first other byte of the output Some({place})")), "{difference}");
+    }
+    assert!(frames::check_in(&frame, room, &Ok(answer[..answer.len() - 1].to_vec())).is_err());
+    assert!(frames::check_in(&frame, room, &Err(22)).is_err());
+    assert!(frames::check_in(&frame, room - 1, &Err(21)).is_err());
+    assert!(frames::check_in(&frame, room - 1, &Ok(answer)).is_err());
+}
