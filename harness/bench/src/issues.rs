@@ -7,17 +7,17 @@ use port::probe;
 use tylertoo::clip::opened::has_structural_issues;
 
 use crate::outlines::{inside, rough};
+use crate::table::{whole, Row};
 use crate::timing::medians;
 
 pub fn measure() {
-    println!("issue check: edges, ring, Rust ns, port ns, ratio");
     for edges in [32, 64, 317, 1_024, 4_096, 65_536] {
-        row(edges, "smooth", inside(edges));
-        row(edges, "rough", rough(edges));
+        row(edges, "smooth", inside(edges)).print();
+        row(edges, "rough", rough(edges)).print();
     }
 }
 
-fn row(edges: usize, name: &str, mut ring: Vec<Coord<f64>>) {
+fn row(edges: usize, name: &str, mut ring: Vec<Coord<f64>>) -> Row {
     ring.push(ring[0]);
     let numbers: Vec<f64> = ring.iter().flat_map(|c| [c.x, c.y]).collect();
     let (mut work, mut order) = (vec![0.0; numbers.len()], vec![0; ring.len()]);
@@ -32,6 +32,12 @@ fn row(edges: usize, name: &str, mut ring: Vec<Coord<f64>>) {
             black_box(probe::find_issue(black_box(&numbers), false, &mut work, &mut order));
         },
     ]);
-    let (rust, port) = (times[0], times[1]);
-    println!("{edges:>6} {name:<12} {rust:>9.0} {port:>9.0} {:>5.2}", port / rust);
+    Row {
+        workload: "issue check",
+        size: format!("{} edges", whole(edges as f64)),
+        case: name.to_string(),
+        rust: times[0],
+        port: times[1],
+        clearing: None,
+    }
 }

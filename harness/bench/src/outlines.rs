@@ -28,6 +28,10 @@ pub fn astride(n: usize) -> Vec<Coord<f64>> {
     around(n, (10.01, 5.0), |_| 4.0)
 }
 
+pub fn apart(n: usize) -> Vec<Coord<f64>> {
+    around(n, (30.0, 5.0), |_| 4.0)
+}
+
 /// A radius that is up to 5 % longer or shorter, by a fixed rule that looks like chance.
 pub fn rough(n: usize) -> Vec<Coord<f64>> {
     let wavering = |k: usize| (k as u64).wrapping_mul(0x9e37_79b9_7f4a_7c15) >> 11;

@@ -10,7 +10,8 @@ use tylertoo::sutherland_hodgman::opened::clip_ring;
 use tylertoo::tile::TileBounds;
 
 use crate::outlines::{half_outside, inside, zigzag, BOUNDS};
-use crate::timing::medians;
+use crate::table::{whole, Clearing, Row};
+use crate::timing::medians_in_step;
 
 /// A ring of so many vertices.
 type Outline = fn(usize) -> Vec<Coord<f64>>;
@@ -18,22 +19,21 @@ type Outline = fn(usize) -> Vec<Coord<f64>>;
 const OUTLINES: [(&str, Outline); 3] = [("inside", inside), ("half outside", half_outside), ("zigzag", zigzag)];
 
 pub fn measure() {
-    println!("ring call: vertices, ring, Rust ns, cut ns, ratio, clearing ns, whole call ns, ratio");
     for vertices in [64, 1_024, 65_536] {
         for (name, outline) in OUTLINES {
-            row(vertices, name, &outline(vertices));
+            row(vertices, name, &outline(vertices)).print();
         }
     }
 }
 
-fn row(vertices: usize, name: &str, ring: &[Coord<f64>]) {
+fn row(vertices: usize, name: &str, ring: &[Coord<f64>]) -> Row {
     let bounds = TileBounds::new(BOUNDS[0], BOUNDS[1], BOUNDS[2], BOUNDS[3]);
     let numbers: Vec<f64> = ring.iter().flat_map(|c| [c.x, c.y]).collect();
     let lent = || vec![0.0; 2 * most_cut(vertices)];
     let (mut a, mut b, mut out) = (lent(), lent(), lent());
     let (mut call_a, mut call_b, mut call_out) = (lent(), lent(), lent());
     let (mut clear_a, mut clear_b) = (lent(), lent());
-    let times = medians(&mut [
+    let times = medians_in_step(&mut [
         &mut || {
             black_box(clip_ring(black_box(ring), &bounds));
         },
@@ -48,10 +48,12 @@ fn row(vertices: usize, name: &str, ring: &[Coord<f64>]) {
             black_box(calls::ring(black_box(&numbers), &BOUNDS, &mut call_a, &mut call_b, &mut call_out));
         },
     ]);
-    let (rust, cut, clearing, call) = (times[0], times[1], times[2], times[3]);
-    println!(
-        "{vertices:>6} {name:<12} {rust:>9.0} {cut:>9.0} {:>5.2} {clearing:>9.0} {call:>9.0} {:>5.2}",
-        cut / rust,
-        call / rust
-    );
+    Row {
+        workload: "ring call",
+        size: format!("{} vertices", whole(vertices as f64)),
+        case: name.to_string(),
+        rust: times[0],
+        port: times[1],
+        clearing: Some(Clearing { alone: times[2], whole_call: times[3] }),
+    }
 }

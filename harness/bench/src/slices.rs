@@ -15,6 +15,7 @@ use tylertoo::ioverlay_clip::clip_polygon_ioverlay;
 use tylertoo::tile::TileBounds;
 
 use crate::outlines::{astride, inside, BOUNDS};
+use crate::table::{whole, Clearing, Row};
 use crate::timing::medians_in_step;
 
 /// Document 01's numbers of a polygon's answers.
@@ -25,14 +26,11 @@ const BRIDGE_ON_THE_RIGHT: i64 = 5 + 256 * 4;
 const APART: [f64; 8] = [20.0, 20.0, 30.0, 20.0, 30.0, 30.0, 20.0, 20.0];
 
 pub fn measure() {
-    println!(
-        "slice call: vertices, polygon, flags, Rust ns, port without clearing ns, ratio, clearing ns, whole call ns, ratio"
-    );
     for vertices in [64, 1_024, 65_536] {
-        row(vertices, "inside", 1, inside(vertices - 1), UNCHANGED);
-        row(vertices, "inside", 0, inside(vertices - 1), UNCHANGED);
-        row(vertices, "half outside", 3, astride(vertices - 1), CUT_TO_ONE_RING);
-        row(vertices, "half outside", 0, astride(vertices - 1), BRIDGE_ON_THE_RIGHT);
+        row(vertices, "inside", 1, inside(vertices - 1), UNCHANGED).print();
+        row(vertices, "inside", 0, inside(vertices - 1), UNCHANGED).print();
+        row(vertices, "half outside", 3, astride(vertices - 1), CUT_TO_ONE_RING).print();
+        row(vertices, "half outside", 0, astride(vertices - 1), BRIDGE_ON_THE_RIGHT).print();
     }
 }
 
@@ -71,7 +69,7 @@ impl Slices {
 }
 
 /// A ring of so many vertices with its closing one, which it is given without.
-fn row(vertices: usize, name: &str, flags: u8, mut ring: Vec<Coord<f64>>, answer: i64) {
+fn row(vertices: usize, name: &str, flags: u8, mut ring: Vec<Coord<f64>>, answer: i64) -> Row {
     ring.push(ring[0]);
     assert_eq!(ring.len(), vertices);
     let (assume_simple, skip_boundary_fallback) = (flags & 1 != 0, flags & 2 != 0);
@@ -111,11 +109,13 @@ fn row(vertices: usize, name: &str, flags: u8, mut ring: Vec<Coord<f64>>, answer
         },
     ]);
     let overlay = if wants_overlay { times[1] } else { 0.0 };
-    let (rust, clearing, whole) = (times[0] - overlay, times[2], times[3]);
-    let port = whole - clearing;
-    println!(
-        "{vertices:>6} {name:<12} {flags} {rust:>9.0} {port:>9.0} {:>5.2} {clearing:>9.0} {whole:>9.0} {:>5.2}",
-        port / rust,
-        whole / rust
-    );
+    let (alone, whole_call) = (times[2], times[3]);
+    Row {
+        workload: "slice call",
+        size: format!("{} vertices", whole(vertices as f64)),
+        case: format!("{name}, flags {flags}"),
+        rust: times[0] - overlay,
+        port: whole_call - alone,
+        clearing: Some(Clearing { alone, whole_call }),
+    }
 }
