@@ -18,35 +18,35 @@ const LINES: usize = 200_000;
 const RUNS: usize = 11;
 
 /// How often each size of `SIZES` comes among a hundred lines.
-const SMALL: [usize; 4] = [100, 0, 0, 0];
-const MIXED: [usize; 4] = [80, 16, 2, 2];
+type Shares = [usize; 4];
+
+pub const INPUTS: [(&str, Shares); 2] = [("5 coordinates", [100, 0, 0, 0]), ("mixed", [80, 16, 2, 2])];
 
 pub fn measure() {
-    for (name, shares) in [("5 coordinates", SMALL), ("mixed", MIXED)] {
-        let input = Input::new(name, shares);
-        for row in rows(name, &input) {
-            row.print();
-        }
+    for (name, shares) in INPUTS {
+        let input = Input::new(name, shares, LINES);
+        rows(name, &input).iter().for_each(Row::print);
     }
 }
 
 /// A file of lines, which is removed in the end.
-struct Input {
+pub struct Input {
     file: PathBuf,
 }
 
 impl Input {
-    fn new(name: &str, shares: [usize; 4]) -> Input {
-        let file = env::temp_dir().join(format!("ringcut-{}-{}.hex", name.replace(' ', "-"), std::process::id()));
+    pub fn new(name: &str, shares: Shares, count: usize) -> Input {
+        let name = format!("ringcut-{}-{count}-{}.hex", name.replace(' ', "-"), std::process::id());
+        let file = env::temp_dir().join(name);
         let mut written = BufWriter::new(File::create(&file).expect("a temporary file can be made"));
         let lines = hundred_lines(shares);
-        for k in 0..LINES {
+        for k in 0..count {
             written.write_all(lines[k % lines.len()].as_bytes()).expect("the lines can be written");
         }
         Input { file }
     }
 
-    fn open(&self) -> File {
+    pub fn open(&self) -> File {
         File::open(&self.file).expect("the lines can be read")
     }
 }
@@ -59,14 +59,14 @@ impl Drop for Input {
 }
 
 /// A hundred lines of every case in turn, the sizes mixed by a fixed rule that looks like chance.
-fn hundred_lines(shares: [usize; 4]) -> Vec<String> {
+fn hundred_lines(shares: Shares) -> Vec<String> {
     let sizes: Vec<usize> = (0..4).flat_map(|size| vec![size; shares[size]]).collect();
     let line = |k: usize| hex(&frame_bytes(&SIZES[sizes[k * 37 % 100]], &CASES[k % CASES.len()])) + "\n";
     (0..100).map(line).collect()
 }
 
 /// The program of the repository, and this one as `bench ringcut`.
-fn programs() -> [Command; 2] {
+pub fn programs() -> [Command; 2] {
     let mut rust = Command::new(env::current_exe().expect("a program knows where it is"));
     rust.arg("ringcut");
     let port = Path::new(env!("CARGO_MANIFEST_DIR")).join("../../target/bin/ringcut");

@@ -1,8 +1,9 @@
 //! Times the port beside the unchanged Rust, on the same inputs, in one run: one table, times in nanoseconds. The ratio is the
-//! port's time over the Rust's. The name of a workload asks for its rows alone. As `ringcut` it is the Rust program that the
-//! port's is measured beside.
+//! port's time over the Rust's. The name of a workload asks for its rows alone, `instructions` for the counts of callgrind. As
+//! `ringcut` it is the Rust program that the port's is measured beside.
 
 mod frames;
+mod instructions;
 mod issues;
 mod lines;
 mod outlines;
@@ -23,12 +24,24 @@ const WORKLOADS: [(&str, fn()); 5] = [
 ];
 
 fn main() {
-    let asked = std::env::args().nth(1);
-    if asked.as_deref() == Some("ringcut") {
-        return baseline::run(stdin().lock(), stdout().lock()).expect("standard input and output can be used");
+    let arguments: Vec<String> = std::env::args().skip(1).collect();
+    match arguments.first().map(String::as_str) {
+        Some("ringcut") => {
+            baseline::run(stdin().lock(), stdout().lock()).expect("standard input and output can be used")
+        }
+        Some("calls") => instructions::make_calls(&arguments[1..]),
+        Some("instructions") => instructions::measure(),
+        asked => measure(asked),
     }
-    let is_asked = |name: &str| asked.as_deref().is_none_or(|asked| asked == name);
-    assert!(WORKLOADS.iter().any(|&(name, _)| is_asked(name)), "usage: bench [issues|rings|slices|frames|lines]");
+}
+
+/// The rows of every workload, or of the one asked for.
+fn measure(asked: Option<&str>) {
+    let is_asked = |name: &str| asked.is_none_or(|asked| asked == name);
+    assert!(
+        WORKLOADS.iter().any(|&(name, _)| is_asked(name)),
+        "usage: bench [issues|rings|slices|frames|lines|instructions]"
+    );
     table::print_head();
     WORKLOADS.iter().filter(|&&(name, _)| is_asked(name)).for_each(|&(_, measure)| measure());
 }
