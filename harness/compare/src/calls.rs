@@ -2,6 +2,7 @@
 //! stand on one side, the second reading's answers with what it leaves itself on the other.
 
 use formats::calls::{RingAfter, RingCall, SliceAfter, SliceAnswer, SliceCall};
+use formats::Refusal;
 use generator::{Kind, Style};
 use reading::{Flags, Lent, Reading, Slices};
 
@@ -21,12 +22,16 @@ pub fn compare_ring_calls(seed: u64, count: u64) -> Campaign {
         if let Some(difference) = call.after(&oracle).difference(&reading) {
             return Err(format!("{call}: oracle and reading differ in {difference}"));
         }
-        Ok(match &oracle {
-            Err(refusal) => refusal_label(*refusal),
-            Ok(numbers) if numbers.is_empty() => "empty",
-            Ok(_) => "ring",
-        })
+        Ok(ring_label(&oracle))
     })
+}
+
+pub fn ring_label(answer: &Result<Vec<f64>, Refusal>) -> &'static str {
+    match answer {
+        Err(refusal) => refusal_label(*refusal),
+        Ok(numbers) if numbers.is_empty() => "empty",
+        Ok(_) => "ring",
+    }
 }
 
 /// `count` slice calls of each style.
@@ -38,11 +43,18 @@ pub fn compare_slice_calls(seed: u64, count: u64) -> Campaign {
         if let Some(difference) = call.after(&oracle).difference(&reading) {
             return Err(format!("{call}: oracle and reading differ in {difference}"));
         }
-        Ok(oracle.as_ref().map_or_else(|refusal| refusal_label(*refusal), label))
+        Ok(slice_label(&oracle))
     })
 }
 
-pub fn label(answer: &SliceAnswer) -> &'static str {
+pub fn slice_label(answer: &Result<SliceAnswer, Refusal>) -> &'static str {
+    match answer {
+        Err(refusal) => refusal_label(*refusal),
+        Ok(answer) => label(answer),
+    }
+}
+
+fn label(answer: &SliceAnswer) -> &'static str {
     match answer {
         SliceAnswer::Nothing => "nothing",
         SliceAnswer::Dropped => "dropped",

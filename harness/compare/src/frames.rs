@@ -76,6 +76,12 @@ pub fn label(answer: &Answer) -> &'static str {
     }
 }
 
+/// The same, with the reason of a first part that is an overlay.
+pub fn label_with_reason(answer: &Answer) -> String {
+    let reason = answer.as_ref().ok().and_then(|bytes| bytes.get(8)).filter(|&&reason| reason > 0);
+    format!("{} {reason:?}", label(answer))
+}
+
 pub fn refusal_label(refusal: u8) -> &'static str {
     const LABELS: [&str; 13] = ["10", "11", "12", "13", "14", "15", "16", "17", "18", "19", "20", "21", "22"];
     LABELS[usize::from(refusal) - 10]

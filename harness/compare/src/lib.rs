@@ -7,6 +7,7 @@ pub mod frames;
 pub mod lines;
 pub mod mistakes;
 pub mod shrink;
+pub mod vectors;
 
 /// Bytes as lower-case hexadecimal digits.
 pub fn hex(bytes: &[u8]) -> String {

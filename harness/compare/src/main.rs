@@ -1,14 +1,15 @@
 //! Compares the oracle with the second reading at any length: one summary line, exit status 1 on a difference. As
-//! `ringcut` it answers the lines of standard input as the Rust does.
+//! `ringcut` it answers the lines of standard input as the Rust does; as `sample-..` it prints specimens to be replayed.
 
 use std::io::{self, Read, Write};
 use std::process::exit;
 
 use compare::campaign::Campaign;
 use compare::command::Command;
-use compare::{calls, frames, lines, mistakes};
+use compare::{calls, frames, lines, mistakes, vectors};
 
 const USAGE: &str = "usage: compare frames|lines|rings|slices|mistakes [--seed S] [--count N], N specimens of each kind
+       compare sample-lines|sample-rings|sample-slices [--seed S] [--count N], N of each kind and answer
        compare ringcut <lines";
 
 fn main() {
@@ -23,7 +24,10 @@ fn main() {
             println!("{search}");
             exit(i32::from(!search.not_found().is_empty() || search.difference().is_some()));
         }
-        "ringcut" => ringcut().expect("standard input and output can be used"),
+        "sample-lines" => print(&vectors::lines(seed, count)),
+        "sample-rings" => print(&vectors::rings(seed, count)),
+        "sample-slices" => print(&vectors::slices(seed, count)),
+        "ringcut" => ringcut(),
         _ => {
             eprintln!("{USAGE}");
             exit(2);
@@ -36,8 +40,12 @@ fn report(campaign: &Campaign) {
     exit(i32::from(campaign.difference().is_some()));
 }
 
-fn ringcut() -> io::Result<()> {
+fn ringcut() {
     let mut input = Vec::new();
-    io::stdin().read_to_end(&mut input)?;
-    io::stdout().write_all(&oracle::lines(&input))
+    io::stdin().read_to_end(&mut input).expect("standard input can be read");
+    print(&oracle::lines(&input));
+}
+
+fn print(bytes: &[u8]) {
+    io::stdout().write_all(bytes).expect("standard output can be written");
 }

@@ -6,6 +6,7 @@ pub mod calls;
 pub mod frame;
 pub mod room;
 pub mod shown;
+pub mod vectors;
 
 /// One x, y pair.
 pub type Coord = (f64, f64);

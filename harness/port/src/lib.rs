@@ -7,5 +7,6 @@ pub mod issues;
 pub mod probe;
 pub mod promise;
 pub mod reader;
+pub mod replay;
 pub mod rings;
 pub mod slices;

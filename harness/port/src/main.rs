@@ -1,10 +1,14 @@
-//! Compares the port with the oracle at any length; one summary line, exit status 1 on a difference.
+//! Compares the port with the oracle at any length; one summary line, exit status 1 on a difference. It also replays vectors
+//! from standard input.
 
+use std::io::{stdin, Read};
 use std::process::exit;
 
 use compare::command::Command;
+use port::replay::{self, Replay};
 
-const USAGE: &str = "usage: port bounds|frames|issues|reader|rings|slices [--seed S] [--count N]";
+const USAGE: &str = "usage: port bounds|frames|issues|reader|rings|slices [--seed S] [--count N]
+       port replay-rings|replay-slices <vectors";
 
 fn main() {
     let Command { what, seed, count } = Command::read(USAGE);
@@ -15,6 +19,8 @@ fn main() {
         "reader" => port::reader::compare(seed, count),
         "rings" => port::rings::compare(seed, count),
         "slices" => port::slices::compare(seed, count),
+        "replay-rings" => report(&replay::replay_rings(&input())),
+        "replay-slices" => report(&replay::replay_slices(&input())),
         _ => {
             eprintln!("{USAGE}");
             exit(2);
@@ -22,4 +28,16 @@ fn main() {
     };
     println!("{campaign}");
     exit(i32::from(campaign.difference().is_some()));
+}
+
+fn input() -> Vec<u8> {
+    let mut input = Vec::new();
+    stdin().read_to_end(&mut input).expect("standard input can be read");
+    input
+}
+
+fn report(replay: &Replay) -> ! {
+    print!("{replay}");
+    replay.differences.iter().for_each(|difference| eprintln!("{difference}"));
+    exit(i32::from(!replay.differences.is_empty()));
 }

@@ -1,9 +1,9 @@
 //! The ring call: the port against the Rust's `clip_ring`, every lent number checked, and demand 3 on the same runs.
 
-use compare::calls::styles;
+use compare::calls::{ring_label, styles};
 use compare::campaign::{self, Campaign, Checked};
-use compare::frames::refusal_label;
 use formats::calls::{RingAfter, RingCall};
+use formats::Refusal;
 
 use crate::{calls, promise};
 
@@ -16,18 +16,19 @@ pub fn compare(seed: u64, count: u64) -> Campaign {
 
 /// One call, held to the oracle's answer and to demand 3.
 pub fn check(call: &RingCall) -> Checked {
-    let oracle = oracle::ring_call(call);
+    check_against(call, &oracle::ring_call(call))
+}
+
+/// One call, held to an answer, to what that answer leaves in the lent slices, and to demand 3.
+pub fn check_against(call: &RingCall, expected: &Result<Vec<f64>, Refusal>) -> Checked {
     let port = answer(call);
-    if let Some(difference) = port.difference(&call.after(&oracle)) {
+    if let Some(difference) = port.difference(&call.after(expected)) {
         return Err(format!("{call}: {difference}"));
     }
-    let Ok(numbers) = oracle else {
-        return Ok(refusal_label(-port.answer as u8));
-    };
-    match promise::broken(&call.bounds, &call.ring, &port.out[..numbers.len()]) {
+    let numbers = expected.as_ref().map_or(0, Vec::len);
+    match promise::broken(&call.bounds, &call.ring, &port.out[..numbers]) {
         Some(broken) => Err(format!("{call}: {broken}")),
-        None if numbers.is_empty() => Ok("empty"),
-        None => Ok("ring"),
+        None => Ok(ring_label(expected)),
     }
 }
 

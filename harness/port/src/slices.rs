@@ -1,8 +1,7 @@
 //! The slice call: the port against the Rust's `clip_polygon`, every lent number checked.
 
-use compare::calls::{label, styles};
+use compare::calls::{slice_label, styles};
 use compare::campaign::{self, Campaign, Checked};
-use compare::frames::refusal_label;
 use formats::calls::{SliceAfter, SliceAnswer, SliceCall};
 use formats::Refusal;
 
@@ -27,7 +26,7 @@ pub fn check(call: &SliceCall, set: u8) -> Checked {
 pub fn check_against(call: &SliceCall, set: u8, expected: &Result<SliceAnswer, Refusal>) -> Checked {
     match answer(call, set).difference(&call.after(expected)) {
         Some(difference) => Err(format!("{call}: {difference}")),
-        None => Ok(expected.as_ref().map_or_else(|refusal| refusal_label(*refusal), label)),
+        None => Ok(slice_label(expected)),
     }
 }
 

@@ -1,0 +1,144 @@
+//! Samples of the oracle's answers for programs that replay them: some of each kind of specimen and each answer that it gets,
+//! short ones, and one of any length where no short one came first.
+
+use std::collections::BTreeMap;
+
+use formats::calls::{RingCall, SliceCall, MOST_COORDINATES};
+use formats::vectors::{encode_rings, encode_slices, marks, RingVector, SliceVector, MARK, WHOLE_MARK};
+
+use crate::calls::{ring_label, styles};
+use crate::frames::{self, kinds};
+use crate::hex;
+
+/// Specimens of a kind that are looked at.
+const TRIED: u64 = 4_000;
+
+/// The bytes of a short frame, the characters of a short line, and the numbers of a short call.
+const SHORT_FRAME: usize = 250;
+const SHORT_LINE: usize = 500;
+const SHORT_CALL: usize = 40;
+
+/// No call has more numbers than that, but for one of each kind that is refused with 20.
+const MOST_NUMBERS: usize = 400;
+
+/// How many of each answer are kept so far.
+struct Kept {
+    most: u64,
+    answers: BTreeMap<String, u64>,
+}
+
+impl Kept {
+    fn new(most: u64) -> Kept {
+        Kept { most, answers: BTreeMap::new() }
+    }
+
+    /// Whether a specimen with that answer is kept.
+    fn keeps(&mut self, answer: String, is_short: bool) -> bool {
+        let kept = self.answers.entry(answer).or_default();
+        let keeps = *kept == 0 || (is_short && *kept < self.most);
+        *kept += u64::from(keeps);
+        keeps
+    }
+}
+
+/// Input of the program: frames of each kind, up to `count` for each answer, and lines that are right and wrong. The last one
+/// has no newline.
+pub fn lines(seed: u64, count: u64) -> Vec<u8> {
+    let mut input = Vec::new();
+    for (_, kind) in kinds() {
+        let mut kept = Kept::new(count);
+        for index in 0..TRIED {
+            let frame = generator::frame(kind, seed, index).frame;
+            let answer = frames::label_with_reason(&oracle::answer(&frame, usize::MAX));
+            if kept.keeps(answer, frame.len() <= SHORT_FRAME) {
+                input.extend(hex(&frame).bytes());
+                input.push(b'\n');
+            }
+        }
+    }
+    let mut kept = Kept::new(10 * count);
+    for index in 0..TRIED {
+        for line in generator::lines(seed, index).split(|&byte| byte == b'\n') {
+            let refusal = oracle::lines(line).get(..2).map(<[u8]>::to_vec);
+            if kept.keeps(format!("{refusal:?}, long: {}", line.len() > 10_000), line.len() <= SHORT_LINE) {
+                input.extend(line);
+                input.push(b'\n');
+            }
+        }
+    }
+    input.extend(b"03");
+    input
+}
+
+/// Ring calls of each style, up to `count` for each answer, and one of too many coordinates.
+pub fn rings(seed: u64, count: u64) -> Vec<u8> {
+    let mut vectors: Vec<RingVector> = Vec::new();
+    for (_, style) in styles() {
+        let mut kept = Kept::new(count);
+        for index in 0..TRIED {
+            let call = with_marks_in_ring_call(generator::ring_call(style, seed, index));
+            let answer = oracle::ring_call(&call);
+            if call.ring.len() <= MOST_NUMBERS && kept.keeps(ring_label(&answer).into(), call.ring.len() <= SHORT_CALL)
+            {
+                vectors.push((call, answer));
+            }
+        }
+    }
+    let lent = || marks(2);
+    let ring = vec![0.0; 2 * MOST_COORDINATES + 2];
+    let too_long = RingCall { ring, bounds: [0.0; 4], scratch_a: lent(), scratch_b: lent(), out: lent() };
+    vectors.push((too_long, Err(20)));
+    encode_rings(&vectors)
+}
+
+fn with_marks_in_ring_call(mut call: RingCall) -> RingCall {
+    for lent in [&mut call.scratch_a, &mut call.scratch_b, &mut call.out] {
+        lent.fill(MARK);
+    }
+    call
+}
+
+/// Slice calls of each style, up to `count` for each answer, and one of too many coordinates.
+pub fn slices(seed: u64, count: u64) -> Vec<u8> {
+    let mut vectors: Vec<SliceVector> = Vec::new();
+    for (_, style) in styles() {
+        let mut kept = Kept::new(count);
+        for index in 0..TRIED {
+            let call = with_marks_in_slice_call(generator::slice_call(style, seed, index));
+            let answer = oracle::slice_call(&call);
+            let code = answer.as_ref().map_or_else(|refusal| -i64::from(*refusal), |answer| answer.code());
+            if call.coords.len() <= MOST_NUMBERS && kept.keeps(code.to_string(), call.coords.len() <= SHORT_CALL) {
+                vectors.push((call, answer));
+            }
+        }
+    }
+    vectors.push((too_long_slice_call(), Err(20)));
+    encode_slices(&vectors)
+}
+
+fn with_marks_in_slice_call(mut call: SliceCall) -> SliceCall {
+    for lent in [&mut call.scratch_a, &mut call.scratch_b, &mut call.out] {
+        lent.fill(MARK);
+    }
+    for lent in [&mut call.order, &mut call.out_lengths] {
+        lent.fill(WHOLE_MARK);
+    }
+    call
+}
+
+fn too_long_slice_call() -> SliceCall {
+    let coordinates = MOST_COORDINATES + 1;
+    SliceCall {
+        assume_simple: true,
+        skip_boundary_fallback: true,
+        bounds: [0.0; 4],
+        buffer: 0.0,
+        coords: vec![0.0; 2 * coordinates],
+        lengths: vec![coordinates as u32],
+        scratch_a: marks(2),
+        scratch_b: marks(2),
+        order: vec![WHOLE_MARK; 2],
+        out: marks(2),
+        out_lengths: vec![WHOLE_MARK],
+    }
+}

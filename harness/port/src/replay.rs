@@ -1,0 +1,58 @@
+//! Replays kept calls and answers through the port, and counts them as the repository's own replaying programs do: a line for
+//! each answer, and one for the calls that differ.
+
+use std::fmt;
+
+use compare::campaign::Checked;
+use formats::vectors::{decode_rings, decode_slices};
+
+use crate::{rings, slices};
+
+const RING_ANSWERS: &[&str] = &["ring", "empty", "19", "20", "21", "22"];
+const SLICE_ANSWERS: &[&str] = &["nothing", "dropped", "unchanged", "cut", "overlay", "19", "20", "21", "22"];
+
+pub struct Replay {
+    counts: Vec<(&'static str, u64)>,
+    pub differences: Vec<String>,
+}
+
+pub fn replay_rings(vectors: &[u8]) -> Replay {
+    let checked = decode_rings(vectors).into_iter().map(|(call, answer)| rings::check_against(&call, &answer));
+    Replay::new(RING_ANSWERS, checked)
+}
+
+pub fn replay_slices(vectors: &[u8]) -> Replay {
+    let checked = decode_slices(vectors).into_iter().map(|(call, answer)| slices::check_against(&call, 1, &answer));
+    Replay::new(SLICE_ANSWERS, checked)
+}
+
+impl Replay {
+    fn new(answers: &[&'static str], checked: impl Iterator<Item = Checked>) -> Replay {
+        let counts = answers.iter().map(|&answer| (answer, 0)).collect();
+        let mut replay = Replay { counts, differences: Vec::new() };
+        for checked in checked {
+            match checked {
+                Ok(label) => replay.count(label),
+                Err(difference) => replay.differences.push(difference),
+            }
+        }
+        replay
+    }
+
+    fn count(&mut self, label: &str) {
+        let found = self.counts.iter_mut().find(|(answer, _)| *answer == label);
+        found.unwrap_or_else(|| panic!("{label} is no answer of such a call")).1 += 1;
+    }
+
+    /// How often each answer was given.
+    pub fn counts(&self) -> &[(&'static str, u64)] {
+        &self.counts
+    }
+}
+
+impl fmt::Display for Replay {
+    fn fmt(&self, f: &mut fmt::Formatter) -> fmt::Result {
+        self.counts.iter().try_for_each(|(answer, count)| writeln!(f, "{answer} {count}"))?;
+        writeln!(f, "differ {}", self.differences.len())
+    }
+}
