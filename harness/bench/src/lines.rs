@@ -3,7 +3,7 @@
 use std::env;
 use std::fs::{self, File};
 use std::io::{BufWriter, Write};
-use std::path::{Path, PathBuf};
+use std::path::PathBuf;
 use std::process::{Command, Stdio};
 use std::time::Instant;
 
@@ -69,9 +69,7 @@ fn hundred_lines(shares: Shares) -> Vec<String> {
 pub fn programs() -> [Command; 2] {
     let mut rust = Command::new(env::current_exe().expect("a program knows where it is"));
     rust.arg("ringcut");
-    let port = Path::new(env!("CARGO_MANIFEST_DIR")).join("../../target/bin/ringcut");
-    assert!(port.exists(), "{} is missing: run scripts/test, which builds it", port.display());
-    [rust, Command::new(port)]
+    [rust, Command::new(port::lines::program())]
 }
 
 /// The median and the best of the runs, by line.

@@ -12,12 +12,17 @@ pub fn compare(seed: u64, count: u64) -> Campaign {
 fn check(input: &[u8]) -> Checked {
     let (oracle, reading) = (oracle::lines(input), Reading::RIGHT.lines(input));
     if oracle == reading {
-        return Ok(match oracle.iter().filter(|&&byte| byte == b'\n').count() {
-            0 => "no line",
-            1 => "one line",
-            _ => "several lines",
-        });
+        return Ok(label(&oracle));
     }
     let text = String::from_utf8_lossy;
     Err(format!("input {:?}, oracle {:?}, reading {:?}", text(input), text(&oracle), text(&reading)))
+}
+
+/// What is printed, in a word.
+pub fn label(printed: &[u8]) -> &'static str {
+    match printed.iter().filter(|&&byte| byte == b'\n').count() {
+        0 => "no line",
+        1 => "one line",
+        _ => "several lines",
+    }
 }

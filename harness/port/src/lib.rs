@@ -4,6 +4,7 @@ pub mod bounds;
 pub mod calls;
 pub mod frames;
 pub mod issues;
+pub mod lines;
 pub mod probe;
 pub mod promise;
 pub mod reader;
