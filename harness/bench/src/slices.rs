@@ -5,10 +5,11 @@
 
 use std::hint::black_box;
 
+use formats::calls::SliceAfter;
 use formats::room::most_cut;
 use geo::{Coord, LineString, Polygon};
 use i_overlay::record::take_calls;
-use port::calls::{self, Flags, PolygonBuffers};
+use port::calls::{self, Flags};
 use tylertoo::clip::opened::clip_polygon;
 use tylertoo::diagnostics::Diagnostics;
 use tylertoo::ioverlay_clip::clip_polygon_ioverlay;
@@ -35,37 +36,21 @@ pub fn measure() {
 }
 
 /// The slices of one call to write to, exactly as long as a ring of so many vertices asks.
-struct Slices {
-    scratch_a: Vec<f64>,
-    scratch_b: Vec<f64>,
-    order: Vec<u32>,
-    out: Vec<f64>,
-    out_lengths: Vec<u32>,
+fn slices(vertices: usize) -> SliceAfter {
+    let room = most_cut(vertices);
+    let numbers = || vec![0.0; 2 * room];
+    SliceAfter {
+        answer: 0,
+        scratch_a: numbers(),
+        scratch_b: numbers(),
+        order: vec![0; room],
+        out: numbers(),
+        out_lengths: vec![0; 1],
+    }
 }
 
-impl Slices {
-    fn new(vertices: usize) -> Slices {
-        let room = most_cut(vertices);
-        let numbers = || vec![0.0; 2 * room];
-        Slices {
-            scratch_a: numbers(),
-            scratch_b: numbers(),
-            order: vec![0; room],
-            out: numbers(),
-            out_lengths: vec![0; 1],
-        }
-    }
-
-    fn call(&mut self, flags: Flags, ring: &[f64]) -> i64 {
-        let lent = PolygonBuffers {
-            scratch_a: &mut self.scratch_a,
-            scratch_b: &mut self.scratch_b,
-            order: &mut self.order,
-            out: &mut self.out,
-            out_lengths: &mut self.out_lengths,
-        };
-        calls::polygon(flags, &BOUNDS, 0.0, ring, &[ring.len() as u32 / 2], lent)
-    }
+fn call(flags: Flags, ring: &[f64], slices: &mut SliceAfter) -> i64 {
+    calls::polygon(flags, &BOUNDS, 0.0, ring, &[ring.len() as u32 / 2], calls::lent(slices))
 }
 
 /// A ring of so many vertices with its closing one, which it is given without.
@@ -79,9 +64,9 @@ fn row(vertices: usize, name: &str, flags: u8, mut ring: Vec<Coord<f64>>, answer
     let diagnostics = Diagnostics::default();
 
     let flag_numbers = Flags { assume_simple: flags & 1, skip_boundary_fallback: flags & 2 };
-    let (mut call, mut clearing) = (Slices::new(vertices), Slices::new(vertices));
-    assert_eq!(call.call(flag_numbers, &numbers), answer);
-    assert_eq!(clearing.call(flag_numbers, &APART), 0);
+    let (mut lent, mut cleared) = (slices(vertices), slices(vertices));
+    assert_eq!(call(flag_numbers, &numbers, &mut lent), answer);
+    assert_eq!(call(flag_numbers, &APART, &mut cleared), 0);
 
     // The stand-in keeps each overlay call until it is taken.
     take_calls();
@@ -102,10 +87,10 @@ fn row(vertices: usize, name: &str, flags: u8, mut ring: Vec<Coord<f64>>, answer
             }
         },
         &mut || {
-            black_box(clearing.call(flag_numbers, black_box(&APART)));
+            black_box(call(flag_numbers, black_box(&APART), &mut cleared));
         },
         &mut || {
-            black_box(call.call(flag_numbers, black_box(&numbers)));
+            black_box(call(flag_numbers, black_box(&numbers), &mut lent));
         },
     ]);
     let overlay = if wants_overlay { times[1] } else { 0.0 };

@@ -88,6 +88,13 @@ impl Campaign {
         self.difference.as_deref()
     }
 
+    /// Prints what came of it, and panics unless both sides agreed on that many specimens.
+    pub fn assert_agreed(&self, specimens: u64) {
+        println!("{self}");
+        assert_eq!(self.difference(), None);
+        assert_eq!(self.agreed(), specimens);
+    }
+
     /// How many specimens both sides agreed on.
     pub fn agreed(&self) -> u64 {
         self.counts.iter().flat_map(|(_, answers)| answers.values()).sum()

@@ -3,8 +3,9 @@
 
 use std::collections::BTreeMap;
 
-use formats::calls::{RingCall, SliceCall, MOST_COORDINATES};
+use formats::calls::{RingCall, SliceAnswer, SliceCall, MOST_COORDINATES};
 use formats::vectors::{encode_rings, encode_slices, marks, RingVector, SliceVector, MARK, WHOLE_MARK};
+use generator::Style;
 
 use crate::calls::{ring_label, styles};
 use crate::frames::{self, kinds};
@@ -72,23 +73,48 @@ pub fn lines(seed: u64, count: u64) -> Vec<u8> {
 
 /// Ring calls of each style, up to `count` for each answer, and one of too many coordinates.
 pub fn rings(seed: u64, count: u64) -> Vec<u8> {
-    let mut vectors: Vec<RingVector> = Vec::new();
+    let sampled = |style, index| {
+        let call = with_marks_in_ring_call(generator::ring_call(style, seed, index));
+        let answer = oracle::ring_call(&call);
+        Sampled { numbers: call.ring.len(), answer: ring_label(&answer).to_string(), vector: (call, answer) }
+    };
+    let mut vectors: Vec<RingVector> = sample(count, sampled);
+    vectors.push((too_long_ring_call(), Err(20)));
+    encode_rings(&vectors)
+}
+
+/// Slice calls of each style, up to `count` for each answer, and one of too many coordinates.
+pub fn slices(seed: u64, count: u64) -> Vec<u8> {
+    let sampled = |style, index| {
+        let call = with_marks_in_slice_call(generator::slice_call(style, seed, index));
+        let answer = oracle::slice_call(&call);
+        let code = answer.as_ref().map_or_else(|refusal| -i64::from(*refusal), SliceAnswer::code);
+        Sampled { numbers: call.coords.len(), answer: code.to_string(), vector: (call, answer) }
+    };
+    let mut vectors: Vec<SliceVector> = sample(count, sampled);
+    vectors.push((too_long_slice_call(), Err(20)));
+    encode_slices(&vectors)
+}
+
+/// A call with its answer, the numbers that it lends, and the answer in a word.
+struct Sampled<T> {
+    vector: T,
+    numbers: usize,
+    answer: String,
+}
+
+/// Calls of each style, up to `count` for each answer.
+fn sample<T>(count: u64, sampled: impl Fn(Style, u64) -> Sampled<T>) -> Vec<T> {
+    let mut vectors = Vec::new();
     for (_, style) in styles() {
         let mut kept = Kept::new(count);
-        for index in 0..TRIED {
-            let call = with_marks_in_ring_call(generator::ring_call(style, seed, index));
-            let answer = oracle::ring_call(&call);
-            if call.ring.len() <= MOST_NUMBERS && kept.keeps(ring_label(&answer).into(), call.ring.len() <= SHORT_CALL)
-            {
-                vectors.push((call, answer));
+        for Sampled { vector, numbers, answer } in (0..TRIED).map(|index| sampled(style, index)) {
+            if numbers <= MOST_NUMBERS && kept.keeps(answer, numbers <= SHORT_CALL) {
+                vectors.push(vector);
             }
         }
     }
-    let lent = || marks(2);
-    let ring = vec![0.0; 2 * MOST_COORDINATES + 2];
-    let too_long = RingCall { ring, bounds: [0.0; 4], scratch_a: lent(), scratch_b: lent(), out: lent() };
-    vectors.push((too_long, Err(20)));
-    encode_rings(&vectors)
+    vectors
 }
 
 fn with_marks_in_ring_call(mut call: RingCall) -> RingCall {
@@ -96,24 +122,6 @@ fn with_marks_in_ring_call(mut call: RingCall) -> RingCall {
         lent.fill(MARK);
     }
     call
-}
-
-/// Slice calls of each style, up to `count` for each answer, and one of too many coordinates.
-pub fn slices(seed: u64, count: u64) -> Vec<u8> {
-    let mut vectors: Vec<SliceVector> = Vec::new();
-    for (_, style) in styles() {
-        let mut kept = Kept::new(count);
-        for index in 0..TRIED {
-            let call = with_marks_in_slice_call(generator::slice_call(style, seed, index));
-            let answer = oracle::slice_call(&call);
-            let code = answer.as_ref().map_or_else(|refusal| -i64::from(*refusal), |answer| answer.code());
-            if call.coords.len() <= MOST_NUMBERS && kept.keeps(code.to_string(), call.coords.len() <= SHORT_CALL) {
-                vectors.push((call, answer));
-            }
-        }
-    }
-    vectors.push((too_long_slice_call(), Err(20)));
-    encode_slices(&vectors)
 }
 
 fn with_marks_in_slice_call(mut call: SliceCall) -> SliceCall {
@@ -124,6 +132,11 @@ fn with_marks_in_slice_call(mut call: SliceCall) -> SliceCall {
         lent.fill(WHOLE_MARK);
     }
     call
+}
+
+fn too_long_ring_call() -> RingCall {
+    let ring = vec![0.0; 2 * MOST_COORDINATES + 2];
+    RingCall { ring, bounds: [0.0; 4], scratch_a: marks(2), scratch_b: marks(2), out: marks(2) }
 }
 
 fn too_long_slice_call() -> SliceCall {

@@ -66,16 +66,14 @@ impl RingCall {
 }
 
 impl RingAfter {
-    pub fn same(&self, other: &Self) -> bool {
-        self.difference(other).is_none()
-    }
-
     /// The first thing that is not the same in the other; a NaN's bits are free.
     pub fn difference(&self, other: &Self) -> Option<String> {
-        first_difference("answer", &[self.answer], &[other.answer], same_whole)
-            .or_else(|| first_difference("scratch a", &self.scratch_a, &other.scratch_a, same_number))
-            .or_else(|| first_difference("scratch b", &self.scratch_b, &other.scratch_b, same_number))
-            .or_else(|| first_difference("output", &self.out, &other.out, same_number))
+        let numbers = [
+            ("scratch a", &self.scratch_a, &other.scratch_a),
+            ("scratch b", &self.scratch_b, &other.scratch_b),
+            ("output", &self.out, &other.out),
+        ];
+        difference_in([self.answer, other.answer], &numbers, &[])
     }
 }
 
@@ -196,19 +194,26 @@ impl SliceCall {
 }
 
 impl SliceAfter {
-    pub fn same(&self, other: &Self) -> bool {
-        self.difference(other).is_none()
-    }
-
     /// The first thing that is not the same in the other; a NaN's bits are free.
     pub fn difference(&self, other: &Self) -> Option<String> {
-        first_difference("answer", &[self.answer], &[other.answer], same_whole)
-            .or_else(|| first_difference("scratch a", &self.scratch_a, &other.scratch_a, same_number))
-            .or_else(|| first_difference("scratch b", &self.scratch_b, &other.scratch_b, same_number))
-            .or_else(|| first_difference("order", &self.order, &other.order, same_whole))
-            .or_else(|| first_difference("output", &self.out, &other.out, same_number))
-            .or_else(|| first_difference("lengths", &self.out_lengths, &other.out_lengths, same_whole))
+        let numbers = [
+            ("scratch a", &self.scratch_a, &other.scratch_a),
+            ("scratch b", &self.scratch_b, &other.scratch_b),
+            ("output", &self.out, &other.out),
+        ];
+        let wholes = [("order", &self.order, &other.order), ("lengths", &self.out_lengths, &other.out_lengths)];
+        difference_in([self.answer, other.answer], &numbers, &wholes)
     }
+}
+
+/// A slice of either side, by its name.
+type Sides<'a, T> = (&'a str, &'a Vec<T>, &'a Vec<T>);
+
+/// The first thing that is not the same: the answers, then slices of numbers, then slices of whole numbers.
+fn difference_in(answers: [i64; 2], numbers: &[Sides<f64>], wholes: &[Sides<u32>]) -> Option<String> {
+    first_difference("answer", &answers[..1], &answers[1..], same_whole)
+        .or_else(|| numbers.iter().find_map(|(name, a, b)| first_difference(name, a, b, same_number)))
+        .or_else(|| wholes.iter().find_map(|(name, a, b)| first_difference(name, a, b, same_whole)))
 }
 
 fn same_whole<T: PartialEq>(a: T, b: T) -> bool {

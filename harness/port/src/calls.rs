@@ -1,10 +1,10 @@
 //! The calls of crate `ringcut` on the harness's bounds, with their answers as the numbers that cross.
 
+use formats::calls::SliceAfter;
 use formats::Bounds;
 /// The count of bytes of the answer, or minus the refusal.
 pub use ringcut::raw::frame;
-pub use ringcut::PolygonBuffers;
-use ringcut::{raw, RingBuffers};
+use ringcut::{raw, PolygonBuffers, RingBuffers};
 
 /// The two flags of a slice call as they cross: any number but 0 is set.
 #[derive(Clone, Copy, Debug)]
@@ -24,6 +24,12 @@ pub fn polygon(
 ) -> i64 {
     let Flags { assume_simple, skip_boundary_fallback } = flags;
     raw::polygon(assume_simple, skip_boundary_fallback, named(bounds), buffer, coords, lengths, lent)
+}
+
+/// The slices of a slice call to write to.
+pub fn lent(slices: &mut SliceAfter) -> PolygonBuffers<'_> {
+    let SliceAfter { answer: _, scratch_a, scratch_b, order, out, out_lengths } = slices;
+    PolygonBuffers { scratch_a, scratch_b, order, out, out_lengths }
 }
 
 /// The count of coordinates of the cut ring, or minus the refusal.

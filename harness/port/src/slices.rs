@@ -5,7 +5,7 @@ use compare::campaign::{self, Campaign, Checked};
 use formats::calls::{SliceAfter, SliceAnswer, SliceCall};
 use formats::Refusal;
 
-use crate::calls::{self, Flags, PolygonBuffers};
+use crate::calls::{self, Flags};
 
 /// Numbers that set a flag: any but 0.
 const SET: [u8; 4] = [1, 2, 128, 255];
@@ -36,13 +36,7 @@ pub fn answer(call: &SliceCall, set: u8) -> SliceAfter {
     let flags =
         Flags { assume_simple: flag(call.assume_simple), skip_boundary_fallback: flag(call.skip_boundary_fallback) };
     let mut after = call.after(&Err(0));
-    let lent = PolygonBuffers {
-        scratch_a: &mut after.scratch_a,
-        scratch_b: &mut after.scratch_b,
-        order: &mut after.order,
-        out: &mut after.out,
-        out_lengths: &mut after.out_lengths,
-    };
+    let lent = calls::lent(&mut after);
     after.answer = calls::polygon(flags, &call.bounds, call.buffer, &call.coords, &call.lengths, lent);
     after
 }

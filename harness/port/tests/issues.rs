@@ -4,9 +4,7 @@ use port::{issues, probe};
 
 #[test]
 fn issues_agree() {
-    let campaign = issues::compare(1, 8_000);
-    println!("{campaign}");
-    assert_eq!(campaign.difference(), None);
+    issues::compare(1, 8_000).assert_agreed(8 * 8_000);
 }
 
 /// A regular polygon of so many edges, closed; simple, so that every pair is looked at.

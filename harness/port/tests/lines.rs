@@ -7,10 +7,7 @@ const WHOLE: usize = usize::MAX;
 
 #[test]
 fn lines_agree() {
-    let campaign = lines::compare(1, 3_000);
-    println!("{campaign}");
-    assert_eq!(campaign.difference(), None);
-    assert_eq!(campaign.agreed(), 3_000);
+    lines::compare(1, 3_000).assert_agreed(3_000);
 }
 
 #[test]

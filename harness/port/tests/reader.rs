@@ -2,7 +2,5 @@
 
 #[test]
 fn refusals_and_room_agree() {
-    let campaign = port::reader::compare(1, 20_000);
-    println!("{campaign}");
-    assert_eq!(campaign.difference(), None);
+    port::reader::compare(1, 20_000).assert_agreed(11 * 20_000);
 }

@@ -1,7 +1,6 @@
 //! The ring call of the port against the Rust, the share that every test run takes: random calls, the lengths at the
 //! limits with room exact and one short, and a ring whose cut really overruns.
 
-use compare::calls::styles;
 use formats::calls::{RingCall, MOST_COORDINATES};
 use formats::room::most_cut;
 use port::{calls, rings};
@@ -10,10 +9,7 @@ const BOUNDS: [f64; 4] = [0.0, 0.0, 10.0, 10.0];
 
 #[test]
 fn ring_calls_agree() {
-    let campaign = rings::compare(1, 15_000);
-    println!("{campaign}");
-    assert_eq!(campaign.difference(), None);
-    assert_eq!(campaign.agreed(), styles().len() as u64 * 15_000);
+    rings::compare(1, 15_000).assert_agreed(8 * 15_000);
 }
 
 /// A call on a zigzag of so many numbers, each lent slice `short` numbers shorter than it has to be.

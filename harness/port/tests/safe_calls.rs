@@ -4,12 +4,12 @@
 use std::fmt::Display;
 
 use compare::calls::styles;
-use compare::campaign::{self, Campaign, Checked};
+use compare::campaign::{self, Checked};
 use compare::frames::kinds;
 use formats::calls::{RingCall, SliceCall};
 use generator::Specimen;
-use port::calls::named;
-use ringcut::{cut_frame, cut_polygon, cut_ring, Answer, Flags, PolygonBuffers, Refusal, RingBuffers};
+use port::calls::{lent, named};
+use ringcut::{cut_frame, cut_polygon, cut_ring, Answer, Flags, Refusal, RingBuffers};
 
 const SEED: u64 = 3;
 const COUNT: u64 = 1_000;
@@ -42,15 +42,8 @@ fn check_ring(call: &RingCall) -> Checked {
 fn check_slice(call: &SliceCall) -> Checked {
     let &SliceCall { assume_simple, skip_boundary_fallback, ref bounds, buffer, .. } = call;
     let mut after = call.after(&Err(0));
-    let lent = PolygonBuffers {
-        scratch_a: &mut after.scratch_a,
-        scratch_b: &mut after.scratch_b,
-        order: &mut after.order,
-        out: &mut after.out,
-        out_lengths: &mut after.out_lengths,
-    };
     let flags = Flags { assume_simple, skip_boundary_fallback };
-    let answered = cut_polygon(flags, named(bounds), buffer, &call.coords, &call.lengths, lent);
+    let answered = cut_polygon(flags, named(bounds), buffer, &call.coords, &call.lengths, lent(&mut after));
     after.answer = answered.map_or_else(refusal_code, answer_code);
     let guard_count = answered.map_or(0, Answer::guard_count);
     assert_eq!(guard_count, u16::from(after.answer == 1));
@@ -66,18 +59,12 @@ fn check_frame(Specimen { frame, room }: &Specimen) -> Checked {
     Ok("same")
 }
 
-fn all_agree(campaign: &Campaign, kinds: usize) {
-    println!("{campaign}");
-    assert_eq!(campaign.difference(), None);
-    assert_eq!(campaign.agreed(), kinds as u64 * COUNT);
-}
-
 #[test]
 fn safe_frame_calls_agree() {
     let campaign = campaign::run("safe frame calls", SEED, COUNT, &kinds(), |kind, index| {
         check_frame(&generator::frame(kind, SEED, index))
     });
-    all_agree(&campaign, kinds().len());
+    campaign.assert_agreed(11 * COUNT);
 }
 
 #[test]
@@ -85,7 +72,7 @@ fn safe_ring_calls_agree() {
     let campaign = campaign::run("safe ring calls", SEED, COUNT, &styles(), |style, index| {
         check_ring(&generator::ring_call(style, SEED, index))
     });
-    all_agree(&campaign, styles().len());
+    campaign.assert_agreed(8 * COUNT);
 }
 
 #[test]
@@ -93,5 +80,5 @@ fn safe_slice_calls_agree() {
     let campaign = campaign::run("safe slice calls", SEED, COUNT, &styles(), |style, index| {
         check_slice(&generator::slice_call(style, SEED, index))
     });
-    all_agree(&campaign, styles().len());
+    campaign.assert_agreed(8 * COUNT);
 }
