@@ -6,4 +6,3 @@ pub mod Holes
 pub mod LentRings
 pub mod Rectangles
 pub mod Walks
-pub mod Worked

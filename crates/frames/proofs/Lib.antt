@@ -9,4 +9,5 @@ pub mod Readings
 pub mod Rooms
 pub mod Sizes
 pub mod Walks
+pub mod Worked
 pub mod Writing

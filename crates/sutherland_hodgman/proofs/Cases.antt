@@ -1,4 +1,4 @@
--- Document 01's worked rings on the bounds 0, 0, 10, 10 and a few cuts more, computed from the definitions. Assumes nothing.
+-- Two cuts at the bounds 0, 0, 10, 10 that document 01 does not work out, and its figures for B, computed from the definitions. The worked rings are in the table of the crate `frames`. Assumes nothing.
 use mathlib.Core.Path.{_≡_, refl}
 use mathlib.Core.List.{List, [], _∷_}
 use Prim.Native.Nat.{ℕ}
@@ -34,13 +34,10 @@ pub record Case : Type 0 where
   pub ring : List Coord
   pub cut : List Coord
 
--- the second pass leaves off a vertex too: (1,1)(2,2)(1,1) is what the first leaves, and is closed
+-- a ring that two passes cut at the one corner, and one with a NaN longitude
 abbrev cases : List Case
 cases =
-    record { ring = at 1 1 ∷ at 2 2 ∷ at 1 1 ∷ at 1 1 ∷ []; cut = [] }
-    ∷ record { ring = at 5 5 ∷ at 15 5 ∷ at 15 8 ∷ at 5 8 ∷ at 5 5 ∷ []; cut = at 5 5 ∷ at 10 5 ∷ at 10 8 ∷ at 5 8 ∷ at 5 5 ∷ [] }
-    ∷ record { ring = at 20 20 ∷ at 30 20 ∷ at 30 30 ∷ at 20 20 ∷ []; cut = [] }
-    ∷ record { ring = at 8 8 ∷ at 12 12 ∷ at 8 12 ∷ []; cut = at 8 10 ∷ at 8 8 ∷ at 10 10 ∷ at 10 10 ∷ at 8 10 ∷ [] }
+    record { ring = at 8 8 ∷ at 12 12 ∷ at 8 12 ∷ []; cut = at 8 10 ∷ at 8 8 ∷ at 10 10 ∷ at 10 10 ∷ at 8 10 ∷ [] }
     ∷ record { ring = record { x = nan; y = num 5 } ∷ at 5 5 ∷ at 5 6 ∷ []; cut = edge ∷ edge ∷ at 5 5 ∷ at 5 6 ∷ edge ∷ [] }
     ∷ []
 
