@@ -99,39 +99,38 @@ bowTie = at 2 2 ∷ at 8 8 ∷ at 8 2 ∷ at 2 8 ∷ at 2 2 ∷ []
 abbrev acrossEast : List Coord
 acrossEast = at 5 5 ∷ at 15 5 ∷ at 15 8 ∷ at 5 8 ∷ at 5 5 ∷ []
 
-abbrev table : List Row
+abbrev table : List (List Row)
 table =
     -- "(2,2)(8,2)(8,8)(2,8)(2,2): unchanged."
     always (at 2 2 ∷ at 8 2 ∷ at 8 8 ∷ at 2 8 ∷ at 2 2 ∷ []) unchanged
     -- "(5,5)(15,5)(15,8)(5,8)(5,5): cut (5,5)(10,5)(10,8)(5,8)(5,5) with flags 3; overlay, reason 4, with 0, 1, 2."
-    ++ (row 3 acrossEast (cutTo (at 5 5 ∷ at 10 5 ∷ at 10 8 ∷ at 5 8 ∷ at 5 5 ∷ []))
-    ∷ (unlessBoth acrossEast (overlay 4)
+    ∷ (row 3 acrossEast (cutTo (at 5 5 ∷ at 10 5 ∷ at 10 8 ∷ at 5 8 ∷ at 5 5 ∷ [])) ∷ [])
+    ∷ unlessBoth acrossEast (overlay 4)
     -- "Bow tie (2,2)(8,8)(8,2)(2,8)(2,2): flags 0 overlay, reason 1; flags 1 unchanged; as a multipolygon's only part, flags 0, unchanged."
-    ++ (row 0 bowTie (overlay 1)
-    ∷ row 1 bowTie unchanged
-    ∷ record { given = frame multipolygon 0 bowTie; becomes = unchanged }
+    ∷ (row 0 bowTie (overlay 1) ∷ row 1 bowTie unchanged ∷ record { given = frame multipolygon 0 bowTie; becomes = unchanged } ∷ [])
     -- "(2,2)(8,2)(2,2): overlay, reason 1."
-    ∷ (always (at 2 2 ∷ at 8 2 ∷ at 2 2 ∷ []) (overlay 1)
+    ∷ always (at 2 2 ∷ at 8 2 ∷ at 2 2 ∷ []) (overlay 1)
     -- "(2,2)(2,2)(8,2)(8,8)(2,2): overlay, reason 1; (2,2)(8,2)(8,8)(2,2)(2,2): unchanged."
-    ++ (always (at 2 2 ∷ at 2 2 ∷ at 8 2 ∷ at 8 8 ∷ at 2 2 ∷ []) (overlay 1)
-    ++ (always (at 2 2 ∷ at 8 2 ∷ at 8 8 ∷ at 2 2 ∷ at 2 2 ∷ []) unchanged
+    ∷ always (at 2 2 ∷ at 2 2 ∷ at 8 2 ∷ at 8 8 ∷ at 2 2 ∷ []) (overlay 1)
+    ∷ always (at 2 2 ∷ at 8 2 ∷ at 8 8 ∷ at 2 2 ∷ at 2 2 ∷ []) unchanged
     -- "(10,2)(20,2)(20,8)(10,8)(10,2): overlay, reason 2."
-    ++ (always (at 10 2 ∷ at 20 2 ∷ at 20 8 ∷ at 10 8 ∷ at 10 2 ∷ []) (overlay 2)
+    ∷ always (at 10 2 ∷ at 20 2 ∷ at 20 8 ∷ at 10 8 ∷ at 10 2 ∷ []) (overlay 2)
     -- "Ring (1,1)(2,2)(1,1)(1,1): the ring cutter gives none." The first pass leaves (1,1)(2,2)(1,1), and the second leaves off a vertex too.
-    ++ (record { given = ring (at 1 1 ∷ at 2 2 ∷ at 1 1 ∷ at 1 1 ∷ []); becomes = cutRing [] }
+    ∷ (record { given = ring (at 1 1 ∷ at 2 2 ∷ at 1 1 ∷ at 1 1 ∷ []); becomes = cutRing [] } ∷ [])
     -- "(2,2)(1e150,2)(2,2): dropped; with 9e149, overlay, reason 1."
-    ∷ (always (at 2 2 ∷ at (10 ^ 150) 2 ∷ at 2 2 ∷ []) dropped
-    ++ (always (at 2 2 ∷ at (9 * 10 ^ 149) 2 ∷ at 2 2 ∷ []) (overlay 1)
-    -- "(20,20)(30,20)(30,30)(20,20): nothing; with one NaN, dropped."
-    ++ (always (at 20 20 ∷ at 30 20 ∷ at 30 30 ∷ at 20 20 ∷ []) nothing
-    ++ (always (nanX 20 ∷ at 30 20 ∷ at 30 30 ∷ at 20 20 ∷ []) dropped
-    ++ (always (nanY 20 ∷ at 30 20 ∷ at 30 30 ∷ at 20 20 ∷ []) dropped
-    ++ (always (at 20 20 ∷ nanX 20 ∷ at 30 30 ∷ at 20 20 ∷ []) dropped
-    ++ (always (at 20 20 ∷ nanY 30 ∷ at 30 30 ∷ at 20 20 ∷ []) dropped
-    ++ (always (at 20 20 ∷ at 30 20 ∷ nanX 30 ∷ at 20 20 ∷ []) dropped
-    ++ (always (at 20 20 ∷ at 30 20 ∷ nanY 30 ∷ at 20 20 ∷ []) dropped
-    ++ (always (at 20 20 ∷ at 30 20 ∷ at 30 30 ∷ nanX 20 ∷ []) dropped
-    ++ always (at 20 20 ∷ at 30 20 ∷ at 30 30 ∷ nanY 20 ∷ []) dropped))))))))))))))))))
+    ∷ always (at 2 2 ∷ at (10 ^ 150) 2 ∷ at 2 2 ∷ []) dropped
+    ∷ always (at 2 2 ∷ at (9 * 10 ^ 149) 2 ∷ at 2 2 ∷ []) (overlay 1)
+    -- "(20,20)(30,20)(30,30)(20,20): nothing; with one NaN, dropped." The NaN in each of the eight places.
+    ∷ always (at 20 20 ∷ at 30 20 ∷ at 30 30 ∷ at 20 20 ∷ []) nothing
+    ∷ always (nanX 20 ∷ at 30 20 ∷ at 30 30 ∷ at 20 20 ∷ []) dropped
+    ∷ always (nanY 20 ∷ at 30 20 ∷ at 30 30 ∷ at 20 20 ∷ []) dropped
+    ∷ always (at 20 20 ∷ nanX 20 ∷ at 30 30 ∷ at 20 20 ∷ []) dropped
+    ∷ always (at 20 20 ∷ nanY 30 ∷ at 30 30 ∷ at 20 20 ∷ []) dropped
+    ∷ always (at 20 20 ∷ at 30 20 ∷ nanX 30 ∷ at 20 20 ∷ []) dropped
+    ∷ always (at 20 20 ∷ at 30 20 ∷ nanY 30 ∷ at 20 20 ∷ []) dropped
+    ∷ always (at 20 20 ∷ at 30 20 ∷ at 30 30 ∷ nanX 20 ∷ []) dropped
+    ∷ always (at 20 20 ∷ at 30 20 ∷ at 30 30 ∷ nanY 20 ∷ []) dropped
+    ∷ []
 
 -- ---- the claim
 
@@ -150,6 +149,10 @@ abbrev outcomeOf : Case → Outcome
 outcomeOf (frame kind flags r) = replied (readFrame (frameOf kind flags r))
 outcomeOf (ring r) = cutRing (clipRing (newOf (num 0) (num 0) (num 10) (num 10)) r)
 
+abbrev rows : List (List Row) → List Row
+rows [] = []
+rows (group ∷ groups) = group ++ rows groups
+
 abbrev outcomes : List Row → List Outcome
 outcomes [] = []
 outcomes (c ∷ cs) = outcomeOf (c .given) ∷ outcomes cs
@@ -158,6 +161,6 @@ abbrev becoming : List Row → List Outcome
 becoming [] = []
 becoming (c ∷ cs) = c .becomes ∷ becoming cs
 
-each-becomes : outcomes table ≡ becoming table
+each-becomes : outcomes (rows table) ≡ becoming (rows table)
 unfolding readFrame readParts readPart readRing readCoords readCount readMany coordsOf countOf fromLow toLow answerTo ofMultipolygon withParts listParts routePart answerBytes partBytes ringBytes each route routeRect routeExterior routeCut overlayOrDropped cutRings cutHoles cutHole bridgeUnlessSkipped firstBridge bridgeOf runsAlong withRings withRing withCoord intersectsBounds reaches isFullyInside liesBetween anyHugeRing anyHuge hugeCoord issueOf hasIssue repeated selfIntersecting anyPair anyBelow edgesCross cross apart apartOn short intersectProperly splits aboveBelow crossProductSign clipRing finish passes pass around leaveOff steps inside crossing interpolate same last closed close at nanX nanY num minimum maximum magnitude tolerance near limit huge ofInt ofBits toBits round isNan lt le eq add sub mul div
 each-becomes = refl
