@@ -1,0 +1,171 @@
+// Replays ring calls and slice calls from standard input, each with the answer that the unchanged Rust gave to it (harness/README.md, "Vectors to replay": a file of ring calls, then one of slice calls), and prints how often each answer was
+// given and how many calls were answered otherwise.
+mod code;
+mod lent;
+mod rings;
+mod slices;
+mod stream;
+
+ghost use mathlib.Core.Path.{_≡_};
+ghost use lib.ListN.{length};
+use code::Outcome;
+use code::refusal_of;
+use libc::STDOUT_FILENO;
+use rings::replay_ring;
+use slices::replay_slice;
+use stream::Count;
+use stream::is_at_end;
+use stream::read_count;
+
+// The counts: the answers that are no refusals, then 19 to 22 and the calls that differ. A ring call has two such answers, a slice call five.
+const ROWS: usize = 10;
+
+const REFUSALS: usize = 5;
+
+const DIFFER: usize = 9;
+
+fn refusal_row(refusal: u64) -> usize {
+    match refusal {
+        19 => REFUSALS,
+        20 => REFUSALS + 1,
+        21 => REFUSALS + 2,
+        22 => REFUSALS + 3,
+        _ => DIFFER,
+    }
+}
+
+fn ring_row(code: u64) -> usize {
+    if code::is_refusal(code) {
+        return refusal_row(refusal_of(code));
+    }
+    if code == 0 { 1 } else { 0 }
+}
+
+fn slice_row(code: u64) -> usize {
+    if code::is_refusal(code) {
+        return refusal_row(refusal_of(code));
+    }
+    match code % 256 {
+        0 => 0,
+        1 => 1,
+        2 => 2,
+        4 => 3,
+        5 => 4,
+        _ => DIFFER,
+    }
+}
+
+// One more in a row; a count stays at the top.
+fn add_to(counts: &mut [u64], row: usize) {
+    if row < counts.len() {
+        if counts[row] < u64::MAX {
+            counts[row] += 1;
+        }
+    }
+}
+
+fn count_ring(counts: &mut [u64]) -> bool {
+    match replay_ring() {
+        Outcome::Same(code) => {
+            add_to(counts, ring_row(code));
+            true
+        }
+        Outcome::Differs => {
+            add_to(counts, DIFFER);
+            true
+        }
+        Outcome::Broken => false,
+    }
+}
+
+fn count_slice(counts: &mut [u64]) -> bool {
+    match replay_slice() {
+        Outcome::Same(code) => {
+            add_to(counts, slice_row(code));
+            true
+        }
+        Outcome::Differs => {
+            add_to(counts, DIFFER);
+            true
+        }
+        Outcome::Broken => false,
+    }
+}
+
+// Whether the vectors are whole.
+fn count_rings(counts: &mut [u64]) -> bool {
+    let Count::Is(n) = read_count() else {
+        return false;
+    };
+    let mut i = 0usize;
+    while i < n {
+        if !count_ring(counts) {
+            return false;
+        }
+        i += 1;
+    }
+    true
+}
+
+fn count_slices(counts: &mut [u64]) -> bool {
+    let Count::Is(n) = read_count() else {
+        return false;
+    };
+    let mut i = 0usize;
+    while i < n {
+        if !count_slice(counts) {
+            return false;
+        }
+        i += 1;
+    }
+    true
+}
+
+fn print_row(name: &[u8], count: u64) {
+    io::write_all(STDOUT_FILENO, name);
+    io::write_all(STDOUT_FILENO, b" ");
+    io::print_decimal(STDOUT_FILENO, count);
+    io::write_all(STDOUT_FILENO, b"\n");
+}
+
+fn print_last_rows(counts: &[u64])
+    requires { ⌜ length (now counts) ≡ 10 ⌝ }
+{
+    print_row(b"19", counts[REFUSALS]);
+    print_row(b"20", counts[REFUSALS + 1]);
+    print_row(b"21", counts[REFUSALS + 2]);
+    print_row(b"22", counts[REFUSALS + 3]);
+    print_row(b"differ", counts[DIFFER]);
+}
+
+fn replay_rings() -> bool {
+    let mut counts = [0u64; ROWS];
+    let whole = count_rings(&mut counts);
+    print_row(b"ring", counts[0]);
+    print_row(b"empty", counts[1]);
+    print_last_rows(&counts);
+    whole
+}
+
+fn replay_slices() -> bool {
+    let mut counts = [0u64; ROWS];
+    let whole = count_slices(&mut counts);
+    print_row(b"nothing", counts[0]);
+    print_row(b"dropped", counts[1]);
+    print_row(b"unchanged", counts[2]);
+    print_row(b"cut", counts[3]);
+    print_row(b"overlay", counts[4]);
+    print_last_rows(&counts);
+    whole
+}
+
+fn main() {
+    if replay_rings() {
+        if replay_slices() {
+            if is_at_end() {
+                return;
+            }
+        }
+    }
+    io::write_all(STDOUT_FILENO, b"the vectors are not whole\n");
+}

@@ -1,0 +1,138 @@
+// Ring calls, each held to its answer and to what that answer leaves in the lent slices.
+ghost use mathlib.Core.Path.{_≡_};
+ghost use lib.ListN.{length};
+use super::code::Outcome;
+use super::code::is_refusal;
+use super::code::numbers_of;
+use super::code::of_ring;
+use super::lent::MARK;
+use super::lent::are_all;
+use super::lent::holds;
+use super::lent::scratch_after;
+use super::stream::Code;
+use super::stream::count_at;
+use super::stream::fill;
+use super::stream::read_code;
+use super::stream::read_numbers;
+use binary64::bytes::read_f64;
+use sutherland_hodgman::call::ring;
+use tile::TileBounds;
+
+// The bytes before the numbers of a ring: three lengths, the bounds, and two counts.
+const HEAD: usize = 52;
+
+// The most numbers that are lent: two more than a call takes.
+const MOST_NUMBERS: usize = 131074;
+
+// The longest slice that is lent to be written.
+const ROOM: usize = 4096;
+
+// `a`, `b` and `out` are the lengths of the slices. Of the numbers that are lent only the first are stored; the others are zeros.
+struct Head {
+    a: usize,
+    b: usize,
+    out: usize,
+    bounds: TileBounds,
+    numbers: usize,
+    stored: usize,
+}
+
+fn read_head(bytes: &[u8]) -> Head
+    requires { ⌜ length (now bytes) ≡ 52 ⌝ }
+{
+    let west = read_f64(bytes, 12);
+    let south = read_f64(bytes, 20);
+    let east = read_f64(bytes, 28);
+    let north = read_f64(bytes, 36);
+    Head {
+        a: count_at(bytes, 0),
+        b: count_at(bytes, 4),
+        out: count_at(bytes, 8),
+        bounds: TileBounds::new(west, south, east, north),
+        numbers: count_at(bytes, 44),
+        stored: count_at(bytes, 48),
+    }
+}
+
+fn agrees(
+    code: u64,
+    lent: &[f64],
+    bounds: TileBounds,
+    a: &mut [f64],
+    b: &mut [f64],
+    out: &mut [f64],
+    expected: &[f64],
+) -> bool {
+    if of_ring(ring(lent, bounds, a, b, out)) != code {
+        return false;
+    }
+    let scratch = scratch_after(is_refusal(code));
+    if !are_all(a, scratch) {
+        return false;
+    }
+    if !are_all(b, scratch) {
+        return false;
+    }
+    holds(out, expected)
+}
+
+fn call(head: Head, code: u64, lent: &[f64], expected: &[f64]) -> Outcome {
+    let a_length = head.a;
+    let b_length = head.b;
+    let out_length = head.out;
+    if a_length > ROOM {
+        return Outcome::Broken;
+    }
+    if b_length > ROOM {
+        return Outcome::Broken;
+    }
+    if out_length > ROOM {
+        return Outcome::Broken;
+    }
+    let mut a = [MARK; ROOM];
+    let mut b = [MARK; ROOM];
+    let mut out = [MARK; ROOM];
+    if agrees(
+        code,
+        lent,
+        head.bounds,
+        &mut a[..a_length],
+        &mut b[..b_length],
+        &mut out[..out_length],
+        expected,
+    ) {
+        return Outcome::Same(code);
+    }
+    Outcome::Differs
+}
+
+fn replay_with(head: Head) -> Outcome {
+    let n = head.numbers;
+    if n > MOST_NUMBERS {
+        return Outcome::Broken;
+    }
+    let mut lent = [0.0f64; MOST_NUMBERS];
+    if !read_numbers(head.stored, &mut lent) {
+        return Outcome::Broken;
+    }
+    let Code::Is(code) = read_code() else {
+        return Outcome::Broken;
+    };
+    let m = numbers_of(code);
+    if m > ROOM {
+        return Outcome::Broken;
+    }
+    let mut expected = [0.0f64; ROOM];
+    if !read_numbers(m, &mut expected) {
+        return Outcome::Broken;
+    }
+    call(head, code, &lent[..n], &expected[..m])
+}
+
+pub fn replay_ring() -> Outcome {
+    let mut bytes = [0u8; HEAD];
+    if !fill(&mut bytes) {
+        return Outcome::Broken;
+    }
+    replay_with(read_head(&bytes))
+}
