@@ -29,15 +29,6 @@ fn of_refusal(refusal: Refusal) -> u64 {
     }
 }
 
-// The number of a refusal.
-pub fn refusal_of(code: u64) -> u64 {
-    if code > u64::MAX - 100 {
-        u64::MAX - code + 1
-    } else {
-        0
-    }
-}
-
 pub fn of_ring(answer: RingAnswer) -> u64 {
     match answer {
         RingAnswer::Refused(refusal) => of_refusal(refusal),

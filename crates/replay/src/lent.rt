@@ -1,7 +1,13 @@
 // What the lent slices hold before a call, and whether they hold afterwards what they must.
 use binary64::bytes::to_bits;
 
-// A lent slice holds this everywhere before a call.
+// The most numbers that a polygon or a ring is lent with: two more than a call takes.
+pub const MOST_NUMBERS: usize = 131074;
+
+// The longest slice that is lent to be written.
+pub const ROOM: usize = 4096;
+
+// Such a slice holds this everywhere before a call.
 pub const MARK: f64 = 7.25;
 
 pub const WHOLE_MARK: u32 = 77;

@@ -9,7 +9,7 @@ mod stream;
 ghost use mathlib.Core.Path.{_≡_};
 ghost use lib.ListN.{length};
 use code::Outcome;
-use code::refusal_of;
+use code::is_refusal;
 use libc::STDOUT_FILENO;
 use rings::replay_ring;
 use slices::replay_slice;
@@ -17,33 +17,34 @@ use stream::Count;
 use stream::is_at_end;
 use stream::read_count;
 
-// The counts: the answers that are no refusals, then 19 to 22 and the calls that differ. A ring call has two such answers, a slice call five.
+// A count for each answer that is no refusal (a ring call has two, a slice call five), for each of 19 to 22, and for the calls that differ.
 const ROWS: usize = 10;
 
 const REFUSALS: usize = 5;
 
 const DIFFER: usize = 9;
 
-fn refusal_row(refusal: u64) -> usize {
-    match refusal {
-        19 => REFUSALS,
-        20 => REFUSALS + 1,
-        21 => REFUSALS + 2,
-        22 => REFUSALS + 3,
+// Minus 1 is the number at the top, minus 19 the one 18 below it.
+fn refusal_row(code: u64) -> usize {
+    match u64::MAX - code {
+        18 => REFUSALS,
+        19 => REFUSALS + 1,
+        20 => REFUSALS + 2,
+        21 => REFUSALS + 3,
         _ => DIFFER,
     }
 }
 
 fn ring_row(code: u64) -> usize {
-    if code::is_refusal(code) {
-        return refusal_row(refusal_of(code));
+    if is_refusal(code) {
+        return refusal_row(code);
     }
     if code == 0 { 1 } else { 0 }
 }
 
 fn slice_row(code: u64) -> usize {
-    if code::is_refusal(code) {
-        return refusal_row(refusal_of(code));
+    if is_refusal(code) {
+        return refusal_row(code);
     }
     match code % 256 {
         0 => 0,

@@ -6,6 +6,8 @@ use super::code::is_refusal;
 use super::code::numbers_of;
 use super::code::of_ring;
 use super::lent::MARK;
+use super::lent::MOST_NUMBERS;
+use super::lent::ROOM;
 use super::lent::are_all;
 use super::lent::holds;
 use super::lent::scratch_after;
@@ -20,12 +22,6 @@ use tile::TileBounds;
 
 // The bytes before the numbers of a ring: three lengths, the bounds, and two counts.
 const HEAD: usize = 52;
-
-// The most numbers that are lent: two more than a call takes.
-const MOST_NUMBERS: usize = 131074;
-
-// The longest slice that is lent to be written.
-const ROOM: usize = 4096;
 
 // `a`, `b` and `out` are the lengths of the slices. Of the numbers that are lent only the first are stored; the others are zeros.
 struct Head {

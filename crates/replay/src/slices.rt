@@ -7,6 +7,8 @@ use super::code::is_refusal;
 use super::code::of_slice;
 use super::code::rings_of;
 use super::lent::MARK;
+use super::lent::MOST_NUMBERS;
+use super::lent::ROOM;
 use super::lent::WHOLE_MARK;
 use super::lent::are_all;
 use super::lent::are_all_wholes;
@@ -30,13 +32,8 @@ use tile::TileBounds;
 // The bytes before the lengths of the rings: flags, five lengths, the bounds, the buffer, and the count of rings.
 const HEAD: usize = 68;
 
-// The most numbers that are lent: two more than a call takes.
-const MOST_NUMBERS: usize = 131074;
-
-// The most lengths of rings, and the longest slice that is lent to be written.
+// The most rings that are lent or expected.
 const MOST_RINGS: usize = 128;
-
-const ROOM: usize = 4096;
 
 // `a` to `out_lengths` are the lengths of the slices.
 struct Head {

@@ -1,3 +1,4 @@
+-- `replay_with` is safe: what is lent is the front of an array. Assumes nothing.
 use mathlib.Core.Path.{sym}
 use borrow.Author.Needs.{needs}
 use native.Mathlib.Omega.{arith}
@@ -5,79 +6,60 @@ use lib.Seq.{length-take-le}
 use Rattle.replay.proofs.rings.replay_with.Statement.{statement}
 use Rattle.replay.proofs.rings.replay_with.Tie as tie
 
--- src/rings.rt:112:9
 returns : tie.Need-returns
 returns c = search needs
 
--- src/rings.rt:115:35
 slice-aggregate-read-numbers : tie.Need-slice-aggregate-read-numbers
 slice-aggregate-read-numbers c = search needs
 
--- src/rings.rt:115:9
 read-numbers-requires : tie.Need-read-numbers-requires
 read-numbers-requires c κs = search needs
 
--- src/rings.rt:116:9
 returns-2 : tie.Need-returns-2
 returns-2 c = search needs
 
--- src/rings.rt:118:26
 read-code-requires : tie.Need-read-code-requires
 read-code-requires c κs = search needs
 
--- src/rings.rt:118:18
 enum-known-code : tie.Need-enum-known-code
 enum-known-code c = search needs
 
--- src/rings.rt:119:9
 enum-told : tie.Need-enum-told
 enum-told c = search needs
 
--- src/rings.rt:119:9
 returns-3 : tie.Need-returns-3
 returns-3 c = search needs
 
--- src/rings.rt:121:9
 numbers-of-requires : tie.Need-numbers-of-requires
 numbers-of-requires c κs = search needs
 
--- src/rings.rt:123:9
 returns-4 : tie.Need-returns-4
 returns-4 c = search needs
 
--- src/rings.rt:126:25
 slice-aggregate-read-numbers-2 : tie.Need-slice-aggregate-read-numbers-2
 slice-aggregate-read-numbers-2 c = search needs
 
--- src/rings.rt:126:9
 read-numbers-requires-2 : tie.Need-read-numbers-requires-2
 read-numbers-requires-2 c κs = search needs
 
--- src/rings.rt:127:9
 returns-5 : tie.Need-returns-5
 returns-5 c = search needs
 
--- src/rings.rt:129:22
 array-share-prefix-lent : tie.Need-array-share-prefix-lent
 array-share-prefix-lent c = search needs
 
--- src/rings.rt:129:22
 slice-aggregate-call : tie.Need-slice-aggregate-call
 slice-aggregate-call c = sym (length-take-le _ _ (omega arith))
 
--- src/rings.rt:129:34
 array-share-prefix-expected : tie.Need-array-share-prefix-expected
 array-share-prefix-expected c = search needs
 
--- src/rings.rt:129:34
 slice-aggregate-call-2 : tie.Need-slice-aggregate-call-2
 slice-aggregate-call-2 c = sym (length-take-le _ _ (omega arith))
 
--- src/rings.rt:129:5
 call-requires : tie.Need-call-requires
 call-requires c κs = search needs
 
--- src/rings.rt:109:1
 returns-6 : tie.Need-returns-6
 returns-6 c = search needs
 

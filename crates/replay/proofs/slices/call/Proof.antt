@@ -1,3 +1,4 @@
+-- `call` is safe: what is lent is the front of an array. Assumes nothing.
 use mathlib.Core.Path.{sym}
 use borrow.Author.Needs.{needs}
 use native.Mathlib.Omega.{arith}
@@ -5,75 +6,57 @@ use lib.Seq.{length-take-le}
 use Rattle.replay.proofs.slices.call.Statement.{statement}
 use Rattle.replay.proofs.slices.call.Tie as tie
 
--- src/slices.rt:148:9
 returns : tie.Need-returns
 returns c = search needs
 
--- src/slices.rt:151:9
 returns-2 : tie.Need-returns-2
 returns-2 c = search needs
 
--- src/slices.rt:154:9
 returns-3 : tie.Need-returns-3
 returns-3 c = search needs
 
--- src/slices.rt:157:9
 returns-4 : tie.Need-returns-4
 returns-4 c = search needs
 
--- src/slices.rt:160:9
 returns-5 : tie.Need-returns-5
 returns-5 c = search needs
 
--- src/slices.rt:172:9
 array-borrow-prefix-a : tie.Need-array-borrow-prefix-a
 array-borrow-prefix-a c = search needs
 
--- src/slices.rt:172:9
 slice-aggregate-agrees : tie.Need-slice-aggregate-agrees
 slice-aggregate-agrees c = sym (length-take-le _ _ (omega arith))
 
--- src/slices.rt:173:9
 array-borrow-prefix-b : tie.Need-array-borrow-prefix-b
 array-borrow-prefix-b c = search needs
 
--- src/slices.rt:173:9
 slice-aggregate-agrees-2 : tie.Need-slice-aggregate-agrees-2
 slice-aggregate-agrees-2 c = sym (length-take-le _ _ (omega arith))
 
--- src/slices.rt:174:9
 array-borrow-prefix-order : tie.Need-array-borrow-prefix-order
 array-borrow-prefix-order c = search needs
 
--- src/slices.rt:174:9
 slice-aggregate-agrees-3 : tie.Need-slice-aggregate-agrees-3
 slice-aggregate-agrees-3 c = sym (length-take-le _ _ (omega arith))
 
--- src/slices.rt:175:9
 array-borrow-prefix-out : tie.Need-array-borrow-prefix-out
 array-borrow-prefix-out c = search needs
 
--- src/slices.rt:175:9
 slice-aggregate-agrees-4 : tie.Need-slice-aggregate-agrees-4
 slice-aggregate-agrees-4 c = sym (length-take-le _ _ (omega arith))
 
--- src/slices.rt:176:9
 array-borrow-prefix-out-lengths : tie.Need-array-borrow-prefix-out-lengths
 array-borrow-prefix-out-lengths c = search needs
 
--- src/slices.rt:176:9
 slice-aggregate-agrees-5 : tie.Need-slice-aggregate-agrees-5
 slice-aggregate-agrees-5 c = sym (length-take-le _ _ (omega arith))
 
--- src/slices.rt:167:8
 agrees-requires : tie.Need-agrees-requires
 agrees-requires c κs = search needs
 
--- src/slices.rt:180:9
 returns-6 : tie.Need-returns-6
 returns-6 c = search needs
 
--- src/slices.rt:134:1
 returns-7 : tie.Need-returns-7
 returns-7 c = search needs
 

@@ -1,3 +1,4 @@
+-- `replay_answer` is safe: what is lent is the front of an array. Assumes nothing.
 use mathlib.Core.Path.{sym}
 use borrow.Author.Needs.{needs}
 use native.Mathlib.Omega.{arith}
@@ -5,91 +6,69 @@ use lib.Seq.{length-take-le}
 use Rattle.replay.proofs.slices.replay_answer.Statement.{statement}
 use Rattle.replay.proofs.slices.replay_answer.Tie as tie
 
--- src/slices.rt:203:26
 read-code-requires : tie.Need-read-code-requires
 read-code-requires c κs = search needs
 
--- src/slices.rt:203:18
 enum-known-code : tie.Need-enum-known-code
 enum-known-code c = search needs
 
--- src/slices.rt:204:9
 enum-told : tie.Need-enum-told
 enum-told c = search needs
 
--- src/slices.rt:204:9
 returns : tie.Need-returns
 returns c = search needs
 
--- src/slices.rt:206:9
 rings-of-requires : tie.Need-rings-of-requires
 rings-of-requires c κs = search needs
 
--- src/slices.rt:208:9
 returns-2 : tie.Need-returns-2
 returns-2 c = search needs
 
--- src/slices.rt:211:24
 slice-aggregate-read-wholes : tie.Need-slice-aggregate-read-wholes
 slice-aggregate-read-wholes c = search needs
 
--- src/slices.rt:211:9
 read-wholes-requires : tie.Need-read-wholes-requires
 read-wholes-requires c κs = search needs
 
--- src/slices.rt:212:9
 returns-3 : tie.Need-returns-3
 returns-3 c = search needs
 
--- src/slices.rt:214:24
 array-share-prefix-expected-lengths : tie.Need-array-share-prefix-expected-lengths
 array-share-prefix-expected-lengths c = search needs
 
--- src/slices.rt:214:24
 slice-aggregate-numbers-in : tie.Need-slice-aggregate-numbers-in
 slice-aggregate-numbers-in c = sym (length-take-le _ _ (omega arith))
 
--- src/slices.rt:214:9
 numbers-in-requires : tie.Need-numbers-in-requires
 numbers-in-requires c κs = search needs
 
--- src/slices.rt:216:9
 returns-4 : tie.Need-returns-4
 returns-4 c = search needs
 
--- src/slices.rt:219:25
 slice-aggregate-read-numbers : tie.Need-slice-aggregate-read-numbers
 slice-aggregate-read-numbers c = search needs
 
--- src/slices.rt:219:9
 read-numbers-requires : tie.Need-read-numbers-requires
 read-numbers-requires c κs = search needs
 
--- src/slices.rt:220:9
 returns-5 : tie.Need-returns-5
 returns-5 c = search needs
 
--- src/slices.rt:227:9
 array-share-prefix-expected : tie.Need-array-share-prefix-expected
 array-share-prefix-expected c = search needs
 
--- src/slices.rt:227:9
 slice-aggregate-call : tie.Need-slice-aggregate-call
 slice-aggregate-call c = sym (length-take-le _ _ (omega arith))
 
--- src/slices.rt:228:9
 array-share-prefix-expected-lengths-2 : tie.Need-array-share-prefix-expected-lengths-2
 array-share-prefix-expected-lengths-2 c = search needs
 
--- src/slices.rt:228:9
 slice-aggregate-call-2 : tie.Need-slice-aggregate-call-2
 slice-aggregate-call-2 c = sym (length-take-le _ _ (omega arith))
 
--- src/slices.rt:222:5
 call-requires : tie.Need-call-requires
 call-requires c κs = search needs
 
--- src/slices.rt:202:1
 returns-6 : tie.Need-returns-6
 returns-6 c = search needs
 

@@ -1,3 +1,4 @@
+-- `replay_numbers` is safe: what is lent is the front of an array. Assumes nothing.
 use mathlib.Core.Path.{sym}
 use borrow.Author.Needs.{needs}
 use native.Mathlib.Omega.{arith}
@@ -5,67 +6,51 @@ use lib.Seq.{length-take-le}
 use Rattle.replay.proofs.slices.replay_numbers.Statement.{statement}
 use Rattle.replay.proofs.slices.replay_numbers.Tie as tie
 
--- src/slices.rt:234:24
 read-count-requires : tie.Need-read-count-requires
 read-count-requires c κs = search needs
 
--- src/slices.rt:234:19
 enum-known-n : tie.Need-enum-known-n
 enum-known-n c = search needs
 
--- src/slices.rt:235:9
 enum-told : tie.Need-enum-told
 enum-told c = search needs
 
--- src/slices.rt:235:9
 returns : tie.Need-returns
 returns c = search needs
 
--- src/slices.rt:237:29
 read-count-requires-2 : tie.Need-read-count-requires-2
 read-count-requires-2 c κs = search needs
 
--- src/slices.rt:237:19
 enum-known-stored : tie.Need-enum-known-stored
 enum-known-stored c = search needs
 
--- src/slices.rt:238:9
 enum-told-2 : tie.Need-enum-told-2
 enum-told-2 c = search needs
 
--- src/slices.rt:238:9
 returns-2 : tie.Need-returns-2
 returns-2 c = search needs
 
--- src/slices.rt:241:9
 returns-3 : tie.Need-returns-3
 returns-3 c = search needs
 
--- src/slices.rt:244:30
 slice-aggregate-read-numbers : tie.Need-slice-aggregate-read-numbers
 slice-aggregate-read-numbers c = search needs
 
--- src/slices.rt:244:9
 read-numbers-requires : tie.Need-read-numbers-requires
 read-numbers-requires c κs = search needs
 
--- src/slices.rt:245:9
 returns-4 : tie.Need-returns-4
 returns-4 c = search needs
 
--- src/slices.rt:247:25
 array-share-prefix-coords : tie.Need-array-share-prefix-coords
 array-share-prefix-coords c = search needs
 
--- src/slices.rt:247:25
 slice-aggregate-replay-answer : tie.Need-slice-aggregate-replay-answer
 slice-aggregate-replay-answer c = sym (length-take-le _ _ (omega arith))
 
--- src/slices.rt:247:5
 replay-answer-requires : tie.Need-replay-answer-requires
 replay-answer-requires c κs = search needs
 
--- src/slices.rt:233:1
 returns-5 : tie.Need-returns-5
 returns-5 c = search needs
 

@@ -1,3 +1,4 @@
+-- `replay_with` is safe: what is lent is the front of an array. Assumes nothing.
 use mathlib.Core.Path.{sym}
 use borrow.Author.Needs.{needs}
 use native.Mathlib.Omega.{arith}
@@ -5,35 +6,27 @@ use lib.Seq.{length-take-le}
 use Rattle.replay.proofs.slices.replay_with.Statement.{statement}
 use Rattle.replay.proofs.slices.replay_with.Tie as tie
 
--- src/slices.rt:253:9
 returns : tie.Need-returns
 returns c = search needs
 
--- src/slices.rt:256:24
 slice-aggregate-read-wholes : tie.Need-slice-aggregate-read-wholes
 slice-aggregate-read-wholes c = search needs
 
--- src/slices.rt:256:9
 read-wholes-requires : tie.Need-read-wholes-requires
 read-wholes-requires c κs = search needs
 
--- src/slices.rt:257:9
 returns-2 : tie.Need-returns-2
 returns-2 c = search needs
 
--- src/slices.rt:259:26
 array-share-prefix-lengths : tie.Need-array-share-prefix-lengths
 array-share-prefix-lengths c = search needs
 
--- src/slices.rt:259:26
 slice-aggregate-replay-numbers : tie.Need-slice-aggregate-replay-numbers
 slice-aggregate-replay-numbers c = sym (length-take-le _ _ (omega arith))
 
--- src/slices.rt:259:5
 replay-numbers-requires : tie.Need-replay-numbers-requires
 replay-numbers-requires c κs = search needs
 
--- src/slices.rt:250:1
 returns-3 : tie.Need-returns-3
 returns-3 c = search needs
 

@@ -1,3 +1,4 @@
+-- `decode_numbers` is safe and ends: the places read and written lie in the slices. Assumes nothing.
 use mathlib.Core.Path.{_≡_}
 use Prim.Native.Nat.{_-_, _≤_}
 use borrow.Author.Needs.{needs}
@@ -11,43 +12,33 @@ Inv-loop bytes n to₀ i₀ to i = (i ≤ n) × (length to ≡ length to₀)
 abbrev μ-loop : tie.MeasureT-loop
 μ-loop bytes n to₀ i₀ to i = n - i
 
--- src/stream.rt:68:5
 loop-holds : tie.Need-loop-holds Inv-loop μ-loop
 loop-holds c = search needs
 
--- src/stream.rt:69:33
 mul-read-f64 : tie.Need-mul-read-f64 Inv-loop μ-loop
 mul-read-f64 c = search needs
 
--- src/stream.rt:69:17
 read-f64-requires : tie.Need-read-f64-requires Inv-loop μ-loop
 read-f64-requires c κs = search needs
 
--- src/stream.rt:69:9
 mul-to : tie.Need-mul-to Inv-loop μ-loop
 mul-to c = search needs
 
--- src/stream.rt:69:9
 slice-write-to : tie.Need-slice-write-to Inv-loop μ-loop
 slice-write-to c = search needs
 
--- src/stream.rt:70:9
 add-i : tie.Need-add-i Inv-loop μ-loop
 add-i c = search needs
 
--- src/stream.rt:68:5
 loop-less : tie.Need-loop-less Inv-loop μ-loop
 loop-less c = search needs
 
--- src/stream.rt:68:5
 loop-again : tie.Need-loop-again Inv-loop μ-loop
 loop-again c = search needs
 
--- src/stream.rt:64:1
 same-length : tie.Need-same-length Inv-loop μ-loop
 same-length c = search needs
 
--- src/stream.rt:64:1
 returns : tie.Need-returns Inv-loop μ-loop
 returns c = search needs
 

@@ -1,3 +1,4 @@
+-- `decode_wholes` is safe and ends: the places read and written lie in the slices. Assumes nothing.
 use mathlib.Core.Path.{_≡_}
 use Prim.Native.Nat.{_-_, _≤_}
 use borrow.Author.Needs.{needs}
@@ -11,43 +12,33 @@ Inv-loop bytes n to₀ i₀ to i = (i ≤ n) × (length to ≡ length to₀)
 abbrev μ-loop : tie.MeasureT-loop
 μ-loop bytes n to₀ i₀ to i = n - i
 
--- src/stream.rt:78:5
 loop-holds : tie.Need-loop-holds Inv-loop μ-loop
 loop-holds c = search needs
 
--- src/stream.rt:79:33
 mul-whole-at : tie.Need-mul-whole-at Inv-loop μ-loop
 mul-whole-at c = search needs
 
--- src/stream.rt:79:17
 whole-at-requires : tie.Need-whole-at-requires Inv-loop μ-loop
 whole-at-requires c κs = search needs
 
--- src/stream.rt:79:9
 mul-to : tie.Need-mul-to Inv-loop μ-loop
 mul-to c = search needs
 
--- src/stream.rt:79:9
 slice-write-to : tie.Need-slice-write-to Inv-loop μ-loop
 slice-write-to c = search needs
 
--- src/stream.rt:80:9
 add-i : tie.Need-add-i Inv-loop μ-loop
 add-i c = search needs
 
--- src/stream.rt:78:5
 loop-less : tie.Need-loop-less Inv-loop μ-loop
 loop-less c = search needs
 
--- src/stream.rt:78:5
 loop-again : tie.Need-loop-again Inv-loop μ-loop
 loop-again c = search needs
 
--- src/stream.rt:74:1
 same-length : tie.Need-same-length Inv-loop μ-loop
 same-length c = search needs
 
--- src/stream.rt:74:1
 returns : tie.Need-returns Inv-loop μ-loop
 returns c = search needs
 

@@ -1,3 +1,4 @@
+-- `fill_front` is safe: what is filled is the front of a slice. Assumes nothing.
 use mathlib.Core.Path.{sym}
 use borrow.Author.Needs.{needs}
 use native.Mathlib.Omega.{arith}
@@ -6,23 +7,18 @@ use lib.Seq.{length-take-le}
 use Rattle.replay.proofs.stream.fill_front.Statement.{statement}
 use Rattle.replay.proofs.stream.fill_front.Tie as tie
 
--- src/stream.rt:87:10
 slice-relend-prefix-fill : tie.Need-slice-relend-prefix-fill
 slice-relend-prefix-fill c = search needs
 
--- src/stream.rt:87:10
 slice-aggregate-fill : tie.Need-slice-aggregate-fill
 slice-aggregate-fill c = sym (length-take-le _ _ (omega arith))
 
--- src/stream.rt:87:5
 fill-requires : tie.Need-fill-requires
 fill-requires c κs = search needs
 
--- src/stream.rt:84:1
 same-length : tie.Need-same-length
 same-length c = search needs
 
--- src/stream.rt:84:1
 returns : tie.Need-returns
 returns c = search needs
 
