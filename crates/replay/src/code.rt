@@ -44,7 +44,7 @@ pub fn numbers_of(code: u64) -> usize {
     (2 * code) as usize
 }
 
-// 65,536 times a count of rings. No call writes so many that they don't fit; such a count would be no vector's.
+// 65,536 times a count of rings. One that has no room there gives 0, which no vector expects: a cut has a ring.
 fn rings_part(rings: usize) -> u64
     ensures { λ r. ⌜ r ≤ 4294901760 ⌝ }
 {
