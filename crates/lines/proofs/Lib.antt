@@ -1,7 +1,8 @@
+pub mod Answers
 pub mod Blocks
+pub mod Feeding
 pub mod Hexadecimal
 pub mod Kept
-pub mod Longest
 pub mod Printed
 pub mod Running
 pub mod Table

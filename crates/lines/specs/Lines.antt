@@ -1,8 +1,10 @@
 -- Lines of hexadecimal digits, and what is printed for an input of them (document 01, "Frames": the program `ringcut`). Definitions only.
+use mathlib.Core.Path.{_≡_}
 use mathlib.Core.Bool.{Bool, true, false, cond, _&&_}
 use mathlib.Core.List.{List, [], _∷_, _++_}
-use Prim.Native.Nat.{ℕ, _+_, _*_, _-_, _/_, _%_}
+use Prim.Native.Nat.{ℕ, _+_, _*_, _-_, _/_, _%_, _<_}
 use lib.Dec.{ltb, leb, eqb}
+use lib.ListN.{getD}
 use Rattle.frames.specs.Frame.{Reading, refused, read, Frame, refusalNumber, readFrame}
 use Rattle.frames.specs.Encoding.{each, frameBytes}
 
@@ -29,6 +31,10 @@ between low high b = leb low b && leb b high
 -- the value of a digit, 0 to 9 at 48, a to f at 97, A to F at 65; 16 for every other character
 unfoldable pub digit : ℕ → ℕ
 digit b = cond (between 48 57 b) (b - 48) (cond (between 97 102 b) (b - 87) (cond (between 65 70 b) (b - 55) 16))
+
+-- a table of these values
+abbrev pub DigitValues : List ℕ → Type 0
+DigitValues values = (b : ℕ) → b < 256 → getD values b 0 ≡ digit b
 
 abbrev pub isDigit : ℕ → Bool
 isDigit b = ltb (digit b) 16

@@ -1,9 +1,10 @@
--- What is known of a line of which some characters have been read, and what is still to be printed from there. Definitions only.
+-- What is known of a line of which some characters have been read, and what is still to be printed from there (document 01, "Frames": the program `ringcut`).
+-- Definitions only.
 use mathlib.Core.Path.{_≡_}
-use mathlib.Core.Bool.{Bool, true, false, not, cond}
+use mathlib.Core.Bool.{Bool, true, false, not, _&&_, cond}
 use mathlib.Core.List.{List, [], _∷_, _++_}
-use Prim.Native.Nat.{ℕ, _+_, _*_, _%_, _≤_}
-use lib.Dec.{ltb, eqb}
+use Prim.Native.Nat.{ℕ, suc, _+_, _*_, _%_, _≤_, _<_}
+use lib.Dec.{ltb, leb, eqb}
 use lib.ListN.{length, getD, take, drop}
 use Rattle.frames.specs.Frame.{longest, refusalNumber}
 use Rattle.frames.specs.declared.reader.FrameRefusal.the-variants.{Size}
@@ -56,6 +57,11 @@ unfoldable pub printedFrom : State → List ℕ → List ℕ
 printedFrom st [] = endOfInput st
 printedFrom st (b ∷ rest) = cond (eqb b newline) (endLine st ++ printedFrom start rest) (printedFrom (after st b) rest)
 
+-- how many characters the first line has, with its newline where that is there
+unfoldable pub lineLength : List ℕ → ℕ
+lineLength [] = 0
+lineLength (b ∷ rest) = cond (eqb b newline) 1 (suc (lineLength rest))
+
 -- ---- the state as the code holds it, its bytes at the front of a lent slice
 
 abbrev pub stateOf : Line → List ℕ → State
@@ -64,8 +70,62 @@ stateOf (Lines.Whole n) kept = whole (take n kept)
 stateOf (Lines.Half n high) kept = half (take n kept) (high % 16)
 stateOf (Lines.Long odd) kept = long odd
 
--- Reading on in a block, from one place to another, with this written: whatever follows the block, what was to be printed is what was written and what is
--- to be printed now. So blocks of any sizes, read one behind the other, print what the whole input prints.
-pub record Reads (block : List ℕ) (from : ℕ) (st : State) (to : ℕ) (written : List ℕ) (st′ : State) : Type 0 where
+-- Reading on within a line, from one place of a block to another: whatever follows the block, what was to be printed is what is to be printed now.
+pub record Passes (block : List ℕ) (from : ℕ) (st : State) (to : ℕ) (st′ : State) : Type 0 where
   pub within : to ≤ length block
-  pub same : (rest : List ℕ) → printedFrom st (drop from block ++ rest) ≡ written ++ printedFrom st′ (drop to block ++ rest)
+  pub in-line : from + lineLength (drop from block) ≡ to + lineLength (drop to block)
+  pub same : (rest : List ℕ) → printedFrom st (drop from block ++ rest) ≡ printedFrom st′ (drop to block ++ rest)
+
+-- how many bytes the code counts at the front of the slice
+abbrev pub counted : Line → ℕ
+counted Lines.NotDigits = 0
+counted (Lines.Whole n) = n
+counted (Lines.Half n high) = n
+counted (Lines.Long odd) = 0
+
+-- no more than the longest frame has, which is the slice's length; a line that nothing was read of fits
+abbrev pub Fits : Line → Type 0
+Fits line = counted line ≤ longest
+
+-- Taking a block's characters from a place on, to the next newline or to the block's end. A line that fits does so afterwards.
+pub record Takes (block : List ℕ) (from : ℕ) (line : Line) (kept : List ℕ) (to : ℕ) (line′ : Line) (kept′ : List ℕ) : Type 0 where
+  pub passes : Passes block from (stateOf line kept) to (stateOf line′ kept′)
+  pub stops : to < length block → getD block to 0 ≡ newline
+  pub fits : Fits line → Fits line′
+
+-- ---- the lent slices
+
+-- bytes for an answer: no answer is longer than ten times its frame
+abbrev pub answerRoom : ℕ
+answerRoom = 10 * longest
+
+-- bytes for an answer as a line
+abbrev pub lineRoom : ℕ
+lineRoom = 2 * answerRoom + 1
+
+-- whether the slices for the bytes of a line and for what is printed are long enough
+abbrev pub lent : List ℕ → List ℕ → Bool
+lent kept out = eqb (length kept) longest && leb lineRoom (length out)
+
+-- ---- the line step
+
+-- Feeding a block: its first line is taken, or nothing where the lent slices are not long enough. Whatever follows the block, what was to be printed is what
+-- was written to the front of the output and what is to be printed now; the rest of the output stays. So blocks of any sizes, fed one behind the other, print
+-- what the whole input prints (proofs/Blocks.antt).
+pub record Feeds (block : List ℕ) (st : State) (ready : Bool) (out : List ℕ) (taken written : ℕ) (st′ : State) (out′ : List ℕ) : Type 0 where
+  pub line : taken ≡ cond ready (lineLength block) 0
+  pub within : taken ≤ length block
+  pub same : (rest : List ℕ) → printedFrom st (block ++ rest) ≡ take written out′ ++ printedFrom st′ (drop taken block ++ rest)
+  pub room : written ≤ length out
+  pub past : drop written out′ ≡ drop written out
+
+-- what the end of the input writes
+abbrev pub finished : Bool → State → List ℕ
+finished ready st = cond ready (endOfInput st) []
+
+-- a line of which no character was read
+abbrev pub notBegun : Line → Bool
+notBegun Lines.NotDigits = false
+notBegun (Lines.Whole n) = eqb n 0
+notBegun (Lines.Half n high) = false
+notBegun (Lines.Long odd) = false

@@ -1,14 +1,14 @@
 // A line of hexadecimal digits, taken character by character: a line of any length, of which the bytes of the longest frame are kept.
 ghost use mathlib.Core.Path.{_≡_};
-ghost use mathlib.Core.List.{[]};
 ghost use Prim.Native.Nat.{_<_, _≤_};
-ghost use lib.ListN.{length, getD, take};
+ghost use lib.ListN.{length, take};
 ghost use Rattle.frames.specs.Frame.{longest};
 ghost use Rattle.lines.specs.Lines as S;
 ghost use Rattle.lines.specs.State as T;
 use super::digits::NEWLINE;
 use super::digits::NOT_A_DIGIT;
 use super::digits::digit_of;
+use super::digits::digit_values;
 use frames::reader::LONGEST;
 
 // What is known of a line. The bytes stand at the front of a slice of the longest frame's length, which goes with it.
@@ -25,7 +25,7 @@ pub enum Line {
 
 fn take_digit(line: Line, d: u8, kept: &mut [u8]) -> Line
     requires { ⌜ (d < 16) × (length (now kept) ≡ longest) ⌝ }
-    ensures { λ r. ⌜ T.stateOf r (now (kept .exit)) ≡ T.takeDigit (T.stateOf line (now (kept .entry))) d ⌝ }
+    ensures { λ r. ⌜ (T.stateOf r (now (kept .exit)) ≡ T.takeDigit (T.stateOf line (now (kept .entry))) d) × (T.Fits line → T.Fits r) ⌝ }
 {
     match line {
         Line::NotDigits => Line::NotDigits,
@@ -41,11 +41,11 @@ fn take_digit(line: Line, d: u8, kept: &mut [u8]) -> Line
     }
 }
 
-fn take_char(line: Line, b: u8, kept: &mut [u8]) -> Line
-    requires { ⌜ length (now kept) ≡ longest ⌝ }
-    ensures { λ r. ⌜ T.stateOf r (now (kept .exit)) ≡ T.after (T.stateOf line (now (kept .entry))) b ⌝ }
+fn take_char(line: Line, b: u8, values: &[u8; 256], kept: &mut [u8]) -> Line
+    requires { ⌜ S.DigitValues (now values) × (length (now kept) ≡ longest) ⌝ }
+    ensures { λ r. ⌜ (T.stateOf r (now (kept .exit)) ≡ T.after (T.stateOf line (now (kept .entry))) b) × (T.Fits line → T.Fits r) ⌝ }
 {
-    let d = digit_of(b);
+    let d = digit_of(b, values);
     if d < NOT_A_DIGIT {
         return take_digit(line, d, kept);
     }
@@ -59,15 +59,16 @@ pub struct Pairs {
 }
 
 // Takes pairs of digits from the front of a block, as long as there are any and a byte more is kept: nearly every line is such pairs.
-fn take_pairs(block: &[u8], bytes: usize, kept: &mut [u8]) -> Pairs
-    requires { ⌜ length (now kept) ≡ longest ⌝ }
-    ensures { λ r. ⌜ T.Reads (now (block .entry)) 0 (T.whole (take bytes (now (kept .entry)))) (r .at) [] (T.whole (take (r .bytes) (now (kept .exit)))) ⌝ }
+fn take_pairs(block: &[u8], bytes: usize, values: &[u8; 256], kept: &mut [u8]) -> Pairs
+    requires { ⌜ S.DigitValues (now values) × (length (now kept) ≡ longest) ⌝ }
+    ensures { λ r. ⌜ T.Passes (now (block .entry)) 0 (T.whole (take bytes (now (kept .entry)))) (r .at) (T.whole (take (r .bytes) (now (kept .exit))))
+        × (bytes ≤ longest → r .bytes ≤ longest) ⌝ }
 {
     let mut n = bytes;
     let mut at = 0usize;
     while block.len() - at >= 2 {
-        let high = digit_of(block[at]);
-        let low = digit_of(block[at + 1]);
+        let high = digit_of(block[at], values);
+        let low = digit_of(block[at + 1], values);
         if high >= NOT_A_DIGIT {
             return Pairs { bytes: n, at };
         }
@@ -91,10 +92,9 @@ pub struct Place {
 }
 
 // Takes characters from a place of a block on, to the next newline or to the block's end.
-fn take_chars(block: &[u8], from: usize, line: Line, kept: &mut [u8]) -> Place
-    requires { ⌜ (from ≤ length (now block)) × (length (now kept) ≡ longest) ⌝ }
-    ensures { λ r. ⌜ (T.Reads (now (block .entry)) from (T.stateOf line (now (kept .entry))) (r .at) [] (T.stateOf (r .line) (now (kept .exit))))
-        × (r .at < length (now (block .entry)) → getD (now (block .entry)) (r .at) 0 ≡ S.newline) ⌝ }
+fn take_chars(block: &[u8], from: usize, line: Line, values: &[u8; 256], kept: &mut [u8]) -> Place
+    requires { ⌜ (from ≤ length (now block)) × S.DigitValues (now values) × (length (now kept) ≡ longest) ⌝ }
+    ensures { λ r. ⌜ T.Takes (now (block .entry)) from line (now (kept .entry)) (r .at) (r .line) (now (kept .exit)) ⌝ }
 {
     let mut reached = line;
     let mut at = from;
@@ -103,7 +103,7 @@ fn take_chars(block: &[u8], from: usize, line: Line, kept: &mut [u8]) -> Place
         if b == NEWLINE {
             return Place { line: reached, at };
         }
-        reached = take_char(reached, b, kept);
+        reached = take_char(reached, b, values, kept);
         at += 1;
     }
     Place { line: reached, at }
@@ -112,12 +112,12 @@ fn take_chars(block: &[u8], from: usize, line: Line, kept: &mut [u8]) -> Place
 // Takes a block's characters to its first newline or to its end.
 pub fn take_line(block: &[u8], line: Line, kept: &mut [u8]) -> Place
     requires { ⌜ length (now kept) ≡ longest ⌝ }
-    ensures { λ r. ⌜ (T.Reads (now (block .entry)) 0 (T.stateOf line (now (kept .entry))) (r .at) [] (T.stateOf (r .line) (now (kept .exit))))
-        × (r .at < length (now (block .entry)) → getD (now (block .entry)) (r .at) 0 ≡ S.newline) ⌝ }
+    ensures { λ r. ⌜ T.Takes (now (block .entry)) 0 line (now (kept .entry)) (r .at) (r .line) (now (kept .exit)) ⌝ }
 {
+    let values = digit_values();
     if let Line::Whole(bytes) = line {
-        let pairs = take_pairs(block, bytes, kept);
-        return take_chars(block, pairs.at, Line::Whole(pairs.bytes), kept);
+        let pairs = take_pairs(block, bytes, &values, kept);
+        return take_chars(block, pairs.at, Line::Whole(pairs.bytes), &values, kept);
     }
-    take_chars(block, 0, line, kept)
+    take_chars(block, 0, line, &values, kept)
 }

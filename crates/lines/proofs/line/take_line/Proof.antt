@@ -1,8 +1,11 @@
 -- `take_line` meets its contract. Assumes nothing.
 use borrow.Author.Needs.{needs}
-use Rattle.lines.proofs.Running.{reads-then}
+use Rattle.lines.proofs.Running.{passes-then}
 use Rattle.lines.proofs.line.take_line.Statement.{statement}
 use Rattle.lines.proofs.line.take_line.Tie as tie
+
+digit-values-requires : tie.Need-digit-values-requires
+digit-values-requires c κs = search needs
 
 enum-known-line : tie.Need-enum-known-line
 enum-known-line c = search needs
@@ -19,7 +22,8 @@ same-length c = search needs
 returns : tie.Need-returns
 returns c =
     let e = c .before .before .take-chars .ensures in
-    (rw (c .before .before .before .before .before .before .before .before .before .line .given .1) (reads-then (c .before .before .before .before .before .before .take-pairs .ensures) (e .0)), e .1)
+    let p = c .before .before .before .before .before .before .before .take-pairs .ensures in
+    rw (c .before .before .before .before .before .before .before .before .before .before .before .line .given .1) (record { passes = passes-then (p .0) (e .passes); stops = e .stops; fits = λ h. e .fits (p .1 h) })
 
 take-chars-requires-2 : tie.Need-take-chars-requires-2
 take-chars-requires-2 c κs = search needs
@@ -34,6 +38,7 @@ pub take-line-spec : {M : Type 1} → statement M
 take-line-spec =
     tie.close
     (tie.spec
+    digit-values-requires
     enum-known-line
     take-pairs-requires
     take-chars-requires

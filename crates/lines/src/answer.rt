@@ -1,0 +1,80 @@
+// The answer to a line that has ended, as bytes and as a line.
+ghost use mathlib.Core.Path.{_≡_};
+ghost use Prim.Native.Nat.{_≤_};
+ghost use lib.ListN.{length};
+ghost use Rattle.clip.specs.Slice.{over};
+ghost use Rattle.frames.specs.Frame.{longest};
+ghost use Rattle.lines.specs.Lines as S;
+ghost use Rattle.lines.specs.State as T;
+use super::digits::to_line;
+use super::line::Line;
+use frames::entry::FrameAnswer;
+use frames::entry::frame;
+use frames::reader::FrameRefusal;
+use frames::reader::LONGEST;
+use frames::reader::refusal_number;
+
+// Document 01's refusal 10.
+const NOT_PAIRS: u8 = 10;
+
+// The room for an answer's bytes, and for the answer as a line.
+const ANSWER_ROOM: usize = 10 * LONGEST;
+
+pub const LINE_ROOM: usize = 2 * ANSWER_ROOM + 1;
+
+// Writes a refusal's five bytes.
+fn refuse(out: &mut [u8], number: u8) -> usize
+    requires { ⌜ 5 ≤ length (now out) ⌝ }
+    ensures { λ r. ⌜ (r ≡ length (S.refusalBytes number)) × (now (out .exit) ≡ over (S.refusalBytes number) (now (out .entry))) ⌝ }
+{
+    out[0] = number;
+    out[1] = 0;
+    out[2] = 0;
+    out[3] = 0;
+    out[4] = 0;
+    5
+}
+
+fn answer_frame(bytes: &[u8], out: &mut [u8]) -> usize
+    requires { ⌜ T.answerRoom ≤ length (now out) ⌝ }
+    ensures { λ r. ⌜ (r ≡ length (S.frameAnswer (now (bytes .entry)))) × (now (out .exit) ≡ over (S.frameAnswer (now (bytes .entry))) (now (out .entry))) ⌝ }
+{
+    match frame(bytes, out) {
+        FrameAnswer::Refused(refusal) => refuse(out, refusal_number(refusal)),
+        FrameAnswer::Answered(count) => count,
+    }
+}
+
+// Writes the bytes that a line is answered where it ends.
+fn answer(line: Line, kept: &[u8], out: &mut [u8]) -> usize
+    requires { ⌜ (length (now kept) ≡ longest) × (T.answerRoom ≤ length (now out)) ⌝ }
+    ensures { λ r. ⌜ (r ≡ length (T.endAnswer (T.stateOf line (now (kept .entry)))))
+        × (now (out .exit) ≡ over (T.endAnswer (T.stateOf line (now (kept .entry)))) (now (out .entry))) ⌝ }
+{
+    match line {
+        Line::Whole(bytes) => {
+            if bytes < LONGEST {
+                return answer_frame(&kept[..bytes], out);
+            }
+            answer_frame(kept, out)
+        }
+        Line::Long(odd) => {
+            if odd {
+                return refuse(out, NOT_PAIRS);
+            }
+            refuse(out, refusal_number(FrameRefusal::Size))
+        }
+        Line::NotDigits => refuse(out, NOT_PAIRS),
+        Line::Half(_, _) => refuse(out, NOT_PAIRS),
+    }
+}
+
+// Writes that answer as a line, and answers how long it is.
+pub fn answer_line(line: Line, kept: &[u8], out: &mut [u8]) -> usize
+    requires { ⌜ (length (now kept) ≡ longest) × (T.lineRoom ≤ length (now out)) ⌝ }
+    ensures { λ r. ⌜ (r ≡ length (T.endLine (T.stateOf line (now (kept .entry)))))
+        × (now (out .exit) ≡ over (T.endLine (T.stateOf line (now (kept .entry)))) (now (out .entry))) ⌝ }
+{
+    let count = answer(line, kept, &mut out[..ANSWER_ROOM]);
+    to_line(out, count)
+}

@@ -1,0 +1,92 @@
+// The line step: an input in blocks of any sizes, of which each line is answered as soon as its newline is there.
+ghost use mathlib.Core.Path.{_≡_};
+ghost use Prim.Native.Nat.{_≤_};
+ghost use lib.ListN.{length};
+ghost use Rattle.clip.specs.Slice.{over};
+ghost use Rattle.lines.specs.State as T;
+use super::answer::LINE_ROOM;
+use super::answer::answer_line;
+use super::line::Line;
+use super::line::take_line;
+use frames::reader::LONGEST;
+
+// What is known of the line now, how much of the block was taken, and how many bytes were written to the output.
+pub struct Fed {
+    pub line: Line,
+    pub taken: usize,
+    pub written: usize,
+}
+
+// The state in which an input begins.
+pub fn start() -> Line
+    ensures { λ r. ⌜ r ≡ Line.Whole 0 ⌝ }
+{
+    Line::Whole(0)
+}
+
+// Takes a block up to its first newline, which is answered, or to its end. `kept` is 5,120 bytes that go with the line: those past the line's own are free.
+// Takes nothing where `kept` has another length, or `out` is shorter than LINE_ROOM.
+pub fn feed(block: &[u8], line: Line, kept: &mut [u8], out: &mut [u8]) -> Fed
+    ensures { λ r. ⌜ T.Feeds (now (block .entry)) (T.stateOf line (now (kept .entry))) (T.lent (now (kept .entry)) (now (out .entry))) (now (out .entry))
+        (r .taken) (r .written) (T.stateOf (r .line) (now (kept .exit))) (now (out .exit)) ⌝ }
+{
+    if kept.len() != LONGEST {
+        return Fed {
+            line,
+            taken: 0,
+            written: 0,
+        };
+    }
+    if out.len() < LINE_ROOM {
+        return Fed {
+            line,
+            taken: 0,
+            written: 0,
+        };
+    }
+    let place = take_line(block, line, kept);
+    let reached = place.line;
+    let at = place.at;
+    if at < block.len() {
+        let written = answer_line(reached, kept, out);
+        return Fed {
+            line: start(),
+            taken: at + 1,
+            written,
+        };
+    }
+    Fed {
+        line: reached,
+        taken: at,
+        written: 0,
+    }
+}
+
+fn is_not_begun(line: Line) -> bool
+    ensures { λ r. ⌜ r ≡ T.notBegun line ⌝ }
+{
+    match line {
+        Line::NotDigits => false,
+        Line::Whole(bytes) => bytes == 0,
+        Line::Half(_, _) => false,
+        Line::Long(_) => false,
+    }
+}
+
+// What the end of the input prints, a last line without a newline, and how many bytes it is. Nothing is written where the slices are too short, as in `feed`.
+pub fn finish(line: Line, kept: &[u8], out: &mut [u8]) -> usize
+    ensures { λ r. ⌜ (r ≡ length (T.finished (T.lent (now (kept .entry)) (now (out .entry))) (T.stateOf line (now (kept .entry)))))
+        × (now (out .exit) ≡ over (T.finished (T.lent (now (kept .entry)) (now (out .entry))) (T.stateOf line (now (kept .entry)))) (now (out .entry)))
+        × (r ≤ length (now (out .entry))) ⌝ }
+{
+    if kept.len() != LONGEST {
+        return 0;
+    }
+    if out.len() < LINE_ROOM {
+        return 0;
+    }
+    if is_not_begun(line) {
+        return 0;
+    }
+    answer_line(line, kept, out)
+}
