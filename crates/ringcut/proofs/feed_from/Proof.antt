@@ -1,0 +1,53 @@
+-- `feed_from` meets its contract: the slices that it lends are long enough, so something is taken. Assumes nothing.
+use denote.Ref.{now}
+use borrow.Author.Needs.{needs}
+use Rattle.lines.proofs.Feeding.{takes-some}
+use Rattle.ringcut.proofs.feed_from.Statement.{statement}
+use Rattle.ringcut.proofs.feed_from.Tie as tie
+
+sub-feed : tie.Need-sub-feed
+sub-feed c = search needs
+
+part-feed-start : tie.Need-part-feed-start
+part-feed-start c = search needs
+
+part-feed-end : tie.Need-part-feed-end
+part-feed-end c = search needs
+
+sub-feed-2 : tie.Need-sub-feed-2
+sub-feed-2 c = search needs
+
+part-feed-start-2 : tie.Need-part-feed-start-2
+part-feed-start-2 c = search needs
+
+part-feed-end-2 : tie.Need-part-feed-end-2
+part-feed-end-2 c = search needs
+
+feed-requires : tie.Need-feed-requires
+feed-requires c κs = search needs
+
+same-length : tie.Need-same-length
+same-length c = search needs
+
+same-length-2 : tie.Need-same-length-2
+same-length-2 c = search needs
+
+returns : tie.Need-returns
+returns c =
+    let f = c .before .before .before .before .feed .ensures in
+    (takes-some (now (c .before .before .before .before .before .before .before .before .before .before .before .args .kept)) f (search needs) (search needs) (search needs), search needs, search needs)
+
+pub feed-from-spec : {M : Type 1} → statement M
+feed-from-spec =
+    tie.close
+    (tie.spec
+    sub-feed
+    part-feed-start
+    part-feed-end
+    sub-feed-2
+    part-feed-start-2
+    part-feed-end-2
+    feed-requires
+    same-length
+    same-length-2
+    returns)
