@@ -19,14 +19,14 @@ use Rattle.box_pairs.specs.Issue.{repeated, issueOf}
 
 -- ---- neighbours
 
-few : (l : List Coord) → length l ≤ 2 → repeated l ≡ false
+pub few : (l : List Coord) → length l ≤ 2 → repeated l ≡ false
 unfolding repeated
 few [] h = refl
 few (p ∷ []) h = refl
 few (p ∷ q ∷ []) h = refl
 few (p ∷ q ∷ s ∷ l) h = absurd (omega arith)
 
-one-more : (l : List Coord) (k : ℕ) (z : Coord) → k + 2 < length l → repeated (drop k l) ≡ short (getD l k z) (getD l (k + 1) z) || repeated (drop (k + 1) l)
+pub one-more : (l : List Coord) (k : ℕ) (z : Coord) → k + 2 < length l → repeated (drop k l) ≡ short (getD l k z) (getD l (k + 1) z) || repeated (drop (k + 1) l)
 unfolding repeated
 one-more l k z h = rw (add-one k, drop-cons l k z (omega arith), drop-cons l (suc k) z (omega arith), drop-cons l (suc (suc k)) z (omega arith))
 

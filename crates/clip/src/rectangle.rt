@@ -21,7 +21,7 @@ pub enum Rect {
     Box(f64, f64, f64, f64),
 }
 
-fn is_finite_coord(p: Coord) -> bool
+pub fn is_finite_coord(p: Coord) -> bool
     ensures { λ r. ⌜ r ≡ S.isFiniteCoord p ⌝ }
 {
     is_finite(p.x) && is_finite(p.y)
@@ -53,7 +53,7 @@ pub fn with_coord(r: Rect, p: Coord) -> Rect
 }
 
 // `minimum` where the first is no NaN: one comparison, which the loop over a ring makes for every coordinate.
-fn smaller(a: f64, b: f64) -> f64
+pub fn smaller(a: f64, b: f64) -> f64
     requires { ⌜ isNan a ≡ false ⌝ }
     ensures { λ r. ⌜ r ≡ C.minimum a b ⌝ }
 {
@@ -64,7 +64,7 @@ fn smaller(a: f64, b: f64) -> f64
 }
 
 // `maximum` likewise.
-fn larger(a: f64, b: f64) -> f64
+pub fn larger(a: f64, b: f64) -> f64
     requires { ⌜ isNan a ≡ false ⌝ }
     ensures { λ r. ⌜ r ≡ C.maximum a b ⌝ }
 {

@@ -4,17 +4,19 @@ use mathlib.Core.Bool.{Bool, true, false, not, cond, _&&_, true≢false}
 use mathlib.Core.List.{List, [], _∷_}
 use Prim.Native.Nat.{ℕ, suc, _+_, _*_, _≤_}
 use native.Mathlib.Omega.{arith}
-use borrow.Author.Tests.{eqb-true, not-false}
+use borrow.Author.Tests.{eqb-true, ne-eqb, not-true, not-false}
 use lib.Dec.{eqb}
 use lib.ListN.{length, drop, length-append}
 use Rattle.tile.specs.declared.Coord.{Coord}
 use Rattle.tile.specs.declared.TileBounds.{TileBounds}
+use Rattle.box_pairs.specs.Issue.{issueOf, hasIssue}
 use Rattle.sutherland_hodgman.specs.Growth.{B}
 use Rattle.clip.specs.declared.polygon.Flags.{Flags}
 use Rattle.clip.specs.declared.rectangle.Rect.{Rect}
 use Rattle.clip.specs.declared.rectangle.Rect.the-variants as Rects
 use Rattle.clip.specs.Rectangle.{rectangle, withRings, intersectsBounds, isFullyInside}
 use Rattle.clip.specs.Polygon as P
+use Rattle.clip.proofs.Closing.{both}
 use Rattle.clip.proofs.Holes.{whole-over}
 use Rattle.frames.specs.declared.head.Head.{Head}
 use Rattle.frames.specs.declared.reader.FrameRefusal.{FrameRefusal}
@@ -24,15 +26,16 @@ use Rattle.frames.specs.Frame.{Reading, refused, read, checkOf, Accepted
 use Rattle.frames.specs.Room.{leastRoom, coordinateBytes, sumOf, partRoom, room, frameRoom, readCall}
 use Rattle.frames.specs.Answer.{Part, Answer, Nothing, Unchanged, ofPolygon, routePart, listedBefore, listParts, ofParts, withParts, ifBox, ofMultipolygon, flagsIn, boundsIn, onlyPart, answerTo}
 use Rattle.frames.specs.Encoding.{each, coordBytes, headerBytes, partBytes, answerBytes, frameBytes, outputAfter, callOutput}
-use Rattle.frames.specs.Measure.{frameRect}
+use Rattle.frames.specs.Measure.{frameRect, soundIfSimple}
 use Rattle.frames.specs.Part.{partAt, PartRoom}
 use Rattle.frames.specs.Parts.{partsIn, partsFrom, ofListing, Answers}
-use Rattle.frames.specs.Entry.{answerOfReading, callAnswer, partsOf, answerIn, answerMeasured, insideWhole, PartsReady, Answerable, Cuttable}
+use Rattle.frames.specs.Entry.{answerOfReading, callAnswer, partsOf, answerIn, answerMeasured, unchangedWhole, PartsReady, Answerable, Cuttable}
 use Rattle.frames.proofs.Readings.{neither, taken, many-length, frame-read}
 use Rattle.frames.proofs.Rooms.{mostPart, parts-le, frame-head, frame-few, frame-parts, call-read}
 use Rattle.frames.proofs.Writing.{length-header}
 use Rattle.frames.proofs.Cutting.{each-append}
-use Rattle.frames.proofs.Listings.{routed-as, listed-append, routed-fits, listed-fits, part-next, part-room}
+use Rattle.frames.proofs.Listings.{routed-as, listed-append, routed-fits, listed-fits, NextPart, next-part, part-next, part-room}
+use Rattle.frames.proofs.SimpleExteriors.{sound-part}
 use Rattle.frames.proofs.Sizes.{parts-fit}
 
 -- ---- what an accepted frame holds
@@ -115,6 +118,25 @@ module _ (frame : List ℕ) (head : Head) (ring a b order out : ℕ) (r : PartsR
 pub as-answer : {x y : Answer} {out out′ : List ℕ} {r : ℕ} → x ≡ y → Answers y out r out′ → Answers x out r out′
 as-answer e a = rw e a
 
+-- what is no multipolygon
+pub polygon-else : (frame : List ℕ) (head : Head) → Accepted (readFrame frame) → head ≡ headOf frame → (head .kind ≡ multipolygon → ⊥) → eqb (kindOf frame) polygon ≡ true
+polygon-else frame head a hd n =
+    let e : eqb (kindOf frame) multipolygon ≡ false = rw hd at (ne-eqb (head .kind) multipolygon n) in
+    not-false (eqb (kindOf frame) polygon) (sym (holds frame a .kinds) ∙ e)
+
+-- a polygon's only part, as it stands in the frame
+module _ (frame : List ℕ) (a : Accepted (readFrame frame)) (k : eqb (kindOf frame) polygon ≡ true) where
+  only-next : NextPart frame headBytes (partCountOf frame)
+  only-next = next-part frame headBytes (partCountOf frame) (frame-head frame a) (omega (arith, holds frame a .only k)) (frame-parts frame a)
+
+  pub only-accepted : Accepted (readPart (drop headBytes frame))
+  only-accepted = only-next .accepted
+
+  pub only-sound : soundIfSimple (readPart (drop headBytes frame)) ≡ not (hasIssue (issueOf true (P.exterior (onlyPart (partsOf (readFrame frame))))))
+  only-sound =
+      let same : onlyPart (partsOf (readFrame frame)) ≡ partAt frame headBytes = ap onlyPart (sym (holds frame a .parts-from) ∙ only-next .here) in
+      rw same (sound-part frame headBytes only-accepted)
+
 -- ---- the answer, by the rectangle
 
 -- one that is finite: nothing has no coordinate, so that it is apart
@@ -190,22 +212,35 @@ module _ (frame : List ℕ) (head : Head) (out : ℕ) (c : Cuttable frame head o
       go true k = of-polygon k ∙ rw i
       go false k = of-multipolygon k ∙ rw i
 
-  kind-inside : (t u : Bool) → eqb (head .kind) polygon ≡ t → insideWhole (head .kind) rect b ≡ u → (not t && isFullyInside rect b) ≡ u
-  kind-inside t u k j = let e : eqb (head .kind) multipolygon ≡ not (eqb (head .kind) polygon) = rw (c .answerable .head-read) (holds frame (c .answerable .accepted) .kinds) in rw (← k, ← e) j
+  other-kinds : (t : Bool) → eqb (head .kind) polygon ≡ t → eqb (head .kind) multipolygon ≡ not t
+  other-kinds t k = rw (← k, c .answerable .head-read) (holds frame (c .answerable .accepted) .kinds)
 
-  pub inside : intersectsBounds rect b ≡ true → insideWhole (head .kind) rect b ≡ true → answerIn (readFrame frame) ≡ Unchanged
+  pub inside : intersectsBounds rect b ≡ true → unchangedWhole head rect b parts ≡ true → answerIn (readFrame frame) ≡ Unchanged
+  unfolding P.routeExterior
   inside i j = go (eqb (head .kind) polygon) refl
     where
       go : (t : Bool) → eqb (head .kind) polygon ≡ t → answerIn (readFrame frame) ≡ Unchanged
-      go true k = absurd (true≢false (sym (kind-inside true true k j)))
-      go false k = of-multipolygon k ∙ rw (i, kind-inside false true k j)
+      go true k =
+          let u : (isFullyInside rect b && (head .«assume_simple» && not (hasIssue (issueOf true (P.exterior (onlyPart parts)))))) ≡ true = rw (other-kinds true k) at j in
+          let v = both (isFullyInside rect b) _ u in
+          let w = both (head .«assume_simple») _ (v .1) in
+          of-polygon k ∙ rw (i, w .0, not-true (hasIssue (issueOf true (P.exterior (onlyPart parts)))) (w .1), v .0)
+      go false k =
+          let u : (isFullyInside rect b && true) ≡ true = rw (other-kinds false k) at j in
+          of-multipolygon k ∙ rw (i, both (isFullyInside rect b) true u .0)
 
-  pub measured : intersectsBounds rect b ≡ true → insideWhole (head .kind) rect b ≡ false → answerIn (readFrame frame) ≡ answerMeasured head rect b parts
+  pub measured : intersectsBounds rect b ≡ true → unchangedWhole head rect b parts ≡ false → answerIn (readFrame frame) ≡ answerMeasured head rect b parts
   measured i j = go (eqb (head .kind) polygon) refl
     where
+      inside-not : (t : Bool) → (t && true) ≡ false → t ≡ false
+      inside-not true e = e
+      inside-not false e = refl
+
       go : (t : Bool) → eqb (head .kind) polygon ≡ t → answerIn (readFrame frame) ≡ answerMeasured head rect b parts
       go true k = of-polygon k ∙ rw k
-      go false k = of-multipolygon k ∙ rw (i, kind-inside false false k j, k)
+      go false k =
+          let u : (isFullyInside rect b && true) ≡ false = rw (other-kinds false k) at j in
+          of-multipolygon k ∙ rw (i, inside-not (isFullyInside rect b) u, k)
 
 -- ---- the answer's bytes have room
 

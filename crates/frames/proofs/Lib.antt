@@ -7,6 +7,7 @@ pub mod Measures
 pub mod Places
 pub mod Readings
 pub mod Rooms
+pub mod SimpleExteriors
 pub mod Sizes
 pub mod Walks
 pub mod Worked

@@ -2,9 +2,10 @@
 use mathlib.Core.Path.{_≡_, refl, sym, _∙_, ap}
 use mathlib.Core.Bool.{Bool, true, false, _||_}
 use mathlib.Core.List.{List, [], _∷_}
-use Prim.Native.Nat.{ℕ, _+_, _*_, _-_, _<_, _≤_}
+use Prim.Native.Nat.{ℕ, zero, suc, _+_, _*_, _-_, _<_, _≤_}
 use native.Mathlib.Omega.{arith}
 use lib.ListN.{length, drop, length-drop}
+use lib.Seq.{drop-drop}
 use Rattle.tile.specs.declared.Coord.{Coord}
 use Rattle.tile.specs.Ring.{close}
 use Rattle.clip.specs.declared.rectangle.Rect.{Rect}
@@ -38,6 +39,17 @@ module _ (frame : List ℕ) (at n i : ℕ) where
   pub huge-all : n ≤ i → anyHuge (left frame at n i) ≡ false
   unfolding anyHuge
   huge-all h = rw (left-all frame at n i h)
+
+-- the first coordinate, then the rest
+pub rect-first : (frame : List ℕ) (at n : ℕ) (r : Rect) → 0 < n → withRing r (coordsOf n (drop at frame)) ≡ withRing (withCoord r (coordOf (drop at frame))) (coordsOf (n - 1) (drop (at + 16) frame))
+unfolding withRing coordsOf
+rect-first frame at zero r h = absurd (omega arith)
+rect-first frame at (suc n) r h = let e : suc n - 1 ≡ n = omega arith in rw (e, ← drop-drop 16 at frame)
+
+pub rect-none : (r : Rect) (n : ℕ) (l : List ℕ) → n ≡ 0 → withRing r (coordsOf n l) ≡ r
+unfolding withRing coordsOf
+rect-none r zero l h = refl
+rect-none r (suc n) l h = absurd (omega (arith, h))
 
 -- ---- many things, one behind the other
 

@@ -1,16 +1,17 @@
 -- The frame call: what its functions ask for and answer of a frame that is read. Definitions only.
 use mathlib.Core.Path.{_≡_}
-use mathlib.Core.Bool.{Bool, true, cond, _&&_}
+use mathlib.Core.Bool.{Bool, true, not, cond, _&&_, _||_}
 use mathlib.Core.List.{List, []}
 use Prim.Native.Nat.{ℕ, _<_, _≤_}
 use lib.Dec.{eqb}
 use lib.ListN.{length}
 use Rattle.tile.specs.declared.Coord.{Coord}
 use Rattle.tile.specs.declared.TileBounds.{TileBounds}
+use Rattle.box_pairs.specs.Issue.{issueOf, hasIssue}
 use Rattle.clip.specs.declared.rectangle.Rect.{Rect}
 use Rattle.clip.specs.declared.rectangle.Rect.the-variants as Rects
 use Rattle.clip.specs.Rectangle.{isFullyInside}
-use Rattle.clip.specs.Polygon.{routeMeasured}
+use Rattle.clip.specs.Polygon.{exterior, routeMeasured}
 use Rattle.frames.specs.declared.head.Head.{Head}
 use Rattle.frames.specs.declared.entry.FrameAnswer.{FrameAnswer}
 use Rattle.frames.specs.declared.entry.FrameAnswer.the-variants.{Refused, Answered}
@@ -45,9 +46,9 @@ answerIn (read f rest) = answerTo f
 abbrev pub answerMeasured : Head → Rect → TileBounds → List (List (List Coord)) → Answer
 answerMeasured head rect b parts = cond (eqb (head .kind) polygon) (ofPolygon (routeMeasured (flagsIn head) rect b (onlyPart parts))) (ofListing (listParts (flagsIn head) b 0 parts))
 
--- "Whole rectangle inside: unchanged": of a multipolygon
-abbrev pub insideWhole : ℕ → Rect → TileBounds → Bool
-insideWhole kind rect b = eqb kind multipolygon && isFullyInside rect b
+-- "Whole rectangle inside: unchanged, with no issue check", of a multipolygon; "No issue and rectangle inside the bounds: unchanged", of a polygon whose exterior is assumed to be simple
+abbrev pub unchangedWhole : Head → Rect → TileBounds → List (List (List Coord)) → Bool
+unchangedWhole head rect b parts = isFullyInside rect b && (eqb (head .kind) multipolygon || (head .«assume_simple» && not (hasIssue (issueOf true (exterior (onlyPart parts))))))
 
 -- ---- what is asked for
 

@@ -1,13 +1,15 @@
--- What is measured of an accepted frame as it stands: the rectangle of a part and of all parts, and whether a part has a coordinate that the overlay can't take (document 01, "Nothing, or dropped", "Overlay wanted" and "Multipolygons"). Definitions only.
-use mathlib.Core.Bool.{Bool, false}
+-- What is measured of an accepted frame as it stands: the rectangle of a part and of all parts, whether a part has a coordinate that the overlay can't take, and whether its exterior has no issue if it is assumed to be simple (document 01, "Nothing, or dropped", "Overlay wanted" and "Multipolygons"). Definitions only.
+use mathlib.Core.Bool.{Bool, true, false, not}
 use mathlib.Core.List.{List}
 use Prim.Native.Nat.{ℕ, _-_}
 use lib.ListN.{length}
 use Rattle.tile.specs.declared.Coord.{Coord}
+use Rattle.box_pairs.specs.Issue.{issueOf, hasIssue}
 use Rattle.clip.specs.declared.rectangle.Rect.{Rect}
 use Rattle.clip.specs.declared.rectangle.Rect.the-variants as Rects
 use Rattle.clip.specs.Rectangle.{withRings}
 use Rattle.clip.specs.Representable.{anyHugeRing}
+use Rattle.clip.specs.Polygon.{exterior}
 use Rattle.frames.specs.declared.measure.Measured.{Measured}
 use Rattle.frames.specs.Frame.{Reading, refused, read, Frame}
 use Rattle.frames.specs.Answer.{withParts}
@@ -26,3 +28,8 @@ frameRect (read f rest) = withParts Rects.Nothing (f .parts)
 abbrev pub hugeOf : Reading (List (List Coord)) → Bool
 hugeOf (refused r) = false
 hugeOf (read rings rest) = anyHugeRing rings
+
+-- whether the exterior of a part has no issue if it is assumed to be simple; of a refusal, as above, no use
+abbrev pub soundIfSimple : Reading (List (List Coord)) → Bool
+soundIfSimple (refused r) = false
+soundIfSimple (read rings rest) = not (hasIssue (issueOf true (exterior rings)))

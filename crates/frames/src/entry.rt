@@ -8,6 +8,7 @@ ghost use Rattle.frames.specs.Encoding as E;
 ghost use Rattle.frames.specs.Measure as M;
 ghost use Rattle.frames.specs.Parts as S;
 ghost use Rattle.frames.specs.Entry as Y;
+use super::head::HEAD;
 use super::head::Head;
 use super::head::read_head;
 use super::measure::whole_rect;
@@ -17,6 +18,7 @@ use super::reader::FrameCheck;
 use super::reader::FrameRefusal;
 use super::reader::MULTIPOLYGON;
 use super::room::check_call;
+use super::simple::is_sound_if_simple;
 use clip::rectangle::Rect;
 use clip::rectangle::intersects_bounds;
 use clip::rectangle::is_fully_inside;
@@ -110,14 +112,21 @@ fn answer_sized(frame: &[u8], head: Head, rect: Rect, bounds: TileBounds, out: &
     answer_full(frame, head, rect, bounds, out)
 }
 
-// A multipolygon that is inside as a whole is unchanged, with no issue check.
-fn is_inside_whole(kind: u8, rect: Rect, bounds: TileBounds) -> bool
-    ensures { λ r. ⌜ r ≡ Y.insideWhole kind rect bounds ⌝ }
+// Whether the frame is unchanged, as far as that is told without an array: a multipolygon inside as a whole, which has no issue check, or a polygon inside whose exterior is assumed to be simple.
+fn is_unchanged(frame: &[u8], head: Head, rect: Rect, bounds: TileBounds) -> bool
+    requires { ⌜ F.Accepted (F.readFrame (now frame)) × (head ≡ F.headOf (now frame)) ⌝ }
+    ensures { λ r. ⌜ r ≡ Y.unchangedWhole head rect bounds (Y.partsOf (F.readFrame (now (frame .entry)))) ⌝ }
 {
-    kind == MULTIPOLYGON && is_fully_inside(rect, bounds)
+    if !is_fully_inside(rect, bounds) {
+        return false;
+    }
+    if head.kind == MULTIPOLYGON {
+        return true;
+    }
+    head.assume_simple && is_sound_if_simple(frame, HEAD)
 }
 
-// The answer to a frame whose rectangle is rect: what is apart, and a multipolygon that is inside, is answered before there is any array.
+// The answer to a frame whose rectangle is rect: what is apart, and what is unchanged without a search for crossings, is answered before there is any array.
 fn answer_measured(frame: &[u8], head: Head, rect: Rect, out: &mut [u8]) -> usize
     requires { ⌜ Y.Cuttable (now frame) head (length (now out)) × (rect ≡ M.frameRect (F.readFrame (now frame))) ⌝ }
     ensures { λ r. ⌜ S.Answers (Y.answerIn (F.readFrame (now (frame .entry)))) (now (out .entry)) r (now (out .exit)) ⌝ }
@@ -126,7 +135,7 @@ fn answer_measured(frame: &[u8], head: Head, rect: Rect, out: &mut [u8]) -> usiz
     if !intersects_bounds(rect, bounds) {
         return put_alone(out, 0, 0);
     }
-    if is_inside_whole(head.kind, rect, bounds) {
+    if is_unchanged(frame, head, rect, bounds) {
         return put_alone(out, 2, 0);
     }
     answer_sized(frame, head, rect, bounds, out)

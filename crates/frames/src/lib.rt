@@ -7,3 +7,4 @@ pub mod parts;
 pub mod reader;
 pub mod ring;
 pub mod room;
+pub mod simple;

@@ -3,7 +3,8 @@
 ghost use mathlib.Core.Path.{_≡_};
 ghost use Prim.Native.Nat.{_+_, _*_, _≤_};
 ghost use lib.ListN.{length, drop};
-ghost use Rattle.clip.specs.Rectangle.{withRing};
+ghost use Rattle.clip.specs.declared.rectangle.Rect.the-variants as Rects;
+ghost use Rattle.clip.specs.Rectangle.{isFiniteCoord, withRing, Numbers};
 ghost use Rattle.clip.specs.Representable.{anyHuge};
 ghost use Rattle.frames.specs.Frame as S;
 ghost use Rattle.frames.specs.Measure.{measuredOf, frameRect, hugeOf};
@@ -14,6 +15,9 @@ use super::ring::COUNT;
 use super::ring::coord_at;
 use super::ring::count_at;
 use clip::rectangle::Rect;
+use clip::rectangle::is_finite_coord;
+use clip::rectangle::larger;
+use clip::rectangle::smaller;
 use clip::rectangle::with_coord;
 use clip::representable::is_huge_coord;
 
@@ -23,19 +27,60 @@ pub struct Measured {
     pub next: usize,
 }
 
-// The rectangle with the n coordinates at a place.
+// Whether the coordinate at a place is finite. Asked before it is read: then no NaN needs to be made of its bits.
+fn is_finite_at(frame: &[u8], at: usize) -> bool
+    requires { ⌜ at + 16 ≤ length (now frame) ⌝ }
+    ensures { λ r. ⌜ r ≡ isFiniteCoord (S.coordOf (drop at (now (frame .entry)))) ⌝ }
+{
+    is_finite_coord(coord_at(frame, at))
+}
+
+// The rectangle of four numbers with the `count` coordinates at a place. The numbers are carried one by one: an enum would be stored and read back for every coordinate.
+fn box_with_coords(w: f64, s: f64, e: f64, n: f64, frame: &[u8], at: usize, count: usize) -> Rect
+    requires { ⌜ Numbers w s e n × (at + 16 * count ≤ length (now frame)) ⌝ }
+    ensures { λ r. ⌜ r ≡ withRing (Rects.Box w s e n) (S.coordsOf count (drop at (now (frame .entry)))) ⌝ }
+{
+    let mut west = w;
+    let mut south = s;
+    let mut east = e;
+    let mut north = n;
+    let mut i = 0usize;
+    while i < count {
+        let place = at + COORD * i;
+        if !is_finite_at(frame, place) {
+            return Rect::NotFinite;
+        }
+        let p = coord_at(frame, place);
+        west = smaller(west, p.x);
+        south = smaller(south, p.y);
+        east = larger(east, p.x);
+        north = larger(north, p.y);
+        i += 1;
+    }
+    Rect::Box(west, south, east, north)
+}
+
+// The rectangle with the n coordinates at a place. The first leaves something in it, so the arm for Nothing is never taken.
 fn with_coords(frame: &[u8], at: usize, n: usize, rect: Rect) -> Rect
     requires { ⌜ at + 16 * n ≤ length (now frame) ⌝ }
     ensures { λ r. ⌜ r ≡ withRing rect (S.coordsOf n (drop at (now (frame .entry)))) ⌝ }
 {
-    let mut whole = rect;
-    let mut i = 0usize;
-    while i < n {
-        let p = coord_at(frame, at + COORD * i);
-        whole = with_coord(whole, p);
-        i += 1;
+    if n == 0 {
+        return rect;
     }
-    whole
+    match with_coord(rect, coord_at(frame, at)) {
+        Rect::Nothing => Rect::Nothing,
+        Rect::NotFinite => Rect::NotFinite,
+        Rect::Box(west, south, east, north) => box_with_coords(
+            west,
+            south,
+            east,
+            north,
+            frame,
+            at + COORD,
+            n - 1,
+        ),
+    }
 }
 
 // The rectangle with all rings of the part at a place.

@@ -1,70 +1,83 @@
--- `with_coords` meets its contract. The invariant: the rectangle so far, with the coordinates that are left, is that of all. Assumes nothing.
-use mathlib.Core.Path.{_≡_, sym, _∙_, ap}
-use Prim.Native.Nat.{_-_, _≤_}
+-- `with_coords` meets its contract: the first coordinate leaves a rectangle of four numbers that are no NaN, or one that is not finite. Assumes nothing.
+use mathlib.Core.Path.{sym, _∙_, ap, subst}
+use Prim.Native.Nat.{_+_, _-_}
+use native.Mathlib.Omega.{arith}
 use denote.Ref.{now}
 use lib.ListN.{drop}
+use Rattle.clip.specs.declared.rectangle.Rect.{Rect}
 use Rattle.clip.specs.Rectangle.{withCoord, withRing}
+use Rattle.clip.proofs.Closing.{Holds, holds-new}
+use Rattle.clip.proofs.Rectangles.{not-finite-stays, corners-numbers}
 use Rattle.frames.specs.Frame.{coordsOf}
-use Rattle.frames.proofs.Coordinates.{left, left-none}
-use Rattle.frames.proofs.Measures.{rect-one, rect-all}
+use Rattle.frames.proofs.Measures.{rect-first, rect-none}
 use borrow.Author.Needs.{needs}
 use Rattle.frames.proofs.measure.with_coords.Statement.{statement}
 use Rattle.frames.proofs.measure.with_coords.Tie as tie
 
-abbrev Inv-loop : tie.InvT-loop
-Inv-loop frame at n whole₀ i₀ whole i = (i ≤ n) × (withRing whole₀ (coordsOf n (drop at frame)) ≡ withRing whole (left frame at n i))
+returns : tie.Need-returns
+returns c =
+    let a = c .before .before .args in
+    sym (rect-none (a .rect) (a .n) (drop (a .at) (now (a .frame))) (c .if1 .taken))
 
-abbrev μ-loop : tie.MeasureT-loop
-μ-loop frame at n whole₀ i₀ whole i = n - i
-
-loop-holds : tie.Need-loop-holds Inv-loop μ-loop
-loop-holds c =
-    let a = c .before .args in
-    (search needs, ap (withRing (a .rect)) (sym (left-none (now (a .frame)) (a .at) (a .n))))
-
-mul-coord-at : tie.Need-mul-coord-at Inv-loop μ-loop
-mul-coord-at c = search needs
-
-add-coord-at : tie.Need-add-coord-at Inv-loop μ-loop
-add-coord-at c = search needs
-
-coord-at-requires : tie.Need-coord-at-requires Inv-loop μ-loop
+coord-at-requires : tie.Need-coord-at-requires
 coord-at-requires c κs = search needs
 
-with-coord-requires : tie.Need-with-coord-requires Inv-loop μ-loop
+with-coord-requires : tie.Need-with-coord-requires
 with-coord-requires c κs = search needs
 
-add-i : tie.Need-add-i Inv-loop μ-loop
-add-i c = search needs
+enum-told : tie.Need-enum-told
+enum-told c = search needs
 
-loop-less : tie.Need-loop-less Inv-loop μ-loop
-loop-less c = search needs
+enum-told-2 : tie.Need-enum-told-2
+enum-told-2 c = search needs
 
-loop-again : tie.Need-loop-again Inv-loop μ-loop
-loop-again c =
-    let a = c .before .before .before .before .before .args in
-    let l = c .before .before .before .loop in
-    let e = c .with-coord .ensures ∙ ap (withCoord (l .whole)) (c .before .coord-at .ensures) in
-    (search needs, l .inv .1 ∙ rect-one (now (a .frame)) (a .at) (a .n) (l .i) (l .whole) (c .before .before .loop-test .taken) ∙ rw e)
+enum-known-west : tie.Need-enum-known-west
+enum-known-west c = search needs
 
-returns : tie.Need-returns Inv-loop μ-loop
-returns c =
-    let a = c .before .before .before .args in
-    let l = c .before .loop in
-    sym (l .inv .1 ∙ rect-all (now (a .frame)) (a .at) (a .n) (l .i) (l .whole) (c .loop-test .left))
+add-box-with-coords : tie.Need-add-box-with-coords
+add-box-with-coords c = search needs
+
+sub-box-with-coords : tie.Need-sub-box-with-coords
+sub-box-with-coords c = search needs
+
+box-with-coords-requires : tie.Need-box-with-coords-requires
+box-with-coords-requires c κs =
+    let a = c .before .before .before .before .before .before .before .args in
+    let p = c .before .before .before .before .coord-at .result in
+    (corners-numbers p _ _ _ _ (subst (Holds p) (sym (c .before .before .before .with-coord .ensures) ∙ c .before .west .given .1) (holds-new p (a .rect))), omega (arith, c .before .before .before .before .before .if1 .left, c .before .before .before .before .before .before .before .pre))
+
+returns-2 : tie.Need-returns-2
+returns-2 c =
+    let p = c .before .before .before .coord-at .result in
+    absurd (subst (Holds p) (sym (c .before .before .with-coord .ensures) ∙ c .enum-told .given .1) (holds-new p (c .before .before .before .before .before .before .args .rect)))
+
+returns-3 : tie.Need-returns-3
+returns-3 c =
+    let a = c .before .before .before .before .before .before .args in
+    let rest = coordsOf (a .n - 1) (drop (a .at + 16) (now (a .frame))) in
+    let first = ap (withCoord (a .rect)) (sym (c .before .before .before .coord-at .ensures)) ∙ sym (c .before .before .with-coord .ensures) in
+    sym (rect-first (now (a .frame)) (a .at) (a .n) (a .rect) (omega (arith, c .before .before .before .before .if1 .left)) ∙ ap (λ (r : Rect). withRing r rest) (first ∙ c .enum-told2 .given .1) ∙ not-finite-stays rest)
+
+returns-4 : tie.Need-returns-4
+returns-4 c =
+    let a = c .before .before .before .before .before .before .before .before .args in
+    let rest = coordsOf (a .n - 1) (drop (a .at + 16) (now (a .frame))) in
+    let first = ap (withCoord (a .rect)) (sym (c .before .before .before .before .before .coord-at .ensures)) ∙ sym (c .before .before .before .before .with-coord .ensures) in
+    sym (rect-first (now (a .frame)) (a .at) (a .n) (a .rect) (omega (arith, c .before .before .before .before .before .before .if1 .left)) ∙ ap (λ (r : Rect). withRing r rest) (first ∙ c .before .before .west .given .1) ∙ sym (c .box-with-coords .ensures))
 
 pub with-coords-spec : {M : Type 1} → statement M
 with-coords-spec =
     tie.close
     (tie.spec
-    Inv-loop
-    μ-loop
-    loop-holds
-    mul-coord-at
-    add-coord-at
+    returns
     coord-at-requires
     with-coord-requires
-    add-i
-    loop-less
-    loop-again
-    returns)
+    enum-told
+    enum-told-2
+    enum-known-west
+    add-box-with-coords
+    sub-box-with-coords
+    box-with-coords-requires
+    returns-2
+    returns-3
+    returns-4)
