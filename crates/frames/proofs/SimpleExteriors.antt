@@ -48,11 +48,10 @@ module _ (frame : List ℕ) (at n : ℕ) where
   ring-at : (k : ℕ) → k < n → getD ring k none ≡ coordOf (drop (at + 16 * k) frame)
   ring-at k h = close-at (coordsOf n (drop at frame)) k (omega (arith, length-coordsOf n (drop at frame))) ∙ coords-at n (drop at frame) k h ∙ ap coordOf (drop-drop (16 * k) at frame)
 
-  pub repeated-next : (k : ℕ) → k + 2 < length ring → repeated (drop k ring) ≡ short (coordOf (drop (at + 16 * k) frame)) (coordOf (drop (at + 16 * k + 16) frame)) || repeated (drop (k + 1) ring)
+  pub repeated-next : (k : ℕ) → k + 2 < length ring → repeated (drop k ring) ≡ short (coordOf (drop (at + 16 * k) frame)) (coordOf (drop (at + 16 * (k + 1)) frame)) || repeated (drop (k + 1) ring)
   repeated-next k h =
       let g = close-grows n (drop at frame) in
-      let e : at + 16 * (k + 1) ≡ at + 16 * k + 16 = omega arith in
-      one-more ring k none h ∙ rw (ring-at k (omega arith), ring-at (k + 1) (omega arith), e)
+      one-more ring k none h ∙ rw (ring-at k (omega arith), ring-at (k + 1) (omega arith))
 
   pub repeated-end : (k : ℕ) → length ring ≤ k + 2 → repeated (drop k ring) ≡ false
   repeated-end k h = few (drop k ring) (omega (arith, length-drop k ring))

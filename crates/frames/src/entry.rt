@@ -24,10 +24,12 @@ use clip::rectangle::intersects_bounds;
 use clip::rectangle::is_fully_inside;
 use tile::TileBounds;
 
-// The longest frames of the two smaller sizes of working arrays: with 17 and 81 coordinates in a ring, closed.
-const SMALL: usize = 304;
+// The longest frames of the smaller sizes of working arrays: with 8, 32 and 81 coordinates in a ring, closed.
+const SMALL: usize = 175;
 
-const MEDIUM: usize = 1328;
+const MEDIUM: usize = 559;
+
+const LARGE: usize = 1343;
 
 // A refusal, or the count of the answer's bytes.
 pub enum FrameAnswer {
@@ -36,13 +38,13 @@ pub enum FrameAnswer {
 }
 
 fn answer_small(frame: &[u8], head: Head, rect: Rect, bounds: TileBounds, out: &mut [u8]) -> usize
-    requires { ⌜ Y.Cuttable (now frame) head (length (now out)) × (length (now frame) ≤ 304) ⌝ }
+    requires { ⌜ Y.Cuttable (now frame) head (length (now out)) × (length (now frame) ≤ 175) ⌝ }
     ensures { λ r. ⌜ S.Answers (Y.answerMeasured head rect bounds (Y.partsOf (F.readFrame (now (frame .entry))))) (now (out .entry)) r (now (out .exit)) ⌝ }
 {
-    let mut ring = [0.0; 34];
-    let mut a = [0.0; 168];
-    let mut b = [0.0; 168];
-    let mut order = [0u32; 84];
+    let mut ring = [0.0; 16];
+    let mut a = [0.0; 84];
+    let mut b = [0.0; 84];
+    let mut order = [0u32; 42];
     answer_in(
         frame,
         head,
@@ -57,7 +59,28 @@ fn answer_small(frame: &[u8], head: Head, rect: Rect, bounds: TileBounds, out: &
 }
 
 fn answer_medium(frame: &[u8], head: Head, rect: Rect, bounds: TileBounds, out: &mut [u8]) -> usize
-    requires { ⌜ Y.Cuttable (now frame) head (length (now out)) × (length (now frame) ≤ 1328) ⌝ }
+    requires { ⌜ Y.Cuttable (now frame) head (length (now out)) × (length (now frame) ≤ 559) ⌝ }
+    ensures { λ r. ⌜ S.Answers (Y.answerMeasured head rect bounds (Y.partsOf (F.readFrame (now (frame .entry))))) (now (out .entry)) r (now (out .exit)) ⌝ }
+{
+    let mut ring = [0.0; 64];
+    let mut a = [0.0; 328];
+    let mut b = [0.0; 328];
+    let mut order = [0u32; 164];
+    answer_in(
+        frame,
+        head,
+        rect,
+        bounds,
+        &mut ring,
+        &mut a,
+        &mut b,
+        &mut order,
+        out,
+    )
+}
+
+fn answer_large(frame: &[u8], head: Head, rect: Rect, bounds: TileBounds, out: &mut [u8]) -> usize
+    requires { ⌜ Y.Cuttable (now frame) head (length (now out)) × (length (now frame) ≤ 1343) ⌝ }
     ensures { λ r. ⌜ S.Answers (Y.answerMeasured head rect bounds (Y.partsOf (F.readFrame (now (frame .entry))))) (now (out .entry)) r (now (out .exit)) ⌝ }
 {
     let mut ring = [0.0; 162];
@@ -108,6 +131,9 @@ fn answer_sized(frame: &[u8], head: Head, rect: Rect, bounds: TileBounds, out: &
     }
     if frame.len() <= MEDIUM {
         return answer_medium(frame, head, rect, bounds, out);
+    }
+    if frame.len() <= LARGE {
+        return answer_large(frame, head, rect, bounds, out);
     }
     answer_full(frame, head, rect, bounds, out)
 }

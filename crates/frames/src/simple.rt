@@ -13,19 +13,19 @@ use super::ring::coord_at;
 use super::ring::count_at;
 use box_pairs::cross::is_short;
 
-// Whether two neighbours of the ring of n coordinates at a place, closed to `count`, are near each other, the last segment excepted.
+// Whether two neighbours of the ring of n coordinates at a place, closed to `count`, are near each other, the last segment excepted. Each coordinate is read once.
 fn has_repeated(frame: &[u8], at: usize, n: usize, count: usize) -> bool
-    requires { ⌜ (at + 16 * n ≤ length (now frame)) × (count ≡ length (close (S.coordsOf n (drop at (now frame))))) ⌝ }
+    requires { ⌜ (at + 16 * n ≤ length (now frame)) × (count ≡ length (close (S.coordsOf n (drop at (now frame))))) × (4 ≤ count) ⌝ }
     ensures { λ r. ⌜ r ≡ repeated (close (S.coordsOf n (drop at (now (frame .entry))))) ⌝ }
 {
+    let mut p = coord_at(frame, at);
     let mut k = 0usize;
     while k + 2 < count {
-        let place = at + COORD * k;
-        let p = coord_at(frame, place);
-        let q = coord_at(frame, place + COORD);
+        let q = coord_at(frame, at + COORD * (k + 1));
         if is_short(p, q) {
             return true;
         }
+        p = q;
         k += 1;
     }
     false

@@ -37,7 +37,7 @@ returns c =
 has-repeated-requires : tie.Need-has-repeated-requires
 has-repeated-requires c κs =
     let a = c .before .before .before .before .args in
-    (rw (c .before .before .count-at .ensures .0) (first-ring (now (a .frame)) (a .at) (c .before .before .before .before .pre .0) (c .before .before .before .before .pre .1) .whole), c .before .closed-count .ensures)
+    (rw (c .before .before .count-at .ensures .0) (first-ring (now (a .frame)) (a .at) (c .before .before .before .before .pre .0) (c .before .before .before .before .pre .1) .whole), c .before .closed-count .ensures, omega (arith, c .if1 .left))
 
 returns-2 : tie.Need-returns-2
 returns-2 c =

@@ -1,0 +1,48 @@
+-- `answer_large` meets its contract: its arrays have room for the rings of a frame of its size. Assumes nothing.
+use mathlib.Core.Path.{sym, ap}
+use native.Mathlib.Omega.{arith}
+use denote.Ref.{now}
+use Rattle.sutherland_hodgman.specs.Growth.{B, fourHalfGrowths, halfGrowth}
+use Rattle.frames.specs.Entry.{answerMeasured}
+use Rattle.frames.proofs.Entries.{ready, parts-read, as-answer}
+use borrow.Author.Needs.{needs}
+use Rattle.frames.proofs.entry.answer_large.Statement.{statement}
+use Rattle.frames.proofs.entry.answer_large.Tie as tie
+
+slice-aggregate-answer-in : tie.Need-slice-aggregate-answer-in
+slice-aggregate-answer-in c = search needs
+
+slice-aggregate-answer-in-2 : tie.Need-slice-aggregate-answer-in-2
+slice-aggregate-answer-in-2 c = search needs
+
+slice-aggregate-answer-in-3 : tie.Need-slice-aggregate-answer-in-3
+slice-aggregate-answer-in-3 c = search needs
+
+slice-aggregate-answer-in-4 : tie.Need-slice-aggregate-answer-in-4
+slice-aggregate-answer-in-4 c = search needs
+
+answer-in-requires : tie.Need-answer-in-requires
+unfolding B fourHalfGrowths halfGrowth
+answer-in-requires c κs =
+    let a = c .before .before .before .before .before .before .before .args in
+    ready (now (a .frame)) (a .head) 81 _ _ _ _ _ (c .before .before .before .before .before .before .before .pre .0) (omega (arith, c .before .before .before .before .before .before .before .pre .1)) (omega arith) (omega arith) (omega arith) (omega arith) (omega arith)
+
+same-length : tie.Need-same-length
+same-length c = search needs
+
+returns : tie.Need-returns
+returns c =
+    let a = c .before .before .before .before .before .before .before .before .before .before .before .before .before .before .args in
+    as-answer (ap (answerMeasured (a .head) (a .rect) (a .bounds)) (sym (parts-read (now (a .frame)) (a .head) _ (c .before .before .before .before .before .before .before .before .before .before .before .before .before .before .pre .0 .answerable)))) (c .before .before .before .before .before .before .answer-in .ensures)
+
+pub answer-large-spec : {M : Type 1} → statement M
+answer-large-spec =
+    tie.close
+    (tie.spec
+    slice-aggregate-answer-in
+    slice-aggregate-answer-in-2
+    slice-aggregate-answer-in-3
+    slice-aggregate-answer-in-4
+    answer-in-requires
+    same-length
+    returns)
