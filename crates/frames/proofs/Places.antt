@@ -7,8 +7,7 @@ use lib.ListN.{length, drop, length-drop}
 use lib.Seq.{drop-drop}
 use Rattle.tile.specs.declared.Coord.{Coord}
 use Rattle.tile.specs.Ring.{close}
-use Rattle.frames.specs.Frame.{Reading, read, readMany, countOf, coordsOf, readRing, readPart, mostRings, mostCoordinates, longest, headBytes}
-use Rattle.frames.proofs.Coordinates.{close-grows}
+use Rattle.frames.specs.Frame.{Reading, read, readMany, countOf, coordsOf, readRing, readPart, mostRings, mostCoordinates}
 use Rattle.frames.proofs.Readings.{Reads, place, many-first, ring-read, part-read}
 
 -- ---- the first of many, and the others from the next place on
@@ -66,13 +65,6 @@ ring-at frame at ring rest h e =
       coordinates = p .coordinates ∙ rw (drop-drop 2 at frame);
       follows = p .follows ∙ rw s (drop-drop (2 + 16 * countOf (drop at frame)) at frame);
     }
-
--- no ring of a frame has more than 317 coordinates, or 318 closed: the head and two counts stand before them
-pub ring-small : (frame : List ℕ) (at : ℕ) (ring : List Coord) (rest : List ℕ) → length frame ≤ longest → headBytes + 2 ≤ at → RingAt frame at ring rest → (countOf (drop at frame) ≤ 317) × (length ring ≤ 318)
-ring-small frame at ring rest h k p =
-    let w = p .whole in
-    let n : countOf (drop at frame) ≤ 317 = omega arith in
-    (n, rw (p .coordinates) (omega (arith, close-grows (countOf (drop at frame)) (drop (at + 2) frame))))
 
 pub record PartAt (frame : List ℕ) (at : ℕ) (part : List (List Coord)) (rest : List ℕ) : Type 0 where
   pub whole : at + 2 ≤ length frame
