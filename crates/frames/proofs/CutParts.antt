@@ -29,7 +29,7 @@ use Rattle.frames.proofs.Coordinates.{decoded}
 use Rattle.frames.proofs.Readings.{taken}
 use Rattle.frames.proofs.Places.{part-at}
 use Rattle.frames.proofs.Writing.{sets-before, length-count}
-use Rattle.frames.proofs.Cutting.{NextRing, next-ring, working-later, working-ring, unless-append, unless-bytes, unless-count, put-then}
+use Rattle.frames.proofs.Cutting.{NextRing, next-ring, working-later, working-ring, unless-append, unless-bytes, unless-count, put-then, ring-read-in}
 
 -- ---- the rings of a part
 
@@ -140,6 +140,10 @@ module _ (index : ℕ) (rings : List (List Coord)) where
 
 -- ---- an overlay
 
+pub overlay-room : (rings : List (List Coord)) (out to : ℕ) → to + partRoom 16 rings ≤ out → to + 4 ≤ out
+unfolding partRoom
+overlay-room rings out to h = omega (arith, h)
+
 pub huge-in : (x : Reading (List (List Coord))) → hugeOf x ≡ anyHugeRing (ringsIn x)
 unfolding anyHugeRing
 huge-in (refused r) = refl
@@ -158,7 +162,7 @@ module _ (frame : List ℕ) (at ring a b order out to : ℕ) (room : PartRoom fr
   part-is : partAt frame at ≡ exteriorAt frame at ∷ holesAt frame at
   part-is = part-here frame at (room .within) (room .accepted)
 
-  pub exterior-is : exterior (partAt frame at) ≡ exteriorAt frame at
+  exterior-is : exterior (partAt frame at) ≡ exteriorAt frame at
   exterior-is = ap exterior part-is
 
   part-working : Working (exteriorAt frame at ∷ holesAt frame at) ring a b
@@ -178,8 +182,11 @@ module _ (frame : List ℕ) (at ring a b order out to : ℕ) (room : PartRoom fr
       (w .0, record { room = w .1; positions = rw d (omega (arith, room .positions, ap (λ (l : List (List Coord)). B (largest length l)) part-is)) })
 
   pub part-head : to + 4 ≤ out
-  unfolding partRoom
-  part-head = omega (arith, room .output)
+  part-head = overlay-room (partAt frame at) out to (room .output)
+
+  -- read into a slice as n coordinates, the exterior stands at its front
+  pub exterior-read : (n : ℕ) (s s′ : List Float) → length s ≡ ring → n ≡ countOf (drop (at + 2) frame) → s′ ≡ sets s 0 (flat (coordsOf n (drop (at + 2 + 2) frame))) → exterior (partAt frame at) ≡ close (coords (take (2 * n) s′))
+  exterior-read n s s′ e hn hs = exterior-is ∙ sym (ap close (ring-read-in frame (at + 2) n s s′ hn hs (omega (arith, exterior-room s e .0))))
 
 -- the slices have kept their lengths
 pub same-working : (rings : List (List Coord)) (ring a b ring′ a′ b′ : ℕ) → ring′ ≡ ring → a′ ≡ a → b′ ≡ b → Working rings ring a b → Working rings ring′ a′ b′

@@ -9,6 +9,7 @@ use lib.Seq.{sets}
 use Rattle.tile.specs.declared.Coord.{Coord}
 use Rattle.tile.specs.declared.TileBounds.{TileBounds}
 use Rattle.sutherland_hodgman.specs.Growth.{B}
+use Rattle.clip.specs.declared.polygon.Route.{Route}
 use Rattle.clip.specs.Polygon as P
 use Rattle.clip.specs.Rings.{largest, allClosed}
 use Rattle.frames.specs.declared.part.PartAnswer.{PartAnswer}
@@ -87,3 +88,11 @@ pub record CutRoom (bounds : TileBounds) (frame : List ℕ) (at m ring a : ℕ) 
   pub output : to + partRoom coordinateBytes (partAt frame at) ≤ out
   pub stands : P.Stands (P.cutExterior bounds (P.exterior (partAt frame at))) m b
   pub whole : 0 < m
+
+-- a part whose exterior has this route is there and has room; where the route is a cut, the cut exterior stands at the front of b
+pub record RouteRoom (route : Route) (bounds : TileBounds) (frame : List ℕ) (at ring a : ℕ) (b : List Float) (out to : ℕ) : Type 0 where
+  pub within : at ≤ length frame
+  pub accepted : Accepted (readPart (drop at frame))
+  pub working : Working (partAt frame at) ring a (length b)
+  pub output : to + partRoom coordinateBytes (partAt frame at) ≤ out
+  pub stands : P.CutStands bounds (P.exterior (partAt frame at)) route b

@@ -138,6 +138,34 @@ fn overlay_or_dropped(
     PartAnswer::Listed(to + PART)
 }
 
+// What becomes of the part at a place whose exterior has this route; a cut exterior stands at the front of b.
+fn answer_route(
+    frame: &[u8],
+    at: usize,
+    index: usize,
+    route: Route,
+    bounds: TileBounds,
+    ring: &mut [f64],
+    a: &mut [f64],
+    b: &mut [f64],
+    out: &mut [u8],
+    to: usize,
+) -> PartAnswer
+    requires { ⌜ S.RouteRoom route bounds (now frame) at (length (now ring)) (length (now a)) (now b) (length (now out)) to ⌝ }
+    ensures { λ r. ⌜ r ≡ S.partAnswer to index (P.routed route bounds (S.partAt (now (frame .entry)) at)) ⌝ }
+    ensures { λ _. ⌜ now (out .exit) ≡ sets (now (out .entry)) to (S.writtenPart index (P.routed route bounds (S.partAt (now (frame .entry)) at))) ⌝ }
+{
+    match route {
+        Route::Nothing => PartAnswer::Nothing,
+        Route::Unchanged => PartAnswer::Unchanged,
+        Route::Overlay(reason) => overlay_or_dropped(frame, at, index, reason, out, to),
+        Route::Cut(m) => {
+            let next = put_cut(frame, at, index, m, bounds, ring, a, b, out, to);
+            PartAnswer::Listed(next)
+        }
+    }
+}
+
 // What becomes of the part at a place as a polygon, as if rect were its rectangle; one that is not finite is dropped before. What the working slices hold afterwards is open.
 pub fn route_part(
     frame: &[u8],
@@ -159,13 +187,6 @@ pub fn route_part(
 {
     let n = count_at(frame, at + COUNT);
     decode_ring(frame, at + COUNT + COUNT, n, ring, 0);
-    match route_exterior(ring, n, flags, rect, bounds, a, b, order) {
-        Route::Nothing => PartAnswer::Nothing,
-        Route::Unchanged => PartAnswer::Unchanged,
-        Route::Overlay(reason) => overlay_or_dropped(frame, at, index, reason, out, to),
-        Route::Cut(m) => {
-            let next = put_cut(frame, at, index, m, bounds, ring, a, b, out, to);
-            PartAnswer::Listed(next)
-        }
-    }
+    let route = route_exterior(ring, n, flags, rect, bounds, a, b, order);
+    answer_route(frame, at, index, route, bounds, ring, a, b, out, to)
 }

@@ -225,6 +225,22 @@ pub fn put_alone(out: &mut [u8], number: u8, guard: usize) -> usize
     LEAST_ROOM
 }
 
+// Writes the header of a polygon's answer, by its only part, before what is listed, and answers how many bytes the answer has.
+fn finish_polygon(answer: PartAnswer, out: &mut [u8]) -> usize
+    requires { ⌜ 5 ≤ length (now out) ⌝ }
+    ensures { λ r. ⌜ (r ≡ S.polygonLength answer) × (now (out .exit) ≡ sets (now (out .entry)) 0 (S.polygonHeader answer)) ⌝ }
+{
+    match answer {
+        PartAnswer::Nothing => put_alone(out, 0, 0),
+        PartAnswer::Dropped => put_alone(out, 1, 1),
+        PartAnswer::Unchanged => put_alone(out, 2, 0),
+        PartAnswer::Listed(next) => {
+            put_header(out, 3, 0, 1);
+            next
+        }
+    }
+}
+
 // The answer to a polygon, as if rect were its rectangle; one that is not finite is dropped before. What the working slices hold afterwards is open.
 pub fn answer_polygon(
     frame: &[u8],
@@ -240,7 +256,7 @@ pub fn answer_polygon(
     requires { ⌜ Q.PartRoom (now frame) F.headBytes (length (now ring)) (length (now a)) (length (now b)) (length (now order)) (length (now out)) 5 ⌝ }
     ensures { λ r. ⌜ S.Answers (Answers.ofPolygon (P.routeMeasured flags rect bounds (Q.partAt (now (frame .entry)) F.headBytes))) (now (out .entry)) r (now (out .exit)) ⌝ }
 {
-    match route_part(
+    let answer = route_part(
         frame,
         HEAD,
         0,
@@ -253,15 +269,8 @@ pub fn answer_polygon(
         order,
         out,
         LEAST_ROOM,
-    ) {
-        PartAnswer::Nothing => put_alone(out, 0, 0),
-        PartAnswer::Dropped => put_alone(out, 1, 1),
-        PartAnswer::Unchanged => put_alone(out, 2, 0),
-        PartAnswer::Listed(next) => {
-            put_header(out, 3, 0, 1);
-            next
-        }
-    }
+    );
+    finish_polygon(answer, out)
 }
 
 // The answer to a frame as if rect were its rectangle, in the working slices lent. What they hold afterwards is open.
