@@ -19,12 +19,13 @@ use Rattle.sutherland_hodgman.specs.declared.call.Check.the-variants.{Fails, Pa
 use Rattle.sutherland_hodgman.specs.Growth.{mostCoordinates}
 use Rattle.sutherland_hodgman.specs.Call.{number, refuse}
 use Rattle.clip.specs.declared.polygon.Flags.{Flags}
+use Rattle.clip.specs.declared.polygon.Route.{Route}
 use Rattle.clip.specs.declared.slice.PolygonAnswer.{PolygonAnswer}
 use Rattle.clip.specs.declared.slice.PolygonAnswer.the-variants as Is
 use Rattle.clip.specs.declared.slice.Placed.{Placed}
 use Rattle.clip.specs.declared.slice.SliceAnswer.{SliceAnswer}
 use Rattle.clip.specs.declared.slice.SliceAnswer.the-variants.{Refused, Answered}
-use Rattle.clip.specs.Polygon.{Routed, nothing, dropped, unchanged, cut, overlay, cutExterior, exterior, route, reasonNumber, Stands}
+use Rattle.clip.specs.Polygon.{Routed, nothing, dropped, unchanged, cut, overlay, cutExterior, exterior, route, reasonNumber, Stands, CutStands}
 use Rattle.clip.specs.Rings.{mostRings, sum, closedRings, total, largest, ringRoom, allClosed, Measurable}
 
 -- ---- refusals
@@ -195,6 +196,12 @@ pub record CutRoom (bounds : TileBounds) (lengths : List ℕ) (coords : List Flo
   pub some : 0 < length lengths
   pub stands : Stands (cutExterior bounds (exterior (closedRings lengths coords))) m b
   pub whole : 0 < m
+
+-- the exterior has this route, and where it is a cut, the cut exterior stands at the front of b
+pub record RouteRoom (route : Route) (bounds : TileBounds) (lengths : List ℕ) (coords : List Float) (a : ℕ) (b : List Float) (out outLengths : ℕ) : Type 0 where
+  pub rings : RingsRoom lengths coords a (length b) out outLengths nonePlaced
+  pub some : 0 < length lengths
+  pub stands : CutStands bounds (exterior (closedRings lengths coords)) route b
 
 -- a polygon with room for its rings, whose exterior takes positions besides
 pub record Clippable (lengths : List ℕ) (coords : List Float) (a b order out outLengths : ℕ) : Type 0 where

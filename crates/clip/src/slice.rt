@@ -202,25 +202,22 @@ fn overlay_or_dropped(coords: &[f64], lengths: &[u32], reason: Reason) -> Polygo
     PolygonAnswer::Overlay(reason)
 }
 
-// What becomes of a polygon whose rectangle is four numbers.
-fn clip_finite(
-    flags: Flags,
-    rect: Rect,
+// What becomes of a polygon whose exterior has this route; a cut exterior stands at the front of b.
+fn answer_route(
+    route: Route,
     bounds: TileBounds,
     coords: &[f64],
     lengths: &[u32],
     a: &mut [f64],
     b: &mut [f64],
-    order: &mut [u32],
     out: &mut [f64],
     out_lengths: &mut [u32],
 ) -> PolygonAnswer
-    requires { ⌜ S.Clippable (now lengths) (now coords) (length (now a)) (length (now b)) (length (now order)) (length (now out)) (length (now «out_lengths»)) ⌝ }
-    ensures { λ r. ⌜ r ≡ S.answerOf (P.routeMeasured flags rect bounds (R.closedRings (now (lengths .entry)) (now (coords .entry)))) ⌝ }
-    ensures { λ _. ⌜ S.Filled (P.routeMeasured flags rect bounds (R.closedRings (now (lengths .entry)) (now (coords .entry)))) (now (out .entry)) (now («out_lengths» .entry)) (now (out .exit)) (now («out_lengths» .exit)) ⌝ }
+    requires { ⌜ S.RouteRoom route bounds (now lengths) (now coords) (length (now a)) (now b) (length (now out)) (length (now «out_lengths»)) ⌝ }
+    ensures { λ r. ⌜ r ≡ S.answerOf (P.routed route bounds (R.closedRings (now (lengths .entry)) (now (coords .entry)))) ⌝ }
+    ensures { λ _. ⌜ S.Filled (P.routed route bounds (R.closedRings (now (lengths .entry)) (now (coords .entry)))) (now (out .entry)) (now («out_lengths» .entry)) (now (out .exit)) (now («out_lengths» .exit)) ⌝ }
 {
-    let n = lengths[0] as usize;
-    match route_exterior(coords, n, flags, rect, bounds, a, b, order) {
+    match route {
         Route::Nothing => PolygonAnswer::Nothing,
         Route::Unchanged => PolygonAnswer::Unchanged,
         Route::Overlay(reason) => overlay_or_dropped(coords, lengths, reason),
@@ -251,20 +248,11 @@ pub fn clip_polygon(
     match rect {
         Rect::Nothing => PolygonAnswer::Nothing,
         Rect::NotFinite => PolygonAnswer::Dropped,
-        Rect::Box(w, s, e, n) => {
-            let found = Rect::Box(w, s, e, n);
-            clip_finite(
-                flags,
-                found,
-                bounds,
-                coords,
-                lengths,
-                a,
-                b,
-                order,
-                out,
-                out_lengths,
-            )
+        Rect::Box(west, south, east, north) => {
+            let found = Rect::Box(west, south, east, north);
+            let n = lengths[0] as usize;
+            let route = route_exterior(coords, n, flags, found, bounds, a, b, order);
+            answer_route(route, bounds, coords, lengths, a, b, out, out_lengths)
         }
     }
 }
