@@ -4,6 +4,7 @@ use mathlib.Core.Bool.{Bool, true, false, cond}
 use mathlib.Core.List.{List, [], _∷_, _++_}
 use Prim.Native.Nat.{ℕ, zero, suc, _+_, _*_, _<_, _≤_}
 use native.Mathlib.Omega.{arith}
+use borrow.Author.Tests.{lt-ltb}
 use lib.Ieee.{Float}
 use lib.ListN.{length, take, drop, length-append}
 use lib.Seq.{take-at, length-take-le}
@@ -11,12 +12,20 @@ use Rattle.tile.specs.declared.Coord.{Coord}
 use Rattle.tile.specs.declared.TileBounds.{TileBounds}
 use Rattle.tile.specs.Ring.{coords, flat, closed, close, Written}
 use Rattle.tile.proofs.Rings.{length-front, length-flat, coords-flat, coords-front, length-close}
+use Rattle.box_pairs.specs.declared.Issue.{Issue}
+use Rattle.box_pairs.specs.Issue.{hasIssue, issueOf}
 use Rattle.sutherland_hodgman.specs.Growth.{fourHalfGrowths, B}
 use Rattle.sutherland_hodgman.specs.Clip.{leaveOff, around, pass, passes, finish, clipRing}
 use Rattle.sutherland_hodgman.specs.Cutter.{Room, Cut}
 use Rattle.sutherland_hodgman.proofs.Growth.{halfGrowth-mono, clipRing-grows, B-positive, le-four}
 use Rattle.sutherland_hodgman.proofs.LeavingOff.{clip-close}
-use Rattle.clip.specs.Polygon.{leftOut, cutHole, RingRoom, Stands}
+use Rattle.clip.specs.declared.bridge.Bridge.{Bridge}
+use Rattle.clip.specs.declared.bridge.Bridge.the-variants.{None, Along}
+use Rattle.clip.specs.declared.polygon.Flags.{Flags}
+use Rattle.clip.specs.declared.polygon.Reason.the-variants as Because
+use Rattle.clip.specs.declared.polygon.Route.{Route}
+use Rattle.clip.specs.declared.polygon.Route.the-variants as To
+use Rattle.clip.specs.Polygon.{overlayIfIssue, bridgeUnlessSkipped, overlayIfBridge, cutExterior, routeCut, leftOut, cutHole, RingRoom, Stands, CutStands}
 
 -- ---- room
 
@@ -113,3 +122,18 @@ module _ (n : ℕ) (s : List Float) (a b : ℕ) (room : RingRoom n s a b) where
 
       pub closed-some : 0 < k → 0 < r
       closed-some h = omega (arith, closed-written .count, cut-count, length-close (clipRing bounds (close (coords (take (2 * n) s)))))
+
+-- ---- a cut exterior, judged
+
+module _ (flags : Flags) (b : TileBounds) (r ring : List Coord) (issue : Issue) (n : ℕ) (to : Route) (is : to ≡ overlayIfIssue issue (Because.Cut issue) (overlayIfBridge (bridgeUnlessSkipped flags b ring) (To.Cut n))) where
+  pub judged-route : 0 < length (clipRing b r) → ring ≡ cutExterior b r → issue ≡ issueOf (flags .«assume_simple») ring → n ≡ length (cutExterior b r) → to ≡ routeCut flags b r
+  unfolding routeCut
+  judged-route some hr hi hn = is ∙ rw (lt-ltb _ _ some, hi, hr, hn)
+
+  pub judged-stands : (after : List Float) → Stands (cutExterior b r) n after → 0 < n → CutStands b r to after
+  judged-stands after stands some = rw is (go (hasIssue issue) (bridgeUnlessSkipped flags b ring))
+    where
+      go : (t : Bool) (bridge : Bridge) → CutStands b r (cond t (To.Overlay (Because.Cut issue)) (overlayIfBridge bridge (To.Cut n))) after
+      go true bridge = tt
+      go false (Along edge) = tt
+      go false None = (stands, some)

@@ -112,6 +112,21 @@ fn bridge_unless_skipped(ring: &[f64], n: usize, flags: Flags, bounds: TileBound
     first_bridge(ring, n, bounds)
 }
 
+// What becomes of a cut exterior of n coordinates, at the front of a slice, that has this issue.
+fn judge_cut(ring: &[f64], n: usize, issue: Issue, flags: Flags, bounds: TileBounds) -> Route
+    requires { ⌜ 2 * n ≤ length (now ring) ⌝ }
+    ensures { λ r. ⌜ r ≡ S.overlayIfIssue issue (Reason.Cut issue) (S.overlayIfBridge (S.bridgeUnlessSkipped flags bounds (coords (take (2 * n) (now (ring .entry))))) (Route.Cut n)) ⌝ }
+{
+    if has_issue(issue) {
+        return Route::Overlay(Reason::Cut(issue));
+    }
+    let bridge = bridge_unless_skipped(ring, n, flags, bounds);
+    if let Bridge::Along(edge) = bridge {
+        return Route::Overlay(Reason::Bridge(edge));
+    }
+    Route::Cut(n)
+}
+
 // Cuts the exterior; a cut that stays stands at the front of b.
 fn route_cut(
     ring: &[f64],
@@ -132,14 +147,7 @@ fn route_cut(
     }
     let m = close(b, clipped);
     let issue = find_issue(b, m, flags.assume_simple, a, order);
-    if has_issue(issue) {
-        return Route::Overlay(Reason::Cut(issue));
-    }
-    let bridge = bridge_unless_skipped(b, m, flags, bounds);
-    if let Bridge::Along(edge) = bridge {
-        return Route::Overlay(Reason::Bridge(edge));
-    }
-    Route::Cut(m)
+    judge_cut(b, m, issue, flags, bounds)
 }
 
 // What the exterior of n coordinates decides, rect being the rectangle of all rings; a cut exterior stands at the front of b.
