@@ -33,47 +33,6 @@ pub struct Listing {
     pub next: usize,
 }
 
-// What becomes of a part of a multipolygon, as if rect were its rectangle. What the working slices hold afterwards is open.
-fn answer_part(
-    frame: &[u8],
-    at: usize,
-    index: usize,
-    flags: Flags,
-    rect: Rect,
-    bounds: TileBounds,
-    ring: &mut [f64],
-    a: &mut [f64],
-    b: &mut [f64],
-    order: &mut [u32],
-    out: &mut [u8],
-    to: usize,
-) -> PartAnswer
-    requires { ⌜ Q.PartRoom (now frame) at (length (now ring)) (length (now a)) (length (now b)) (length (now order)) (length (now out)) to ⌝ }
-    ensures { λ r. ⌜ r ≡ Q.partAnswer to index (S.routePartAs flags rect bounds (Q.partAt (now (frame .entry)) at)) ⌝ }
-    ensures { λ _. ⌜ now (out .exit) ≡ sets (now (out .entry)) to (Q.writtenPart index (S.routePartAs flags rect bounds (Q.partAt (now (frame .entry)) at))) ⌝ }
-{
-    if !intersects_bounds(rect, bounds) {
-        return PartAnswer::Nothing;
-    }
-    if is_fully_inside(rect, bounds) {
-        return PartAnswer::Unchanged;
-    }
-    route_part(
-        frame,
-        at,
-        index,
-        flags,
-        rect,
-        bounds,
-        ring,
-        a,
-        b,
-        order,
-        out,
-        to,
-    )
-}
-
 // The listing with one more part; one that is unchanged is still to be written.
 fn list_part(answer: PartAnswer, index: usize, out: &mut [u8], before: Listing) -> Listing
     requires { ⌜ (before .next + 4 ≤ length (now out)) × S.Few index before ⌝ }
@@ -103,7 +62,7 @@ fn list_part(answer: PartAnswer, index: usize, out: &mut [u8], before: Listing) 
     }
 }
 
-// One part of a multipolygon, routed and listed.
+// One part of a multipolygon, routed as if rect were its rectangle, and listed. What the working slices hold afterwards is open.
 fn add_part(
     frame: &[u8],
     at: usize,
@@ -121,8 +80,14 @@ fn add_part(
     requires { ⌜ Q.PartRoom (now frame) at (length (now ring)) (length (now a)) (length (now b)) (length (now order)) (length (now out)) (before .next) × S.Few index before ⌝ }
     ensures { λ r. ⌜ S.Lists (S.listingOf index (S.routePartAs flags rect bounds (Q.partAt (now (frame .entry)) at))) before (now (out .entry)) r (now (out .exit)) ⌝ }
 {
+    if !intersects_bounds(rect, bounds) {
+        return before;
+    }
+    if is_fully_inside(rect, bounds) {
+        return list_part(PartAnswer::Unchanged, index, out, before);
+    }
     let to = before.next;
-    let answer = answer_part(
+    let answer = route_part(
         frame,
         at,
         index,

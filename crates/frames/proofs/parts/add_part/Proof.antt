@@ -1,6 +1,8 @@
--- `add_part` meets its contract: routed, then listed. Assumes nothing.
+-- `add_part` meets its contract: each return is a case of the routing, listed. Assumes nothing.
 use native.Mathlib.Omega.{arith}
+use borrow.Author.Tests.{not-true, not-false}
 use denote.Ref.{now}
+use Rattle.clip.specs.Polygon.{nothing, unchanged, routeMeasured}
 use Rattle.frames.specs.Part.{partAt}
 use Rattle.frames.specs.Parts.{routePartAs}
 use Rattle.frames.proofs.CutParts.{part-head}
@@ -9,16 +11,44 @@ use borrow.Author.Needs.{needs}
 use Rattle.frames.proofs.parts.add_part.Statement.{statement}
 use Rattle.frames.proofs.parts.add_part.Tie as tie
 
-answer-part-requires : tie.Need-answer-part-requires
-answer-part-requires c κs = c .before .before .before .before .before .before .before .before .before .before .before .pre .0
+intersects-bounds-requires : tie.Need-intersects-bounds-requires
+intersects-bounds-requires c κs = search needs
+
+returns : tie.Need-returns
+unfolding routePartAs
+returns c =
+    let a = c .before .before .before .before .before .before .before .before .args in
+    let e = not-true (c .before .intersects-bounds .result) (c .if1 .taken) in
+    rw (← c .before .intersects-bounds .ensures, e) (listed-part (a .index) nothing (a .before) (now (a .out)))
+
+is-fully-inside-requires : tie.Need-is-fully-inside-requires
+is-fully-inside-requires c κs = search needs
 
 list-part-requires : tie.Need-list-part-requires
 list-part-requires c κs =
-    let p = c .before .before .before .before .before .before .before .before .before .before .before .before .before .before .before .before .before .before .before .before .before .before .before .pre in
-    (omega (arith, part-head (now (c .before .before .before .before .before .before .before .before .before .before .before .before .before .before .before .before .before .before .before .before .before .before .before .args .frame)) (c .before .before .before .before .before .before .before .before .before .before .before .before .before .before .before .before .before .before .before .before .before .before .before .args .at) _ _ _ _ _ _ (p .0), c .before .before .before .before .before .before .before .before .before .before .before .answer-part .kept .1 .1 .1 .1 .1 .1 .1 .1 .1 .1 .0), p .1)
+    let a = c .before .before .before .before .before .before .before .before .before .before .before .args in
+    let p = c .before .before .before .before .before .before .before .before .before .before .before .pre in
+    (part-head (now (a .frame)) (a .at) _ _ _ _ _ _ (p .0), p .1)
 
 same-length : tie.Need-same-length
 same-length c = search needs
+
+returns-2 : tie.Need-returns-2
+unfolding routePartAs
+returns-2 c =
+    let a = c .before .before .before .before .before .before .before .before .before .before .before .before .before .before .args in
+    let list = c .before .before .list-part .ensures in
+    let e = not-false (c .before .before .before .before .before .before .before .intersects-bounds .result) (c .before .before .before .before .before .before .if1 .left) in
+    rw (← c .before .before .before .before .before .before .before .intersects-bounds .ensures, e, ← c .before .before .before .before .before .is-fully-inside .ensures, c .before .before .before .before .if2 .taken, list .0, list .1) (listed-part (a .index) unchanged (a .before) (now (a .out)))
+
+route-part-requires : tie.Need-route-part-requires
+route-part-requires c κs = c .before .before .before .before .before .before .before .before .before .before .before .before .before .before .before .pre .0
+
+list-part-requires-2 : tie.Need-list-part-requires-2
+list-part-requires-2 c κs =
+    let a = c .before .before .before .before .before .before .before .before .before .before .before .before .before .before .before .before .before .before .before .before .before .before .before .before .before .before .before .args in
+    let p = c .before .before .before .before .before .before .before .before .before .before .before .before .before .before .before .before .before .before .before .before .before .before .before .before .before .before .before .pre in
+    (omega (arith, part-head (now (a .frame)) (a .at) _ _ _ _ _ _ (p .0), c .before .before .before .before .before .before .before .before .before .before .before .route-part .kept .1 .1 .1 .1 .1 .1 .1 .1 .1 .1 .0), p .1)
 
 same-length-2 : tie.Need-same-length-2
 same-length-2 c = search needs
@@ -32,22 +62,33 @@ same-length-4 c = search needs
 same-length-5 : tie.Need-same-length-5
 same-length-5 c = search needs
 
-returns : tie.Need-returns
-returns c =
-    let list = c .before .before .list-part .ensures in
-    let answer = c .before .before .before .before .before .before .before .before .before .before .before .before .before .before .answer-part .ensures in
-    let a = c .before .before .before .before .before .before .before .before .before .before .before .before .before .before .before .before .before .before .before .before .before .before .before .before .before .before .args in
-    rw (list .0, list .1, answer .0, answer .1) (listed-part (a .index) (routePartAs (a .flags) (a .rect) (a .bounds) (partAt (now (a .frame)) (a .at))) (a .before) (now (a .out)))
+same-length-6 : tie.Need-same-length-6
+same-length-6 c = search needs
+
+returns-3 : tie.Need-returns-3
+unfolding routePartAs
+returns-3 c =
+    let a = c .before .before .before .before .before .before .before .before .before .before .before .before .before .before .before .before .before .before .before .before .before .before .before .before .before .before .before .before .before .before .args in
+    let list = c .before .before .list-part2 .ensures in
+    let answer = c .before .before .before .before .before .before .before .before .before .before .before .before .before .before .route-part .ensures in
+    let e = not-false (c .before .before .before .before .before .before .before .before .before .before .before .before .before .before .before .before .before .before .before .before .before .before .before .intersects-bounds .result) (c .before .before .before .before .before .before .before .before .before .before .before .before .before .before .before .before .before .before .before .before .before .before .if1 .left) in
+    rw (← c .before .before .before .before .before .before .before .before .before .before .before .before .before .before .before .before .before .before .before .before .before .before .before .intersects-bounds .ensures, e, ← c .before .before .before .before .before .before .before .before .before .before .before .before .before .before .before .before .before .before .before .before .before .is-fully-inside .ensures, c .before .before .before .before .before .before .before .before .before .before .before .before .before .before .before .before .before .before .before .before .if2 .left, list .0, list .1, answer .0, answer .1) (listed-part (a .index) (routeMeasured (a .flags) (a .rect) (a .bounds) (partAt (now (a .frame)) (a .at))) (a .before) (now (a .out)))
 
 pub add-part-spec : {M : Type 1} → statement M
 add-part-spec =
     tie.close
     (tie.spec
-    answer-part-requires
+    intersects-bounds-requires
+    returns
+    is-fully-inside-requires
     list-part-requires
     same-length
+    returns-2
+    route-part-requires
+    list-part-requires-2
     same-length-2
     same-length-3
     same-length-4
     same-length-5
-    returns)
+    same-length-6
+    returns-3)

@@ -1,6 +1,9 @@
 -- `answer_in` meets its contract: a polygon by its only part, else the parts. Assumes nothing.
 use borrow.Author.Tests.{eq-eqb, ne-eqb}
 use denote.Ref.{now}
+use Rattle.frames.specs.Frame.{headBytes}
+use Rattle.frames.specs.Answer.{listParts, flagsIn}
+use Rattle.frames.specs.Parts.{partsFrom, ofListing}
 use Rattle.frames.proofs.Entries.{only-room, only-part, as-answer}
 use borrow.Author.Needs.{needs}
 use Rattle.frames.proofs.parts.answer_in.Statement.{statement}
@@ -52,7 +55,8 @@ same-length-10 c = search needs
 returns-2 : tie.Need-returns-2
 returns-2 c =
     let a = c .before .before .before .before .before .before .before .before .before .before .before .before .before .before .before .before .before .before .before .before .before .before .before .before .args in
-    as-answer (rw (ne-eqb (a .head .kind) 3 (c .before .before .before .before .before .before .before .before .before .before .before .before .before .before .before .before .if1 .left))) (c .before .before .before .before .before .before .before .before .before .before .answer-parts .ensures)
+    -- the answer is named, as what is found for it is much larger
+    as-answer {y = ofListing (listParts (flagsIn (a .head)) (a .bounds) 0 (partsFrom (now (a .frame)) headBytes (a .head .parts)))} (rw (ne-eqb (a .head .kind) 3 (c .before .before .before .before .before .before .before .before .before .before .before .before .before .before .before .before .if1 .left))) (c .before .before .before .before .before .before .before .before .before .before .answer-parts .ensures)
 
 pub answer-in-spec : {M : Type 1} → statement M
 answer-in-spec =
