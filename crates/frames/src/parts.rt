@@ -162,25 +162,6 @@ fn finish(listing: Listing, out: &mut [u8]) -> usize
     listing.next
 }
 
-// The answer to a multipolygon that is neither apart nor inside as a whole. What the working slices hold afterwards is open.
-pub fn answer_parts(
-    frame: &[u8],
-    parts: usize,
-    flags: Flags,
-    bounds: TileBounds,
-    ring: &mut [f64],
-    a: &mut [f64],
-    b: &mut [f64],
-    order: &mut [u32],
-    out: &mut [u8],
-) -> usize
-    requires { ⌜ S.PartsRoom (now frame) F.headBytes parts (length (now ring)) (length (now a)) (length (now b)) (length (now order)) (length (now out)) 5 × (parts ≤ F.mostParts) ⌝ }
-    ensures { λ r. ⌜ S.Answers (S.ofListing (Answers.listParts flags bounds 0 (S.partsFrom (now (frame .entry)) F.headBytes parts))) (now (out .entry)) r (now (out .exit)) ⌝ }
-{
-    let listing = list_parts(frame, parts, flags, bounds, ring, a, b, order, out);
-    finish(listing, out)
-}
-
 // Writes an answer that lists nothing.
 pub fn put_alone(out: &mut [u8], number: u8, guard: usize) -> usize
     requires { ⌜ 5 ≤ length (now out) ⌝ }
@@ -206,39 +187,7 @@ fn finish_polygon(answer: PartAnswer, out: &mut [u8]) -> usize
     }
 }
 
-// The answer to a polygon, as if rect were its rectangle; one that is not finite is dropped before. What the working slices hold afterwards is open.
-pub fn answer_polygon(
-    frame: &[u8],
-    flags: Flags,
-    rect: Rect,
-    bounds: TileBounds,
-    ring: &mut [f64],
-    a: &mut [f64],
-    b: &mut [f64],
-    order: &mut [u32],
-    out: &mut [u8],
-) -> usize
-    requires { ⌜ Q.PartRoom (now frame) F.headBytes (length (now ring)) (length (now a)) (length (now b)) (length (now order)) (length (now out)) 5 ⌝ }
-    ensures { λ r. ⌜ S.Answers (Answers.ofPolygon (P.routeMeasured flags rect bounds (Q.partAt (now (frame .entry)) F.headBytes))) (now (out .entry)) r (now (out .exit)) ⌝ }
-{
-    let answer = route_part(
-        frame,
-        HEAD,
-        0,
-        flags,
-        rect,
-        bounds,
-        ring,
-        a,
-        b,
-        order,
-        out,
-        LEAST_ROOM,
-    );
-    finish_polygon(answer, out)
-}
-
-// The answer to a frame as if rect were its rectangle, in the working slices lent. What they hold afterwards is open.
+// The answer to a frame as if rect were its rectangle, in the working slices lent: a polygon is routed, and the parts of a multipolygon are listed. A polygon that is not finite is dropped before. What the working slices hold afterwards is open.
 pub fn answer_in(
     frame: &[u8],
     head: Head,
@@ -258,7 +207,22 @@ pub fn answer_in(
         skip_boundary_fallback: head.skip_boundary_fallback,
     };
     if head.kind == POLYGON {
-        return answer_polygon(frame, flags, rect, bounds, ring, a, b, order, out);
+        let answer = route_part(
+            frame,
+            HEAD,
+            0,
+            flags,
+            rect,
+            bounds,
+            ring,
+            a,
+            b,
+            order,
+            out,
+            LEAST_ROOM,
+        );
+        return finish_polygon(answer, out);
     }
-    answer_parts(frame, head.parts, flags, bounds, ring, a, b, order, out)
+    let listing = list_parts(frame, head.parts, flags, bounds, ring, a, b, order, out);
+    finish(listing, out)
 }
