@@ -6,7 +6,7 @@ use native.Mathlib.Nat.{zero-add, add-zero, suc-add, add-suc, mul-assoc, pow-suc
 use native.Mathlib.Numerals.{add-one}
 use native.Mathlib.Omega.{arith}
 use lib.Dec.{T, lit<}
-use lib.Ieee.{Float, binary64, fits, toBits}
+use lib.Ieee.{Float, nan, binary64, fits, toBits}
 use lib.Ieee.Bits.{ofBits-toBits, toBits-lt}
 use lib.ListN.{length, take, drop, getD, set, length-drop}
 use lib.Seq.{sets, drop-cons, take-add, drop-drop, length-take-le}
@@ -64,3 +64,8 @@ number-bytes Big k n h = rw reverse-reverse (fromLow-toLow k n h)
 
 pub double-doubleBytes : (o : Order) (x : Float) → T (fits binary64 x) → double o (doubleBytes o x) ≡ x
 double-doubleBytes o x h = rw (number-bytes o 8 (toBits binary64 x) (toBits-lt binary64 x h)) (ofBits-toBits binary64 x h)
+
+-- "NaN is written with bits 7ff8000000000000", the lowest byte first
+pub nan-bytes : doubleBytes Little nan ≡ 0 ∷ 0 ∷ 0 ∷ 0 ∷ 0 ∷ 0 ∷ 0xf8 ∷ 0x7f ∷ []
+unfolding toLow toBits
+nan-bytes = refl

@@ -29,7 +29,7 @@ use Rattle.frames.specs.Encoding.{each, coordBytes, headerBytes, partByt
 use Rattle.frames.specs.Measure.{frameRect, soundIfSimple}
 use Rattle.frames.specs.Part.{partAt, PartRoom}
 use Rattle.frames.specs.Parts.{partsIn, partsFrom, ofListing, Answers}
-use Rattle.frames.specs.Entry.{answerOfReading, callAnswer, partsOf, answerIn, answerMeasured, unchangedWhole, PartsReady, Answerable, Cuttable}
+use Rattle.frames.specs.Entry.{answerOfReading, callAnswer, partsOf, answerRead, answerMeasured, unchangedAtOnce, PartsReady, Answerable, Cuttable}
 use Rattle.frames.proofs.Readings.{neither, taken, many-length, frame-read}
 use Rattle.frames.proofs.Rooms.{mostPart, parts-le, frame-head, frame-few, frame-parts, call-read}
 use Rattle.frames.proofs.Writing.{length-header}
@@ -158,8 +158,8 @@ one (part ∷ other ∷ parts) e = absurd (omega (arith, e))
 
 -- the answer to a polygon, by the rectangle of all parts
 pub record Read (frame : List ℕ) (head : Head) : Type 0 where
-  pub multipolygon : eqb (head .kind) polygon ≡ false → answerIn (readFrame frame) ≡ ofMultipolygon (flagsIn head) (boundsIn head) (partsOf (readFrame frame))
-  pub polygon-rect : eqb (head .kind) polygon ≡ true → answerIn (readFrame frame) ≡ ofPolygon (P.routeRect (flagsIn head) (frameRect (readFrame frame)) (boundsIn head) (onlyPart (partsOf (readFrame frame))))
+  pub multipolygon : eqb (head .kind) polygon ≡ false → answerRead (readFrame frame) ≡ ofMultipolygon (flagsIn head) (boundsIn head) (partsOf (readFrame frame))
+  pub polygon-rect : eqb (head .kind) polygon ≡ true → answerRead (readFrame frame) ≡ ofPolygon (P.routeRect (flagsIn head) (frameRect (readFrame frame)) (boundsIn head) (onlyPart (partsOf (readFrame frame))))
 
 pub read-answer : (frame : List ℕ) (head : Head) → Accepted (readFrame frame) → head ≡ headOf frame → Read frame head
 unfolding answerTo P.route
@@ -178,11 +178,11 @@ read-answer frame head a hd = let t = taken (readFrame frame) a in go (t .value)
 
 module _ (frame : List ℕ) (head : Head) (a : Accepted (readFrame frame)) (hd : head ≡ headOf frame) where
   -- no coordinate, or one that is not finite: this is answered whatever the frame lists
-  pub unmeasured : (rect : Rect) (answer : Answer) → frameRect (readFrame frame) ≡ rect → ((b : TileBounds) (rings : List (List Coord)) → ofPolygon (P.routeRect (flagsIn head) rect b rings) ≡ answer) → ((other : Answer) → ifBox rect other ≡ answer) → answerIn (readFrame frame) ≡ answer
+  pub unmeasured : (rect : Rect) (answer : Answer) → frameRect (readFrame frame) ≡ rect → ((b : TileBounds) (rings : List (List Coord)) → ofPolygon (P.routeRect (flagsIn head) rect b rings) ≡ answer) → ((other : Answer) → ifBox rect other ≡ answer) → answerRead (readFrame frame) ≡ answer
   unfolding ofMultipolygon
   unmeasured rect answer q p m = go (eqb (head .kind) polygon) refl
     where
-      go : (t : Bool) → eqb (head .kind) polygon ≡ t → answerIn (readFrame frame) ≡ answer
+      go : (t : Bool) → eqb (head .kind) polygon ≡ t → answerRead (readFrame frame) ≡ answer
       go true k = read-answer frame head a hd .polygon-rect k ∙ rw q (p (boundsIn head) (onlyPart (partsOf (readFrame frame))))
       go false k = read-answer frame head a hd .multipolygon k ∙ rw (← holds frame a .rect, q) (m _)
 
@@ -197,29 +197,29 @@ module _ (frame : List ℕ) (head : Head) (out : ℕ) (c : Cuttable frame head o
   by-rect : Apart rect (flagsIn head) b
   by-rect = finite-rect rect (flagsIn head) b (λ z. c .finite (sym er ∙ z))
 
-  of-polygon : eqb (head .kind) polygon ≡ true → answerIn (readFrame frame) ≡ ofPolygon (P.routeMeasured (flagsIn head) rect b (onlyPart parts))
+  of-polygon : eqb (head .kind) polygon ≡ true → answerRead (readFrame frame) ≡ ofPolygon (P.routeMeasured (flagsIn head) rect b (onlyPart parts))
   of-polygon k = by-kind .polygon-rect k ∙ rw (← er, ← eb) (ap ofPolygon (by-rect .route (onlyPart parts)))
 
-  of-multipolygon : eqb (head .kind) polygon ≡ false → answerIn (readFrame frame) ≡ cond (intersectsBounds rect b) (cond (isFullyInside rect b) Unchanged (ofListing (listParts (flagsIn head) b 0 parts))) (Nothing 0)
+  of-multipolygon : eqb (head .kind) polygon ≡ false → answerRead (readFrame frame) ≡ cond (intersectsBounds rect b) (cond (isFullyInside rect b) Unchanged (ofListing (listParts (flagsIn head) b 0 parts))) (Nothing 0)
   unfolding ofMultipolygon
   of-multipolygon k = by-kind .multipolygon k ∙ rw (← holds frame (c .answerable .accepted) .rect, ← er, ← eb) (by-rect .whole _)
 
-  pub apart : intersectsBounds rect b ≡ false → answerIn (readFrame frame) ≡ Nothing 0
+  pub apart : intersectsBounds rect b ≡ false → answerRead (readFrame frame) ≡ Nothing 0
   unfolding P.routeExterior
   apart i = go (eqb (head .kind) polygon) refl
     where
-      go : (t : Bool) → eqb (head .kind) polygon ≡ t → answerIn (readFrame frame) ≡ Nothing 0
+      go : (t : Bool) → eqb (head .kind) polygon ≡ t → answerRead (readFrame frame) ≡ Nothing 0
       go true k = of-polygon k ∙ rw i
       go false k = of-multipolygon k ∙ rw i
 
   other-kinds : (t : Bool) → eqb (head .kind) polygon ≡ t → eqb (head .kind) multipolygon ≡ not t
   other-kinds t k = rw (← k, c .answerable .head-read) (holds frame (c .answerable .accepted) .kinds)
 
-  pub inside : intersectsBounds rect b ≡ true → unchangedWhole head rect b parts ≡ true → answerIn (readFrame frame) ≡ Unchanged
+  pub inside : intersectsBounds rect b ≡ true → unchangedAtOnce head rect b parts ≡ true → answerRead (readFrame frame) ≡ Unchanged
   unfolding P.routeExterior
   inside i j = go (eqb (head .kind) polygon) refl
     where
-      go : (t : Bool) → eqb (head .kind) polygon ≡ t → answerIn (readFrame frame) ≡ Unchanged
+      go : (t : Bool) → eqb (head .kind) polygon ≡ t → answerRead (readFrame frame) ≡ Unchanged
       go true k =
           let u : (isFullyInside rect b && (head .«assume_simple» && not (hasIssue (issueOf true (P.exterior (onlyPart parts)))))) ≡ true = rw (other-kinds true k) at j in
           let v = both (isFullyInside rect b) _ u in
@@ -229,14 +229,14 @@ module _ (frame : List ℕ) (head : Head) (out : ℕ) (c : Cuttable frame head o
           let u : (isFullyInside rect b && true) ≡ true = rw (other-kinds false k) at j in
           of-multipolygon k ∙ rw (i, both (isFullyInside rect b) true u .0)
 
-  pub measured : intersectsBounds rect b ≡ true → unchangedWhole head rect b parts ≡ false → answerIn (readFrame frame) ≡ answerMeasured head rect b parts
+  pub measured : intersectsBounds rect b ≡ true → unchangedAtOnce head rect b parts ≡ false → answerRead (readFrame frame) ≡ answerMeasured head rect b parts
   measured i j = go (eqb (head .kind) polygon) refl
     where
       inside-not : (t : Bool) → (t && true) ≡ false → t ≡ false
       inside-not true e = e
       inside-not false e = refl
 
-      go : (t : Bool) → eqb (head .kind) polygon ≡ t → answerIn (readFrame frame) ≡ answerMeasured head rect b parts
+      go : (t : Bool) → eqb (head .kind) polygon ≡ t → answerRead (readFrame frame) ≡ answerMeasured head rect b parts
       go true k = of-polygon k ∙ rw k
       go false k =
           let u : (isFullyInside rect b && true) ≡ false = rw (other-kinds false k) at j in
@@ -305,13 +305,13 @@ call-accepts frame n a =
     let c = call-read frame n (t .value) (t .rest) (t .is) in
     (rw (c .0), rw (c .0) (c .1))
 
-pub call-answers : (frame out out′ : List ℕ) (r : ℕ) → Accepted (readCall frame (length out)) → Answers (answerIn (readFrame frame)) out r out′ → (Answered r ≡ callAnswer frame out) × (out′ ≡ callOutput frame out)
+pub call-answers : (frame out out′ : List ℕ) (r : ℕ) → Accepted (readCall frame (length out)) → Answers (answerRead (readFrame frame)) out r out′ → (Answered r ≡ callAnswer frame out) × (out′ ≡ callOutput frame out)
 call-answers frame out out′ r a x = let t = taken (readCall frame (length out)) a in go (t .value) (t .rest) (t .is)
   where
     go : (f : Frame) (rest : List ℕ) → readCall frame (length out) ≡ read f rest → (Answered r ≡ callAnswer frame out) × (out′ ≡ callOutput frame out)
     go f rest e =
         let c = call-read frame (length out) f rest e in
-        let same : answerIn (readFrame frame) ≡ answerTo f = ap answerIn (c .0) in
+        let same : answerRead (readFrame frame) ≡ answerTo f = ap answerRead (c .0) in
         let fits : length (frameBytes f) ≤ length out = omega (arith, answer-fits f, c .1) in
         (rw (e, x .count, same), x .output ∙ rw (e, same) (whole-over (frameBytes f) out fits))
 

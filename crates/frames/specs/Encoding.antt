@@ -1,13 +1,12 @@
 -- Answers as bytes, and what a frame call leaves in the output (document 01, "Frames"). The bytes of a coordinate are a parameter. Definitions only.
 use mathlib.Core.List.{List, [], _∷_, _++_}
 use Prim.Native.Nat.{ℕ}
-use lib.IntN.{ℤ, pos, negℤ}
 use lib.ListN.{length}
 use Rattle.binary64.specs.Bytes.{Little, bytes, doubleBytes}
 use Rattle.tile.specs.declared.Coord.{Coord}
 use Rattle.clip.specs.Polygon as P
 use Rattle.clip.specs.Slice.{answerOf, answerNumber, answerReason, over}
-use Rattle.frames.specs.Frame.{Reading, refused, read, Frame, refusalNumber}
+use Rattle.frames.specs.Frame.{Reading, refused, read, Frame}
 use Rattle.frames.specs.Room.{readCall}
 use Rattle.frames.specs.Answer.{Part, Answer, Nothing, Dropped, Unchanged, Listed, answerTo}
 
@@ -21,6 +20,13 @@ countBytes n = bytes Little 2 n
 -- "x and y, 8 bytes each"; "NaN is written with bits 7ff8000000000000"
 abbrev pub coordBytes : Coord → List ℕ
 coordBytes p = doubleBytes Little (p .x) ++ doubleBytes Little (p .y)
+
+-- "0 nothing, 1 whole dropped, 2 whole unchanged, 3 listed"
+abbrev pub wholeNumber : Answer → ℕ
+wholeNumber (Nothing guard) = 0
+wholeNumber Dropped = 1
+wholeNumber Unchanged = 2
+wholeNumber (Listed guard parts) = 3
 
 -- "An answer: 1 byte .., guard count 2 bytes, number of listed parts 2 bytes."
 abbrev pub headerBytes : ℕ → ℕ → ℕ → List ℕ
@@ -43,20 +49,16 @@ module _ (coordinate : Coord → List ℕ) where
   unfoldable pub partBytes : Part → List ℕ
   partBytes part = countBytes (part .index) ++ (answerNumber (answerOf (part .outcome)) ∷ answerReason (answerOf (part .outcome)) ∷ cutBytes (part .outcome))
 
+  -- a whole that is dropped has "guard count 1"
   unfoldable pub answerBytes : Answer → List ℕ
-  answerBytes (Nothing guard) = headerBytes 0 guard 0
-  answerBytes Dropped = headerBytes 1 1 0
-  answerBytes Unchanged = headerBytes 2 0 0
-  answerBytes (Listed guard parts) = headerBytes 3 guard (length parts) ++ each partBytes parts
+  answerBytes (Nothing guard) = headerBytes (wholeNumber (Nothing guard)) guard 0
+  answerBytes Dropped = headerBytes (wholeNumber Dropped) 1 0
+  answerBytes Unchanged = headerBytes (wholeNumber Unchanged) 0 0
+  answerBytes (Listed guard parts) = headerBytes (wholeNumber (Listed guard parts)) guard (length parts) ++ each partBytes parts
 
 -- the bytes that answer a frame
 abbrev pub frameBytes : Frame → List ℕ
 frameBytes f = answerBytes coordBytes (answerTo f)
-
--- what the frame entry answers: the count of bytes, or minus the refusal's number
-abbrev pub code : Reading Frame → ℤ
-code (refused r) = negℤ (pos (refusalNumber r))
-code (read f rest) = pos (length (frameBytes f))
 
 -- "A refusal changes no lent buffer. A success .. leaves the output .. past the answer unchanged."
 abbrev pub outputAfter : Reading Frame → List ℕ → List ℕ
@@ -64,8 +66,5 @@ outputAfter (refused r) out = out
 outputAfter (read f rest) out = over (frameBytes f) out
 
 -- of a frame's bytes and the output
-abbrev pub callCode : List ℕ → List ℕ → ℤ
-callCode frame out = code (readCall frame (length out))
-
 abbrev pub callOutput : List ℕ → List ℕ → List ℕ
 callOutput frame out = outputAfter (readCall frame (length out)) out

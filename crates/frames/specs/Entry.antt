@@ -1,9 +1,10 @@
--- The frame call: what its functions ask for and answer of a frame that is read. Definitions only.
+-- The frame call (document 01, "Frames"): what it answers, and what its functions ask for. Definitions only.
 use mathlib.Core.Path.{_≡_}
 use mathlib.Core.Bool.{Bool, true, not, cond, _&&_, _||_}
 use mathlib.Core.List.{List, []}
 use Prim.Native.Nat.{ℕ, _<_, _≤_}
 use lib.Dec.{eqb}
+use lib.IntN.{ℤ, pos, negℤ}
 use lib.ListN.{length}
 use Rattle.tile.specs.declared.Coord.{Coord}
 use Rattle.tile.specs.declared.TileBounds.{TileBounds}
@@ -15,7 +16,7 @@ use Rattle.clip.specs.Polygon.{exterior, routeMeasured}
 use Rattle.frames.specs.declared.head.Head.{Head}
 use Rattle.frames.specs.declared.entry.FrameAnswer.{FrameAnswer}
 use Rattle.frames.specs.declared.entry.FrameAnswer.the-variants.{Refused, Answered}
-use Rattle.frames.specs.Frame.{Reading, refused, read, Accepted, polygon, multipolygon, mostParts, headBytes, Frame, headOf, readFrame}
+use Rattle.frames.specs.Frame.{Reading, refused, read, Accepted, polygon, multipolygon, mostParts, headBytes, refusalNumber, Frame, headOf, readFrame}
 use Rattle.frames.specs.Room.{leastRoom, coordinateBytes, frameRoom, readCall}
 use Rattle.frames.specs.Answer.{Answer, Nothing, ofPolygon, listParts, flagsIn, onlyPart, answerTo}
 use Rattle.frames.specs.Encoding.{frameBytes}
@@ -24,7 +25,7 @@ use Rattle.frames.specs.Parts.{ofListing, PartsRoom}
 
 -- ---- what is answered
 
--- a refusal, or the count of the answer's bytes; `code` is its number
+-- a refusal, or the count of the answer's bytes
 abbrev pub answerOfReading : Reading Frame → FrameAnswer
 answerOfReading (refused r) = Refused r
 answerOfReading (read f rest) = Answered (length (frameBytes f))
@@ -33,22 +34,30 @@ answerOfReading (read f rest) = Answered (length (frameBytes f))
 abbrev pub callAnswer : List ℕ → List ℕ → FrameAnswer
 callAnswer frame out = answerOfReading (readCall frame (length out))
 
+-- the number of each answer where it crosses as one: the count of bytes, or minus the refusal's
+abbrev pub code : FrameAnswer → ℤ
+code (Refused r) = negℤ (pos (refusalNumber r))
+code (Answered n) = pos n
+
+abbrev pub callCode : List ℕ → List ℕ → ℤ
+callCode frame out = code (callAnswer frame out)
+
 -- the parts of an accepted frame, and its answer; of a refusal there are none, and no function asks: what stands there is of no use
 abbrev pub partsOf : Reading Frame → List (List (List Coord))
 partsOf (refused r) = []
 partsOf (read f rest) = f .parts
 
-abbrev pub answerIn : Reading Frame → Answer
-answerIn (refused r) = Nothing 0
-answerIn (read f rest) = answerTo f
+abbrev pub answerRead : Reading Frame → Answer
+answerRead (refused r) = Nothing 0
+answerRead (read f rest) = answerTo f
 
 -- a polygon as if rect were its rectangle; the parts of a multipolygon
 abbrev pub answerMeasured : Head → Rect → TileBounds → List (List (List Coord)) → Answer
 answerMeasured head rect b parts = cond (eqb (head .kind) polygon) (ofPolygon (routeMeasured (flagsIn head) rect b (onlyPart parts))) (ofListing (listParts (flagsIn head) b 0 parts))
 
--- "Whole rectangle inside: unchanged, with no issue check", of a multipolygon; "No issue and rectangle inside the bounds: unchanged", of a polygon whose exterior is assumed to be simple
-abbrev pub unchangedWhole : Head → Rect → TileBounds → List (List (List Coord)) → Bool
-unchangedWhole head rect b parts = isFullyInside rect b && (eqb (head .kind) multipolygon || (head .«assume_simple» && not (hasIssue (issueOf true (exterior (onlyPart parts))))))
+-- "Whole rectangle inside: unchanged, with no issue check", of a multipolygon; "No issue and rectangle inside the bounds (edges included): unchanged", of a polygon whose exterior is assumed to be simple
+abbrev pub unchangedAtOnce : Head → Rect → TileBounds → List (List (List Coord)) → Bool
+unchangedAtOnce head rect b parts = isFullyInside rect b && (eqb (head .kind) multipolygon || (head .«assume_simple» && not (hasIssue (issueOf true (exterior (onlyPart parts))))))
 
 -- ---- what is asked for
 

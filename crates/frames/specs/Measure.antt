@@ -1,4 +1,4 @@
--- What is measured of an accepted frame as it stands: the rectangle of a part and of all parts, whether a part has a coordinate that the overlay can't take, and whether its exterior has no issue if it is assumed to be simple (document 01, "Nothing, or dropped", "Overlay wanted" and "Multipolygons"). Definitions only.
+-- What is measured of an accepted frame as it stands: the rectangle of a part and of all parts, whether a part has a coordinate that the overlay can't take, and whether its exterior has no issue if it is assumed to be simple (document 01, "Nothing, or dropped", "Unchanged", "Overlay wanted" and "Multipolygons"). Definitions only.
 use mathlib.Core.Bool.{Bool, true, false, not}
 use mathlib.Core.List.{List}
 use Prim.Native.Nat.{ℕ, _-_}

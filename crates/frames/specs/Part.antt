@@ -1,4 +1,4 @@
--- One part of a frame, as a polygon: what is answered of it, what is written, and the room for that. Definitions only.
+-- One part of a frame, as a polygon (document 01, "Multipolygons" and "Frames"): what is answered of it, what is written, and the room for that. Definitions only.
 use mathlib.Core.Path.{_≡_}
 use mathlib.Core.Bool.{true}
 use mathlib.Core.List.{List, []}

@@ -1,4 +1,4 @@
--- The parts of a frame, one after the other: what the functions ask for and leave. Definitions only.
+-- The parts of a frame, one after the other (document 01, "Multipolygons" and "Frames"): what the functions ask for and leave. Definitions only.
 use mathlib.Core.Path.{_≡_}
 use mathlib.Core.Bool.{cond}
 use mathlib.Core.List.{List, [], _∷_}

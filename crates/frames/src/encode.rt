@@ -20,7 +20,7 @@ pub fn put_count(out: &mut [u8], at: usize, n: usize)
     write_u16(out, at, n as u64);
 }
 
-pub fn put_coord(out: &mut [u8], at: usize, p: Coord)
+fn put_coord(out: &mut [u8], at: usize, p: Coord)
     requires { ⌜ at + 16 ≤ length (now out) ⌝ }
     ensures { λ _. ⌜ now (out .exit) ≡ sets (now (out .entry)) at (S.coordBytes p) ⌝ }
 {

@@ -138,10 +138,10 @@ fn answer_sized(frame: &[u8], head: Head, rect: Rect, bounds: TileBounds, out: &
     answer_full(frame, head, rect, bounds, out)
 }
 
-// Whether the frame is unchanged, as far as that is told without an array: a multipolygon inside as a whole, which has no issue check, or a polygon inside whose exterior is assumed to be simple.
-fn is_unchanged(frame: &[u8], head: Head, rect: Rect, bounds: TileBounds) -> bool
+// Whether the frame is unchanged, as far as that is told without an array: a multipolygon inside as a whole, which has no issue check, or a polygon inside whose exterior is assumed to be simple and has no other issue.
+fn is_unchanged_at_once(frame: &[u8], head: Head, rect: Rect, bounds: TileBounds) -> bool
     requires { ⌜ F.Accepted (F.readFrame (now frame)) × (head ≡ F.headOf (now frame)) ⌝ }
-    ensures { λ r. ⌜ r ≡ Y.unchangedWhole head rect bounds (Y.partsOf (F.readFrame (now (frame .entry)))) ⌝ }
+    ensures { λ r. ⌜ r ≡ Y.unchangedAtOnce head rect bounds (Y.partsOf (F.readFrame (now (frame .entry)))) ⌝ }
 {
     if !is_fully_inside(rect, bounds) {
         return false;
@@ -155,13 +155,13 @@ fn is_unchanged(frame: &[u8], head: Head, rect: Rect, bounds: TileBounds) -> boo
 // The answer to a frame whose rectangle is rect: what is apart, and what is unchanged without a search for crossings, is answered before there is any array.
 fn answer_measured(frame: &[u8], head: Head, rect: Rect, out: &mut [u8]) -> usize
     requires { ⌜ Y.Cuttable (now frame) head (length (now out)) × (rect ≡ M.frameRect (F.readFrame (now frame))) ⌝ }
-    ensures { λ r. ⌜ S.Answers (Y.answerIn (F.readFrame (now (frame .entry)))) (now (out .entry)) r (now (out .exit)) ⌝ }
+    ensures { λ r. ⌜ S.Answers (Y.answerRead (F.readFrame (now (frame .entry)))) (now (out .entry)) r (now (out .exit)) ⌝ }
 {
     let bounds = head.bounds.buffered(head.buffer);
     if !intersects_bounds(rect, bounds) {
         return put_alone(out, 0, 0);
     }
-    if is_unchanged(frame, head, rect, bounds) {
+    if is_unchanged_at_once(frame, head, rect, bounds) {
         return put_alone(out, 2, 0);
     }
     answer_sized(frame, head, rect, bounds, out)
@@ -170,7 +170,7 @@ fn answer_measured(frame: &[u8], head: Head, rect: Rect, out: &mut [u8]) -> usiz
 // Writes the answer to an accepted frame and tells how many bytes it has.
 fn answer(frame: &[u8], out: &mut [u8]) -> usize
     requires { ⌜ F.Accepted (F.readFrame (now frame)) × (R.frameRoom R.coordinateBytes (F.readFrame (now frame)) ≤ length (now out)) ⌝ }
-    ensures { λ r. ⌜ S.Answers (Y.answerIn (F.readFrame (now (frame .entry)))) (now (out .entry)) r (now (out .exit)) ⌝ }
+    ensures { λ r. ⌜ S.Answers (Y.answerRead (F.readFrame (now (frame .entry)))) (now (out .entry)) r (now (out .exit)) ⌝ }
 {
     let head = read_head(frame);
     match whole_rect(frame) {

@@ -27,7 +27,7 @@ pub struct Measured {
     pub next: usize,
 }
 
-// Whether the coordinate at a place is finite. Asked before it is read: then no NaN needs to be made of its bits.
+// Whether the coordinate at a place is finite. Where that is asked first, the compiler reads its bits once and leaves out the making of a NaN from them.
 fn is_finite_at(frame: &[u8], at: usize) -> bool
     requires { ⌜ at + 16 ≤ length (now frame) ⌝ }
     ensures { λ r. ⌜ r ≡ isFiniteCoord (S.coordOf (drop at (now (frame .entry)))) ⌝ }

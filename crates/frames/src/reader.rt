@@ -9,7 +9,7 @@ use super::ring::COORD;
 use super::ring::COUNT;
 use super::ring::count_at;
 
-pub const SHORTEST: usize = 44;
+const SHORTEST: usize = 44;
 
 pub const LONGEST: usize = 5120;
 
@@ -17,13 +17,13 @@ pub const POLYGON: u8 = 3;
 
 pub const MULTIPOLYGON: u8 = 6;
 
-pub const MOST_FLAGS: u8 = 3;
+const MOST_FLAGS: u8 = 3;
 
-pub const MOST_PARTS: usize = 256;
+const MOST_PARTS: usize = 256;
 
-pub const MOST_RINGS: usize = 64;
+const MOST_RINGS: usize = 64;
 
-pub const MOST_COORDINATES: usize = 4096;
+const MOST_COORDINATES: usize = 4096;
 
 // Why a frame call is refused: document 01's 11 to 18, and 22.
 pub enum FrameRefusal {

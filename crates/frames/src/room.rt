@@ -15,10 +15,8 @@ use super::ring::closed_count;
 use super::ring::count_at;
 use sutherland_hodgman::call::room_for;
 
-// The bytes of an answer that lists nothing, and of a coordinate in an answer.
+// The bytes of an answer that lists nothing.
 pub const LEAST_ROOM: usize = 5;
-
-pub const COORDINATE_BYTES: usize = 16;
 
 // The room of what was passed over, and where the next thing starts.
 struct Passed {
@@ -64,7 +62,7 @@ fn part_room(frame: &[u8], at: usize) -> Passed
     let rings = count_at(frame, at);
     let cut = rings_room(frame, at + COUNT, rings);
     Passed {
-        room: 6 + 2 * rings + COORDINATE_BYTES * cut.room,
+        room: 6 + 2 * rings + COORD * cut.room,
         next: cut.next,
     }
 }

@@ -16,11 +16,8 @@ use Rattle.sutherland_hodgman.specs.Growth.{mostCoordinates}
 use Rattle.sutherland_hodgman.specs.Call.{code}
 use Rattle.frames.specs.declared.reader.FrameRefusal.{FrameRefusal}
 use Rattle.frames.specs.declared.reader.FrameRefusal.the-variants as Frames
-use Rattle.frames.specs.declared.entry.FrameAnswer.the-variants as FrameAnswers
 use Rattle.frames.specs.declared.entry.FrameAnswer.the-variants.{Answered}
 use Rattle.frames.specs.Frame.{Reading, refused, read, Frame, refusalNumber}
-use Rattle.frames.specs.Encoding.{frameBytes}
-use Rattle.frames.specs.Encoding.{code as frameCode}
 use Rattle.frames.specs.Entry.{answerOfReading, callAnswer}
 use Rattle.frames.proofs.Entries.{answered-few}
 
@@ -51,12 +48,3 @@ negated Frames.Output = record { fits = sfits-of (lit< tt); value = refl }
 
 pub bytes-fit : (frame out : List ℕ) (n : ℕ) → callAnswer frame out ≡ Answered n → SFits w64 (pos n)
 bytes-fit frame out n e = sfits-of (omega (arith, answered-few frame (length out) n e))
-
--- the code of an answer
-pub refused-code : (x : Reading Frame) (r : FrameRefusal) → answerOfReading x ≡ FrameAnswers.Refused r → negℤ (pos (refusalNumber r)) ≡ frameCode x
-refused-code (refused s) r e = let same : s ≡ r = cc in rw same
-refused-code (read f rest) r e = absurd (let z : _≡_ {A = ℕ} 0 1 = cc in omega arith)
-
-pub answered-code : (x : Reading Frame) (n : ℕ) → answerOfReading x ≡ Answered n → pos n ≡ frameCode x
-answered-code (refused s) n e = absurd (let z : _≡_ {A = ℕ} 0 1 = cc in omega arith)
-answered-code (read f rest) n e = let same : length (frameBytes f) ≡ n = cc in rw same

@@ -1,4 +1,4 @@
--- The two flags of a slice call as they cross to C: numbers, of which any but 0 is set. Definitions only.
+-- The two flags of a slice call (document 01, "Frames") as they cross from C: numbers, of which any but 0 is set. Definitions only.
 use mathlib.Core.Bool.{Bool, not}
 use Prim.Native.Nat.{ℕ}
 use lib.Dec.{eqb}

@@ -1,11 +1,12 @@
-// The calls that C and Rust programs link, in one static library. A slice crosses as a pointer and a length; a refusal is answered as minus its number.
+// The calls that C and Rust programs link, in one static library. A slice crosses as a pointer and a length, of which include/ringcut.h says what they must be; a refusal is answered as minus its number.
 ghost use mathlib.Core.Path.{_≡_};
 ghost use Prim.Native.Nat.{_^_, _<_};
 ghost use lib.ListN.{length};
 ghost use Rattle.tile.specs.Bounds.{newOf};
 ghost use Rattle.sutherland_hodgman.specs.Call as S;
 ghost use Rattle.clip.specs.Slice as P;
-ghost use Rattle.frames.specs.Encoding as F;
+ghost use Rattle.frames.specs.Encoding as E;
+ghost use Rattle.frames.specs.Entry as F;
 ghost use Rattle.ringcut_calls.specs.Flags.{isSet, flagsOf};
 use clip::polygon::Flags;
 use clip::polygon::reason_number;
@@ -124,7 +125,7 @@ pub extern "C" fn ringcut_polygon(
 #[no_mangle]
 pub extern "C" fn ringcut_frame(frame: &[u8], out: &mut [u8]) -> i64
     ensures { λ c. ⌜ c ≡ F.callCode (now (frame .entry)) (now (out .entry)) ⌝ }
-    ensures { λ _. ⌜ now (out .exit) ≡ F.callOutput (now (frame .entry)) (now (out .entry)) ⌝ }
+    ensures { λ _. ⌜ now (out .exit) ≡ E.callOutput (now (frame .entry)) (now (out .entry)) ⌝ }
 {
     match frames::entry::frame(frame, out) {
         FrameAnswer::Refused(r) => -(refusal_number(r) as i64),

@@ -1,10 +1,10 @@
 -- `ringcut_frame` meets its contract, by that of the frame entry. Assumes nothing.
-use mathlib.Core.Path.{sym, _∙_}
+use mathlib.Core.Path.{sym, _∙_, ap}
 use denote.Ref.{now}
 use lib.ListN.{length}
 use mir.Facts.{toZ-ofZ}
-use Rattle.frames.specs.Room.{readCall}
-use Rattle.ringcut_calls.proofs.Codes.{negated, bytes-fit, refused-code, answered-code}
+use Rattle.frames.specs.Entry.{code}
+use Rattle.ringcut_calls.proofs.Codes.{negated, bytes-fit}
 use borrow.Author.Needs.{needs}
 use Rattle.ringcut_calls.proofs.ringcut_frame.Statement.{statement}
 use Rattle.ringcut_calls.proofs.ringcut_frame.Tie as tie
@@ -37,9 +37,8 @@ same-length c = search needs
 
 returns : tie.Need-returns
 returns c =
-    let a = c .before .before .before .before .before .before .before .before .before .before .args in
     let r = c .before .before .r .given .0 .0 in
-    (rw (c .refusal-number .ensures) (negated r .value ∙ refused-code (readCall (now (a .frame)) (length (now (a .out)))) r (sym (c .before .before .before .before .before .before .frame .ensures .0) ∙ c .before .before .r .given .1)), c .before .before .before .before .before .before .frame .ensures .1)
+    (rw (c .refusal-number .ensures) (negated r .value ∙ ap code (sym (sym (c .before .before .before .before .before .before .frame .ensures .0) ∙ c .before .before .r .given .1))), c .before .before .before .before .before .before .frame .ensures .1)
 
 same-length-2 : tie.Need-same-length-2
 same-length-2 c = search needs
@@ -48,7 +47,7 @@ returns-2 : tie.Need-returns-2
 returns-2 c =
     let a = c .before .before .before .before .before .before .before .before .before .args in
     let e = sym (c .before .before .before .before .before .frame .ensures .0) ∙ c .before .n .given .1 in
-    (toZ-ofZ (bytes-fit (now (a .frame)) (now (a .out)) _ e) ∙ answered-code (readCall (now (a .frame)) (length (now (a .out)))) _ e, c .before .before .before .before .before .frame .ensures .1)
+    (toZ-ofZ (bytes-fit (now (a .frame)) (now (a .out)) _ e) ∙ ap code (sym e), c .before .before .before .before .before .frame .ensures .1)
 
 pub ringcut-frame-spec : {M : Type 1} → statement M
 ringcut-frame-spec =

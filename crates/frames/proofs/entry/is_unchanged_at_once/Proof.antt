@@ -1,12 +1,12 @@
--- `is_unchanged` meets its contract: each return is a case of the definition. Assumes nothing.
+-- `is_unchanged_at_once` meets its contract: each return is a case of the definition. Assumes nothing.
 use mathlib.Core.Path.{_∙_}
 use borrow.Author.Tests.{not-true, not-false, eq-eqb, ne-eqb}
 use denote.Ref.{now}
 use Rattle.frames.proofs.Rooms.{frame-head}
 use Rattle.frames.proofs.Entries.{polygon-else, only-accepted, only-sound}
 use borrow.Author.Needs.{needs}
-use Rattle.frames.proofs.entry.is_unchanged.Statement.{statement}
-use Rattle.frames.proofs.entry.is_unchanged.Tie as tie
+use Rattle.frames.proofs.entry.is_unchanged_at_once.Statement.{statement}
+use Rattle.frames.proofs.entry.is_unchanged_at_once.Tie as tie
 
 is-fully-inside-requires : tie.Need-is-fully-inside-requires
 is-fully-inside-requires c κs = search needs
@@ -31,8 +31,8 @@ returns-3 c =
 returns-4 : tie.Need-returns-4
 returns-4 c = rw (← c .before .before .before .before .is-fully-inside .ensures, not-false (c .before .before .before .before .is-fully-inside .result) (c .before .before .before .if1 .left), ne-eqb _ _ (c .before .if2 .left), c .if3 .left)
 
-pub is-unchanged-spec : {M : Type 1} → statement M
-is-unchanged-spec =
+pub is-unchanged-at-once-spec : {M : Type 1} → statement M
+is-unchanged-at-once-spec =
     tie.close
     (tie.spec
     is-fully-inside-requires
