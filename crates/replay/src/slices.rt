@@ -84,6 +84,32 @@ fn read_head(bytes: &[u8]) -> Head
     }
 }
 
+// Whether a call has left the scratch, order and output slices as it has to. It reads them only: where they are lent to be written, each return is proved to keep all their lengths.
+fn leaves(
+    refused: bool,
+    a: &[f64],
+    b: &[f64],
+    order: &[u32],
+    out: &[f64],
+    out_lengths: &[u32],
+    expected: &[f64],
+    expected_lengths: &[u32],
+) -> bool {
+    if !are_all(a, scratch_after(refused)) {
+        return false;
+    }
+    if !are_all(b, scratch_after(refused)) {
+        return false;
+    }
+    if !are_all_wholes(order, order_after(refused)) {
+        return false;
+    }
+    if !holds(out, expected) {
+        return false;
+    }
+    holds_wholes(out_lengths, expected_lengths)
+}
+
 fn agrees(
     code: u64,
     head: Head,
@@ -113,19 +139,16 @@ fn agrees(
         return false;
     }
     let refused = is_refusal(code);
-    if !are_all(a, scratch_after(refused)) {
-        return false;
-    }
-    if !are_all(b, scratch_after(refused)) {
-        return false;
-    }
-    if !are_all_wholes(order, order_after(refused)) {
-        return false;
-    }
-    if !holds(out, expected) {
-        return false;
-    }
-    holds_wholes(out_lengths, expected_lengths)
+    leaves(
+        refused,
+        a,
+        b,
+        order,
+        out,
+        out_lengths,
+        expected,
+        expected_lengths,
+    )
 }
 
 fn call(
