@@ -1,7 +1,8 @@
 //! Frames as bytes and as values, with the refusals 11 to 18 of the way in.
 
+use crate::cursor::Cursor;
 use crate::room::most_cut;
-use crate::{closed_length, Bounds, Part, Refusal, Ring};
+use crate::{closed_length, Bounds, Part, Refusal};
 
 pub const POLYGON: u8 = 3;
 pub const MULTIPOLYGON: u8 = 6;
@@ -82,41 +83,4 @@ impl Frame {
 
 fn put_count(bytes: &mut Vec<u8>, count: usize) {
     bytes.extend((count as u16).to_le_bytes());
-}
-
-/// The bytes not read yet; what is not whole is refused with 15.
-struct Cursor<'a> {
-    rest: &'a [u8],
-}
-
-impl Cursor<'_> {
-    fn take<const N: usize>(&mut self) -> Result<[u8; N], Refusal> {
-        let (taken, rest) = self.rest.split_first_chunk().ok_or(15)?;
-        self.rest = rest;
-        Ok(*taken)
-    }
-
-    fn count(&mut self) -> Result<usize, Refusal> {
-        self.take().map(|bytes| usize::from(u16::from_le_bytes(bytes)))
-    }
-
-    fn number(&mut self) -> Result<f64, Refusal> {
-        self.take().map(f64::from_le_bytes)
-    }
-
-    fn part(&mut self) -> Result<Part, Refusal> {
-        let ring_count = self.count()?;
-        if !(1..=MOST_RINGS).contains(&ring_count) {
-            return Err(16);
-        }
-        (0..ring_count).map(|_| self.ring()).collect()
-    }
-
-    fn ring(&mut self) -> Result<Ring, Refusal> {
-        let coordinate_count = self.count()?;
-        if coordinate_count > MOST_COORDINATES {
-            return Err(17);
-        }
-        (0..coordinate_count).map(|_| Ok((self.number()?, self.number()?))).collect()
-    }
 }

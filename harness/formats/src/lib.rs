@@ -2,7 +2,9 @@
 //! call leaves in the slices lent to it. The second reading works all of this out by itself; what it leaves is held in
 //! `RingAfter` and `SliceAfter` only to be compared.
 
+pub mod answer;
 pub mod calls;
+mod cursor;
 pub mod frame;
 pub mod room;
 pub mod shown;
@@ -21,6 +23,15 @@ pub type Bounds = [f64; 4];
 
 /// The number of a refusal, 10 to 22.
 pub type Refusal = u8;
+
+/// The bytes that a line of the program stands for; one that is not pairs of hexadecimal digits is refused with 10.
+pub fn from_hex(line: &[u8]) -> Result<Vec<u8>, Refusal> {
+    let digit = |character: u8| char::from(character).to_digit(16).ok_or(10);
+    if line.len() % 2 == 1 {
+        return Err(10);
+    }
+    line.chunks(2).map(|pair| Ok((16 * digit(pair[0])? + digit(pair[1])?) as u8)).collect()
+}
 
 /// A ring as x, y numbers.
 pub fn flat(ring: &[Coord]) -> Vec<f64> {

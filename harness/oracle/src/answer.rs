@@ -1,6 +1,7 @@
 //! The answer to a call: the routes of the parts, laid beside the one run on the whole. Whatever the two say differently
 //! stops the harness: then the routes were asked wrongly, and nothing compared with them would count.
 
+use formats::answer::{Answer, Listed, ListedPart};
 use formats::{flat, same_numbers, Ring};
 use geo::{Geometry, MultiPolygon, Polygon};
 use i_overlay::record::OverlayCall;
@@ -10,24 +11,6 @@ use tylertoo::tile::TileBounds;
 use crate::convert::rings_of;
 use crate::route::{route_of_part, route_of_polygon, Route};
 use crate::run::{overlay_call_of, run, Hints, Run};
-
-pub enum Answer {
-    Nothing { guard_count: u16 },
-    Dropped,
-    Unchanged,
-    Listed { guard_count: u16, parts: Vec<ListedPart> },
-}
-
-pub struct ListedPart {
-    pub index: u16,
-    pub listed: Listed,
-}
-
-pub enum Listed {
-    Unchanged,
-    Cut(Vec<Ring>),
-    Overlay(u8),
-}
 
 pub fn answer(geometry: &Geometry<f64>, bounds: &TileBounds, buffer: f64, hints: Hints) -> Answer {
     let run = run(geometry, bounds, buffer, hints);
@@ -139,51 +122,6 @@ fn assert_call(call: &OverlayCall, part: &Polygon<f64>, buffered: &TileBounds) {
 
 fn same_rings(a: &[Ring], b: &[Ring]) -> bool {
     a.len() == b.len() && a.iter().zip(b).all(|(a, b)| same_numbers(&flat(a), &flat(b)))
-}
-
-impl Answer {
-    pub fn encode(&self) -> Vec<u8> {
-        match self {
-            Answer::Nothing { guard_count } => head(0, *guard_count, 0),
-            Answer::Dropped => head(1, 1, 0),
-            Answer::Unchanged => head(2, 0, 0),
-            Answer::Listed { guard_count, parts } => {
-                let mut bytes = head(3, *guard_count, parts.len() as u16);
-                parts.iter().for_each(|part| part.encode(&mut bytes));
-                bytes
-            }
-        }
-    }
-}
-
-fn head(answer: u8, guard_count: u16, listed: u16) -> Vec<u8> {
-    let mut bytes = vec![answer];
-    bytes.extend(guard_count.to_le_bytes());
-    bytes.extend(listed.to_le_bytes());
-    bytes
-}
-
-impl ListedPart {
-    fn encode(&self, bytes: &mut Vec<u8>) {
-        bytes.extend(self.index.to_le_bytes());
-        match &self.listed {
-            Listed::Unchanged => bytes.extend([2, 0]),
-            Listed::Overlay(reason) => bytes.extend([5, *reason]),
-            Listed::Cut(rings) => {
-                bytes.extend([4, 0]);
-                bytes.extend((rings.len() as u16).to_le_bytes());
-                rings.iter().for_each(|ring| encode_ring(ring, bytes));
-            }
-        }
-    }
-}
-
-fn encode_ring(ring: &Ring, bytes: &mut Vec<u8>) {
-    bytes.extend((ring.len() as u16).to_le_bytes());
-    for number in flat(ring) {
-        let written = if number.is_nan() { 0x7ff8_0000_0000_0000 } else { number.to_bits() };
-        bytes.extend(written.to_le_bytes());
-    }
 }
 
 #[cfg(test)]

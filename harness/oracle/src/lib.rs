@@ -8,6 +8,7 @@ mod lines;
 mod route;
 mod run;
 
+use formats::answer::{Answer, Listed};
 use formats::calls::{RingCall, SliceAnswer, SliceCall};
 use formats::frame::{Frame, POLYGON};
 use formats::{flat, pairs, Coord, Refusal};
@@ -15,7 +16,6 @@ use geo::{Geometry, MultiPolygon};
 use tylertoo::clip::opened as clip;
 use tylertoo::sutherland_hodgman::opened::clip_ring;
 
-use answer::{Answer, Listed};
 use convert::{bounds_of, coords_of, polygon_of, ring_of};
 use run::Hints;
 

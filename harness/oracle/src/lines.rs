@@ -1,13 +1,13 @@
 //! The program `ringcut`: frames as lines of hexadecimal digits, answers as lower-case lines.
 
-use formats::Refusal;
+use formats::from_hex;
 
 /// What the program prints for this input.
 pub fn lines(input: &[u8]) -> Vec<u8> {
     let mut printed = Vec::new();
     for line in input.split_inclusive(|&byte| byte == b'\n') {
         let line = line.strip_suffix(b"\n").unwrap_or(line);
-        let answer = frame_of(line).and_then(|frame| crate::answer(&frame, usize::MAX));
+        let answer = from_hex(line).and_then(|frame| crate::answer(&frame, usize::MAX));
         let answer = answer.unwrap_or_else(|refusal| vec![refusal, 0, 0, 0, 0]);
         for byte in answer {
             printed.extend(format!("{byte:02x}").bytes());
@@ -15,12 +15,4 @@ pub fn lines(input: &[u8]) -> Vec<u8> {
         printed.push(b'\n');
     }
     printed
-}
-
-fn frame_of(line: &[u8]) -> Result<Vec<u8>, Refusal> {
-    let digit = |character: u8| char::from(character).to_digit(16).ok_or(10);
-    if line.len() % 2 == 1 {
-        return Err(10);
-    }
-    line.chunks(2).map(|pair| Ok((16 * digit(pair[0])? + digit(pair[1])?) as u8)).collect()
 }

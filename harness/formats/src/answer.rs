@@ -1,0 +1,174 @@
+//! Answers to frames as bytes, as values and in words.
+
+use std::fmt::{self, Display};
+
+use crate::cursor::Cursor;
+use crate::{flat, Refusal, Ring};
+
+#[derive(Debug)]
+pub enum Answer {
+    Nothing { guard_count: u16 },
+    Dropped,
+    Unchanged,
+    Listed { guard_count: u16, parts: Vec<ListedPart> },
+}
+
+#[derive(Debug)]
+pub struct ListedPart {
+    pub index: u16,
+    pub listed: Listed,
+}
+
+#[derive(Debug)]
+pub enum Listed {
+    Unchanged,
+    Cut(Vec<Ring>),
+    Overlay(u8),
+}
+
+impl Answer {
+    pub fn encode(&self) -> Vec<u8> {
+        match self {
+            Answer::Nothing { guard_count } => head(0, *guard_count, 0),
+            Answer::Dropped => head(1, 1, 0),
+            Answer::Unchanged => head(2, 0, 0),
+            Answer::Listed { guard_count, parts } => {
+                let mut bytes = head(3, *guard_count, parts.len() as u16);
+                parts.iter().for_each(|part| part.encode(&mut bytes));
+                bytes
+            }
+        }
+    }
+
+    /// Reads what the program prints for a frame. None where the bytes are neither an answer nor a refusal.
+    pub fn decode(bytes: &[u8]) -> Option<Result<Answer, Refusal>> {
+        let mut cursor = Cursor { rest: bytes };
+        let [answer] = cursor.take().ok()?;
+        let (guard_count, listed) = (cursor.count().ok()? as u16, cursor.count().ok()?);
+        let parts = (0..listed).map(|_| ListedPart::decode(&mut cursor)).collect::<Option<Vec<_>>>()?;
+        if !cursor.rest.is_empty() {
+            return None;
+        }
+        match (answer, guard_count, listed) {
+            (0, _, 0) => Some(Ok(Answer::Nothing { guard_count })),
+            (1, 1, 0) => Some(Ok(Answer::Dropped)),
+            (2, 0, 0) => Some(Ok(Answer::Unchanged)),
+            (3, _, 1..) => Some(Ok(Answer::Listed { guard_count, parts })),
+            (10..=22, 0, 0) => Some(Err(answer)),
+            _ => None,
+        }
+    }
+}
+
+fn head(answer: u8, guard_count: u16, listed: u16) -> Vec<u8> {
+    let mut bytes = vec![answer];
+    bytes.extend(guard_count.to_le_bytes());
+    bytes.extend(listed.to_le_bytes());
+    bytes
+}
+
+impl ListedPart {
+    fn encode(&self, bytes: &mut Vec<u8>) {
+        bytes.extend(self.index.to_le_bytes());
+        match &self.listed {
+            Listed::Unchanged => bytes.extend([2, 0]),
+            Listed::Overlay(reason) => bytes.extend([5, *reason]),
+            Listed::Cut(rings) => {
+                bytes.extend([4, 0]);
+                bytes.extend((rings.len() as u16).to_le_bytes());
+                rings.iter().for_each(|ring| encode_ring(ring, bytes));
+            }
+        }
+    }
+
+    fn decode(cursor: &mut Cursor) -> Option<ListedPart> {
+        let index = cursor.count().ok()? as u16;
+        let listed = match cursor.take().ok()? {
+            [2, 0] => Listed::Unchanged,
+            [4, 0] => Listed::Cut(cursor.part().ok()?),
+            [5, reason @ 1..=6] => Listed::Overlay(reason),
+            _ => return None,
+        };
+        Some(ListedPart { index, listed })
+    }
+}
+
+fn encode_ring(ring: &Ring, bytes: &mut Vec<u8>) {
+    bytes.extend((ring.len() as u16).to_le_bytes());
+    for number in flat(ring) {
+        let written = if number.is_nan() { 0x7ff8_0000_0000_0000 } else { number.to_bits() };
+        bytes.extend(written.to_le_bytes());
+    }
+}
+
+impl Display for Answer {
+    fn fmt(&self, f: &mut fmt::Formatter) -> fmt::Result {
+        let (words, guard_count) = match self {
+            Answer::Nothing { guard_count } => ("nothing".to_string(), *guard_count),
+            Answer::Dropped => ("dropped".to_string(), 1),
+            Answer::Unchanged => ("unchanged".to_string(), 0),
+            Answer::Listed { guard_count, parts } => {
+                (parts.iter().map(ListedPart::to_string).collect::<Vec<_>>().join("; "), *guard_count)
+            }
+        };
+        write!(f, "{words}")?;
+        if guard_count > 0 {
+            write!(f, "; guard count {guard_count}")?;
+        }
+        Ok(())
+    }
+}
+
+impl Display for ListedPart {
+    fn fmt(&self, f: &mut fmt::Formatter) -> fmt::Result {
+        write!(f, "part {} ", self.index)?;
+        match &self.listed {
+            Listed::Unchanged => write!(f, "unchanged"),
+            Listed::Overlay(reason) => write!(f, "overlay, reason {reason}"),
+            Listed::Cut(rings) => {
+                let shown = |ring: &Ring| ring.iter().map(|(x, y)| format!("({x},{y})")).collect::<String>();
+                write!(f, "cut {}", rings.iter().map(shown).collect::<Vec<_>>().join(" hole "))
+            }
+        }
+    }
+}
+
+#[cfg(test)]
+mod tests {
+    use super::*;
+
+    #[test]
+    fn an_answer_is_read_as_it_was_written() {
+        let ring = vec![(0.5, 1.0), (2.0, -3.0), (4.0, 5.0), (0.5, 1.0)];
+        let parts = vec![
+            ListedPart { index: 0, listed: Listed::Unchanged },
+            ListedPart { index: 2, listed: Listed::Cut(vec![ring.clone(), ring]) },
+            ListedPart { index: 258, listed: Listed::Overlay(6) },
+        ];
+        let words = "part 0 unchanged; \
+                     part 2 cut (0.5,1)(2,-3)(4,5)(0.5,1) hole (0.5,1)(2,-3)(4,5)(0.5,1); \
+                     part 258 overlay, reason 6; guard count 513";
+        for (answer, words) in [
+            (Answer::Nothing { guard_count: 0 }, "nothing"),
+            (Answer::Nothing { guard_count: 2 }, "nothing; guard count 2"),
+            (Answer::Dropped, "dropped; guard count 1"),
+            (Answer::Unchanged, "unchanged"),
+            (Answer::Listed { guard_count: 513, parts }, words),
+        ] {
+            let bytes = answer.encode();
+            let read = Answer::decode(&bytes).expect("these are an answer's bytes").expect("no refusal's");
+            assert_eq!(read.to_string(), words);
+            assert_eq!(read.encode(), bytes);
+            assert!(Answer::decode(&bytes[..bytes.len() - 1]).is_none());
+            assert!(Answer::decode(&[&bytes[..], &[0]].concat()).is_none());
+        }
+    }
+
+    #[test]
+    fn a_refusal_is_its_number_and_four_zeros() {
+        assert!(matches!(Answer::decode(&[11, 0, 0, 0, 0]), Some(Err(11))));
+        for [answer, guard_count] in [[9, 0], [23, 0], [11, 1], [1, 0], [2, 1], [3, 0]] {
+            assert!(Answer::decode(&[answer, guard_count, 0, 0, 0]).is_none(), "{answer} {guard_count}");
+        }
+    }
+}

@@ -1,0 +1,41 @@
+//! Counts, numbers and rings read from bytes, one behind the other.
+
+use crate::frame::{MOST_COORDINATES, MOST_RINGS};
+use crate::{Part, Refusal, Ring};
+
+/// The bytes not read yet; what is not whole is refused with 15.
+pub(crate) struct Cursor<'a> {
+    pub rest: &'a [u8],
+}
+
+impl Cursor<'_> {
+    pub fn take<const N: usize>(&mut self) -> Result<[u8; N], Refusal> {
+        let (taken, rest) = self.rest.split_first_chunk().ok_or(15)?;
+        self.rest = rest;
+        Ok(*taken)
+    }
+
+    pub fn count(&mut self) -> Result<usize, Refusal> {
+        self.take().map(|bytes| usize::from(u16::from_le_bytes(bytes)))
+    }
+
+    pub fn number(&mut self) -> Result<f64, Refusal> {
+        self.take().map(f64::from_le_bytes)
+    }
+
+    pub fn part(&mut self) -> Result<Part, Refusal> {
+        let ring_count = self.count()?;
+        if !(1..=MOST_RINGS).contains(&ring_count) {
+            return Err(16);
+        }
+        (0..ring_count).map(|_| self.ring()).collect()
+    }
+
+    fn ring(&mut self) -> Result<Ring, Refusal> {
+        let coordinate_count = self.count()?;
+        if coordinate_count > MOST_COORDINATES {
+            return Err(17);
+        }
+        (0..coordinate_count).map(|_| Ok((self.number()?, self.number()?))).collect()
+    }
+}
