@@ -1,0 +1,127 @@
+//! One example as a picture.
+
+use formats::answer::{Answer, Listed, ListedPart};
+use formats::frame::Frame;
+use formats::{Bounds, Coord, Ring};
+
+use crate::canvas::{Canvas, WIDTH};
+
+/// Degrees around what is drawn.
+const MARGIN: f64 = 1.0;
+
+/// Pixels for the title above and for each row of the legend below.
+const HEAD: f64 = 56.0;
+const ROW: f64 = 22.0;
+
+/// Pixels between the drawing and the legend.
+const GAP: f64 = 6.0;
+
+/// Entries of the legend in a row.
+const COLUMNS: usize = 3;
+
+pub fn draw(title: &str, frame: &Frame, answer: &Answer) -> String {
+    let tile = rectangle(frame.bounds);
+    let widened = rectangle(buffered(frame));
+    let [west, south, east, north] = around(widened.iter().chain(frame.parts.iter().flatten().flatten()));
+    let left = (WIDTH - Canvas::pixels(east - west)) / 2.0;
+    let mut canvas = Canvas::new(left, HEAD, west, north);
+
+    canvas.text("title", "middle", (WIDTH / 2.0, 26.0), title);
+    canvas.text(
+        "answer",
+        "middle",
+        (WIDTH / 2.0, 46.0),
+        &format!("flags {}; answer: {}", frame.flags, in_short(answer)),
+    );
+
+    let mut legend = vec![("input", "input outline"), ("tile", "tile")];
+    canvas.area("tile", std::slice::from_ref(&tile));
+    if frame.buffer != 0.0 {
+        legend.push(("buffer", "tile with its buffer"));
+        canvas.area("buffer", &[widened]);
+    }
+    for ListedPart { index, listed } in listed(answer) {
+        let part = &frame.parts[usize::from(*index)];
+        let (class, words, rings) = match listed {
+            Listed::Unchanged => ("unchanged", "unchanged", part),
+            Listed::Cut(rings) => ("cut", "cut", rings),
+            Listed::Overlay(_) => ("overlay", "overlay wanted", part),
+        };
+        legend.push((class, words));
+        canvas.area(class, rings);
+        if class == "cut" {
+            rings.iter().flatten().for_each(|&coord| canvas.dot("corner", coord));
+        }
+    }
+    for (index, part) in frame.parts.iter().enumerate() {
+        canvas.area("input", part);
+        if frame.parts.len() > 1 {
+            let [west, south, east, north] = bounds_of(part.iter().flatten());
+            let (x, y) = canvas.place(((west + east) / 2.0, (south + north) / 2.0));
+            canvas.text("part", "middle", (x, y + 4.0), &format!("part {index}"));
+        }
+    }
+    label_tile(&mut canvas, frame.bounds);
+
+    let bottom = HEAD + Canvas::pixels(north - south) + GAP;
+    for (n, (class, words)) in legend.iter().enumerate() {
+        let x = 24.0 + (n % COLUMNS) as f64 * (WIDTH - 24.0) / COLUMNS as f64;
+        let y = bottom + (n / COLUMNS) as f64 * ROW;
+        canvas.swatch(class, (x, y), (20.0, 12.0));
+        canvas.text("legend", "start", (x + 28.0, y + 10.0), words);
+    }
+    let rows = legend.len().div_ceil(COLUMNS);
+    canvas.finish(title, bottom + rows as f64 * ROW + 4.0)
+}
+
+/// The four bounds as numbers beside the tile.
+fn label_tile(canvas: &mut Canvas, [west, south, east, north]: Bounds) {
+    for x in [west, east] {
+        let (at, below) = canvas.place((x, south));
+        canvas.text("small", "middle", (at, below + 15.0), &x.to_string());
+    }
+    for y in [south, north] {
+        let (beside, at) = canvas.place((west, y));
+        canvas.text("small", "end", (beside - 6.0, at + 4.0), &y.to_string());
+    }
+}
+
+/// The answer without a cut's coordinates, which are drawn.
+fn in_short(answer: &Answer) -> String {
+    let part = |part: &ListedPart| match part.listed {
+        Listed::Cut(_) => format!("part {} cut", part.index),
+        _ => part.to_string(),
+    };
+    match listed(answer) {
+        [] => answer.to_string(),
+        parts => parts.iter().map(part).collect::<Vec<_>>().join("; "),
+    }
+}
+
+fn listed(answer: &Answer) -> &[ListedPart] {
+    match answer {
+        Answer::Listed { parts, .. } => parts,
+        _ => &[],
+    }
+}
+
+fn buffered(frame: &Frame) -> Bounds {
+    let ([west, south, east, north], buffer) = (frame.bounds, frame.buffer);
+    [west - buffer, south - buffer, east + buffer, north + buffer]
+}
+
+fn rectangle([west, south, east, north]: Bounds) -> Ring {
+    vec![(west, south), (east, south), (east, north), (west, north)]
+}
+
+fn bounds_of<'a>(coords: impl Iterator<Item = &'a Coord>) -> Bounds {
+    coords.fold([f64::INFINITY, f64::INFINITY, f64::NEG_INFINITY, f64::NEG_INFINITY], |[w, s, e, n], &(x, y)| {
+        [w.min(x), s.min(y), e.max(x), n.max(y)]
+    })
+}
+
+/// The bounds of the coordinates with the margin around.
+fn around<'a>(coords: impl Iterator<Item = &'a Coord>) -> Bounds {
+    let [west, south, east, north] = bounds_of(coords);
+    [west - MARGIN, south - MARGIN, east + MARGIN, north + MARGIN]
+}
