@@ -2,7 +2,7 @@
 
 use formats::calls::RingCall;
 use formats::frame::{Frame, MULTIPOLYGON, POLYGON};
-use formats::Coord;
+use formats::{same_numbers, Coord};
 use reading::Reading;
 
 const ROOM: usize = 60_000;
@@ -72,6 +72,13 @@ fn square_that_touches_the_east_bound() {
     assert_polygon(EVERY_FLAG, &[(10., 2.), (20., 2.), (20., 8.), (10., 8.), (10., 2.)], &overlay(2));
 }
 
+/// Both lie outside, beyond the corner, with a rectangle that is not apart.
+#[test]
+fn an_issue_wins_over_an_empty_cut() {
+    assert_polygon(EVERY_FLAG, &[(9., 12.), (12., 9.), (12., 12.), (9., 12.)], NOTHING);
+    assert_polygon(EVERY_FLAG, &[(9., 12.), (12., 9.), (12., 9.), (12., 12.), (9., 12.)], &overlay(1));
+}
+
 #[test]
 fn magnitudes_of_1e150() {
     assert_polygon(EVERY_FLAG, &[(2., 2.), (1e150, 2.), (2., 2.)], DROPPED);
@@ -91,18 +98,32 @@ fn overflowing_differences_close_twice() {
     assert_polygon(&[3], &ring, &cut(&[nan, (0., 0.), (8., 8.), (10., 10.), nan, nan, nan]));
 }
 
-#[test]
-fn ring_cutter_gives_none() {
+/// What a ring call answers and the numbers it writes.
+fn assert_cut_ring(ring: &[f64], expected: &[f64]) {
     let lent = vec![1.0; 64];
     let call = RingCall {
-        ring: vec![1., 1., 2., 2., 1., 1., 1., 1.],
+        ring: ring.to_vec(),
         bounds: [0.0, 0.0, 10.0, 10.0],
         scratch_a: lent.clone(),
         scratch_b: lent.clone(),
         out: lent,
     };
-    assert_eq!(oracle::ring_call(&call), Ok(Vec::new()));
-    assert_eq!(compare::calls::ring_call(&Reading::RIGHT, &call).answer, 0);
+    let cut = oracle::ring_call(&call).unwrap();
+    assert!(same_numbers(&cut, expected), "the Rust, {ring:?}: {cut:?}");
+    let after = compare::calls::ring_call(&Reading::RIGHT, &call);
+    assert_eq!(after.answer, expected.len() as i64 / 2, "the reading, {ring:?}");
+    assert!(same_numbers(&after.out[..expected.len()], expected), "the reading, {ring:?}: {:?}", after.out);
+}
+
+#[test]
+fn ring_cutter_gives_none() {
+    assert_cut_ring(&[1., 1., 2., 2., 1., 1., 1., 1.], &[]);
+}
+
+#[test]
+fn ring_cutter_gives_a_nan() {
+    let (infinity, nan) = (f64::INFINITY, f64::NAN);
+    assert_cut_ring(&[5., 5., infinity, infinity], &[nan, 0., 5., 5., nan, 0., nan, 0.]);
 }
 
 #[test]
