@@ -12,7 +12,7 @@ use Rattle.lines.proofs.Printed.{printed-from-start}
 -- left, and what it did not take is left.
 pub data Feedings : List ℕ → State → List ℕ → State → Type 0 where
   none : {st : State} → Feedings [] st [] st
-  more : (rest : List ℕ) {block : List ℕ} {st st′ st″ : State} {ready : Bool} {out out′ : List ℕ} {taken written : ℕ} {others : List ℕ} → Feeds block st ready out taken written st′ out′
+  more : (rest : List ℕ) {block : List ℕ} {st st′ st″ : State} {ready : Bool} {kept kept′ out out′ : List ℕ} {taken written : ℕ} {others : List ℕ} → Feeds block st ready kept out taken written st′ kept′ out′
       → Feedings (drop taken block ++ rest) st′ others st″ → Feedings (block ++ rest) st (take written out′ ++ others) st″
 
 printed-from : {input : List ℕ} {st st′ : State} {w : List ℕ} → Feedings input st w st′ → printedFrom st input ≡ w ++ endOfInput st′

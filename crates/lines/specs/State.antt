@@ -9,7 +9,7 @@ use lib.ListN.{length, getD, take, drop}
 use Rattle.frames.specs.Frame.{longest, refusalNumber}
 use Rattle.frames.specs.declared.reader.FrameRefusal.the-variants.{Size}
 use Rattle.lines.specs.declared.line.Line.{Line}
-use Rattle.lines.specs.declared.line.Line.the-variants as Lines
+use Rattle.lines.specs.declared.line.Line.the-variants as Held
 use Rattle.lines.specs.Lines.{newline, digit, isDigit, hexLine, refusalBytes, frameAnswer, notPairsNumber}
 
 -- The bytes that its pairs of digits stand for, and the value of a digit that still wants its second. Of a line of more bytes than the longest frame it is
@@ -65,10 +65,10 @@ lineLength (b ∷ rest) = cond (eqb b newline) 1 (suc (lineLength rest))
 -- ---- the state as the code holds it, its bytes at the front of a lent slice
 
 abbrev pub stateOf : Line → List ℕ → State
-stateOf Lines.NotDigits kept = notDigits
-stateOf (Lines.Whole n) kept = whole (take n kept)
-stateOf (Lines.Half n high) kept = half (take n kept) (high % 16)
-stateOf (Lines.Long odd) kept = long odd
+stateOf Held.NotDigits kept = notDigits
+stateOf (Held.Whole n) kept = whole (take n kept)
+stateOf (Held.Half n high) kept = half (take n kept) (high % 16)
+stateOf (Held.Long odd) kept = long odd
 
 -- Reading on within a line, from one place of a block to another: whatever follows the block, what was to be printed is what is to be printed now.
 pub record Passes (block : List ℕ) (from : ℕ) (st : State) (to : ℕ) (st′ : State) : Type 0 where
@@ -76,22 +76,10 @@ pub record Passes (block : List ℕ) (from : ℕ) (st : State) (to : ℕ) (st′
   pub in-line : from + lineLength (drop from block) ≡ to + lineLength (drop to block)
   pub same : (rest : List ℕ) → printedFrom st (drop from block ++ rest) ≡ printedFrom st′ (drop to block ++ rest)
 
--- how many bytes the code counts at the front of the slice
-abbrev pub counted : Line → ℕ
-counted Lines.NotDigits = 0
-counted (Lines.Whole n) = n
-counted (Lines.Half n high) = n
-counted (Lines.Long odd) = 0
-
--- no more than the longest frame has, which is the slice's length; a line that nothing was read of fits
-abbrev pub Fits : Line → Type 0
-Fits line = counted line ≤ longest
-
--- Taking a block's characters from a place on, to the next newline or to the block's end. A line that fits does so afterwards.
+-- Taking a block's characters from a place on, to the next newline or to the block's end.
 pub record Takes (block : List ℕ) (from : ℕ) (line : Line) (kept : List ℕ) (to : ℕ) (line′ : Line) (kept′ : List ℕ) : Type 0 where
   pub passes : Passes block from (stateOf line kept) to (stateOf line′ kept′)
   pub stops : to < length block → getD block to 0 ≡ newline
-  pub fits : Fits line → Fits line′
 
 -- ---- the lent slices
 
@@ -103,21 +91,25 @@ answerRoom = 10 * longest
 abbrev pub lineRoom : ℕ
 lineRoom = 2 * answerRoom + 1
 
--- whether the slices for the bytes of a line and for what is printed are long enough
+-- whether the slice for the bytes of a line has the longest frame's length, and the one for what is printed has room for a line
 abbrev pub lent : List ℕ → List ℕ → Bool
 lent kept out = eqb (length kept) longest && leb lineRoom (length out)
 
 -- ---- the line step
 
--- Feeding a block: its first line is taken, or nothing where the lent slices are not long enough. Whatever follows the block, what was to be printed is what
--- was written to the front of the output and what is to be printed now; the rest of the output stays. So blocks of any sizes, fed one behind the other, print
--- what the whole input prints (proofs/Blocks.antt).
-pub record Feeds (block : List ℕ) (st : State) (ready : Bool) (out : List ℕ) (taken written : ℕ) (st′ : State) (out′ : List ℕ) : Type 0 where
+-- Feeding a block: its first line is taken, or nothing where a lent slice has another length than `lent` asks for. Whatever follows the block, what was to be
+-- printed is what was written to the front of the output and what is to be printed now; the rest of the output stays. So blocks of any sizes, fed one behind the
+-- other, print what the whole input prints (proofs/Blocks.antt).
+pub record Feeds (block : List ℕ) (st : State) (ready : Bool) (kept out : List ℕ) (taken written : ℕ) (st′ : State) (kept′ out′ : List ℕ) : Type 0 where
   pub line : taken ≡ cond ready (lineLength block) 0
   pub within : taken ≤ length block
   pub same : (rest : List ℕ) → printedFrom st (block ++ rest) ≡ take written out′ ++ printedFrom st′ (drop taken block ++ rest)
   pub room : written ≤ length out
   pub past : drop written out′ ≡ drop written out
+  -- where nothing is taken, nothing is written, and the line and its bytes stay
+  pub untaken : ready ≡ false → (written ≡ 0) × (st′ ≡ st) × (kept′ ≡ kept)
+  -- otherwise the bytes of `kept` are free but for those that the new state names: only its length stays
+  pub free : length kept′ ≡ length kept
 
 -- what the end of the input writes
 abbrev pub finished : Bool → State → List ℕ
@@ -125,7 +117,7 @@ finished ready st = cond ready (endOfInput st) []
 
 -- a line of which no character was read
 abbrev pub notBegun : Line → Bool
-notBegun Lines.NotDigits = false
-notBegun (Lines.Whole n) = eqb n 0
-notBegun (Lines.Half n high) = false
-notBegun (Lines.Long odd) = false
+notBegun Held.NotDigits = false
+notBegun (Held.Whole n) = eqb n 0
+notBegun (Held.Half n high) = false
+notBegun (Held.Long odd) = false

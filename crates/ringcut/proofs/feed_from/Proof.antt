@@ -1,5 +1,4 @@
 -- `feed_from` meets its contract: the slices that it lends are long enough, so something is taken. Assumes nothing.
-use denote.Ref.{now}
 use borrow.Author.Needs.{needs}
 use Rattle.lines.proofs.Feeding.{takes-some}
 use Rattle.ringcut.proofs.feed_from.Statement.{statement}
@@ -35,7 +34,7 @@ same-length-2 c = search needs
 returns : tie.Need-returns
 returns c =
     let f = c .before .before .before .before .feed .ensures in
-    (takes-some (now (c .before .before .before .before .before .before .before .before .before .before .before .args .kept)) f (search needs) (search needs) (search needs), search needs, search needs)
+    (takes-some f (search needs) (search needs) (search needs), search needs, search needs)
 
 pub feed-from-spec : {M : Type 1} → statement M
 feed-from-spec =

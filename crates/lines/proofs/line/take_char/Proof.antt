@@ -1,6 +1,4 @@
 -- `take_char` meets its contract. Assumes nothing.
-use mathlib.Core.Path.{refl}
-use native.Mathlib.Omega.{arith}
 use borrow.Author.Needs.{needs}
 use borrow.Author.Tests.{lt-ltb, le-ltb}
 use Rattle.lines.specs.State.{after}
@@ -22,7 +20,7 @@ returns c = rw (← c .before .before .before .before .before .digit-of .ensures
 
 returns-2 : tie.Need-returns-2
 unfolding after
-returns-2 c = rw (← c .before .digit-of .ensures, le-ltb _ _ (c .if1 .left)) (refl, λ _. omega arith)
+returns-2 c = rw (← c .before .digit-of .ensures, le-ltb _ _ (c .if1 .left))
 
 pub take-char-spec : {M : Type 1} → statement M
 take-char-spec =

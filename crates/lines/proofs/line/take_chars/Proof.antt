@@ -6,19 +6,19 @@ use denote.Ref.{now}
 use lib.ListN.{length}
 use borrow.Author.Needs.{needs}
 use Rattle.frames.specs.Frame.{longest}
-use Rattle.lines.specs.State.{stateOf, Passes, Fits}
+use Rattle.lines.specs.State.{stateOf, Passes}
 use Rattle.lines.proofs.Running.{passes-start, passes-then, passes-char}
 use Rattle.lines.proofs.line.take_chars.Statement.{statement}
 use Rattle.lines.proofs.line.take_chars.Tie as tie
 
 abbrev Inv-loop : tie.InvT-loop
-Inv-loop block from values kept₀ reached₀ at₀ kept reached at = (length kept ≡ longest) × Passes block from (stateOf reached₀ kept₀) at (stateOf reached kept) × (Fits reached₀ → Fits reached)
+Inv-loop block from values kept₀ reached₀ at₀ kept reached at = (length kept ≡ longest) × Passes block from (stateOf reached₀ kept₀) at (stateOf reached kept)
 
 abbrev μ-loop : tie.MeasureT-loop
 μ-loop block from values kept₀ reached₀ at₀ kept reached at = length block - at
 
 loop-holds : tie.Need-loop-holds Inv-loop μ-loop
-loop-holds c = (c .before .before .pre .2, passes-start (now (c .before .before .args .block)) (c .before .before .args .from) (stateOf (c .before .before .args .line) (now (c .before .before .args .kept))) (c .before .before .pre .0), λ h. h)
+loop-holds c = (c .before .before .pre .2, passes-start (now (c .before .before .args .block)) (c .before .before .args .from) (stateOf (c .before .before .args .line) (now (c .before .before .args .kept))) (c .before .before .pre .0))
 
 shared-slice-read-b : tie.Need-shared-slice-read-b Inv-loop μ-loop
 shared-slice-read-b c = search needs
@@ -27,7 +27,7 @@ same-length : tie.Need-same-length Inv-loop μ-loop
 same-length c = search needs
 
 returns : tie.Need-returns Inv-loop μ-loop
-returns c = let l = c .before .before .before .loop in record { passes = l .inv .1; stops = λ _. c .if1 .taken; fits = l .inv .2 }
+returns c = let l = c .before .before .before .loop in record { passes = l .inv .1; stops = λ _. c .if1 .taken }
 
 take-char-requires : tie.Need-take-char-requires Inv-loop μ-loop
 take-char-requires c κs = search needs
@@ -43,13 +43,13 @@ loop-again c =
     let block = now (c .before .before .before .before .before .before .before .before .before .before .args .block) in
     let l = c .before .before .before .before .before .before .before .loop in
     let e = c .before .before .take-char .ensures in
-    (search needs, rw (e .0) (passes-then (l .inv .1) (passes-char block (l .at) (stateOf (l .reached) (l .kept)) (c .before .before .before .before .before .before .loop-test .taken) (c .before .before .before .before .if1 .left))), λ h. e .1 (l .inv .2 h))
+    (search needs, rw e (passes-then (l .inv .1) (passes-char block (l .at) (stateOf (l .reached) (l .kept)) (c .before .before .before .before .before .before .loop-test .taken) (c .before .before .before .before .if1 .left))))
 
 same-length-2 : tie.Need-same-length-2 Inv-loop μ-loop
 same-length-2 c = search needs
 
 returns-2 : tie.Need-returns-2 Inv-loop μ-loop
-returns-2 c = let l = c .before .loop in record { passes = l .inv .1; stops = λ h. omega arith; fits = l .inv .2 }
+returns-2 c = let l = c .before .loop in record { passes = l .inv .1; stops = λ h. omega arith }
 
 pub take-chars-spec : {M : Type 1} → statement M
 take-chars-spec =

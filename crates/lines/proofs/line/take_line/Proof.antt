@@ -23,7 +23,7 @@ returns : tie.Need-returns
 returns c =
     let e = c .before .before .take-chars .ensures in
     let p = c .before .before .before .before .before .before .before .take-pairs .ensures in
-    rw (c .before .before .before .before .before .before .before .before .before .before .before .line .given .1) (record { passes = passes-then (p .0) (e .passes); stops = e .stops; fits = λ h. e .fits (p .1 h) })
+    rw (c .before .before .before .before .before .before .before .before .before .before .before .line .given .1) (record { passes = passes-then p (e .passes); stops = e .stops })
 
 take-chars-requires-2 : tie.Need-take-chars-requires-2
 take-chars-requires-2 c κs = search needs
