@@ -15,7 +15,7 @@ use Rattle.frames.specs.Frame.{longest}
 use Rattle.lines.specs.declared.line.Line.{Line}
 use Rattle.lines.specs.declared.line.Line.the-variants as Held
 use Rattle.lines.specs.Lines.{newline}
-use Rattle.lines.specs.State.{State, whole, start, endLine, endOfInput, printedFrom, lineLength, stateOf, Passes, lineRoom, lent, Feeds, notBegun}
+use Rattle.lines.specs.State.{State, whole, start, endLine, endOfInput, printedFrom, lineLength, stateOf, Passes, lineRoom, lent, Prints, Feeds, notBegun}
 
 -- ---- whether the slices have the lengths that are asked for
 
@@ -46,13 +46,13 @@ over-fits w out out′ written n o kept = omega (arith, n, kept, ap length o, le
 
 -- ---- feeding
 
+pub prints-nothing : (block : List ℕ) (st : State) (out : List ℕ) → Prints block st out 0 0 st out
+prints-nothing block st out = record { within = omega arith; same = λ rest. refl; room = omega arith; past = refl }
+
 pub feeds-nothing : (block : List ℕ) (st : State) (ready : Bool) (kept out : List ℕ) → ready ≡ false → Feeds block st ready kept out 0 0 st kept out
 feeds-nothing block st ready kept out e = record {
   line = rw e;
-  within = omega arith;
-  same = λ rest. refl;
-  room = omega arith;
-  past = refl;
+  prints = prints-nothing block st out;
   untaken = λ _. (refl, refl, refl);
   free = refl;
 }
@@ -67,7 +67,7 @@ unfolding lineLength
 feeds-block block st st₁ ready kept kept′ out at e p h free =
     let none : drop at block ≡ [] = drop-of-length-le block h in
     let all : at ≡ lineLength block = omega (arith, p .in-line, ap lineLength none) in
-    record { line = rw e all; within = p .within; same = p .same; room = omega arith; past = refl; untaken = taken-only e; free = free }
+    record { line = rw e all; prints = record { within = p .within; same = p .same; room = omega arith; past = refl }; untaken = taken-only e; free = free }
 
 -- up to a newline
 module _ (block : List ℕ) (at : ℕ) (h : at < length block) (e : getD block at 0 ≡ newline) where
@@ -88,10 +88,12 @@ feeds-line block st st₁ ready kept kept′ out out′ at written t p h e n o s
     let all : at + 1 ≡ lineLength block = omega (arith, p .in-line, last-of-line block at h e) in
     record {
       line = rw t all;
-      within = omega arith;
-      same = λ rest. p .same rest ∙ newline-read block at h e st₁ rest ∙ rw front;
-      room = over-fits (endLine st₁) out out′ written n o sized;
-      past = rw (n, o) (drop-append-seam (endLine st₁) rest-of-out);
+      prints = record {
+        within = omega arith;
+        same = λ rest. p .same rest ∙ newline-read block at h e st₁ rest ∙ rw front;
+        room = over-fits (endLine st₁) out out′ written n o sized;
+        past = rw (n, o) (drop-append-seam (endLine st₁) rest-of-out);
+      };
       untaken = taken-only t;
       free = free;
     }

@@ -3,6 +3,7 @@ pub mod Blocks
 pub mod Feeding
 pub mod Hexadecimal
 pub mod Kept
+pub mod Parts
 pub mod Printed
 pub mod Running
 pub mod Table

@@ -97,19 +97,33 @@ lent kept out = eqb (length kept) longest && leb lineRoom (length out)
 
 -- ---- the line step
 
--- Feeding a block: its first line is taken, or nothing where a lent slice has another length than `lent` asks for. Whatever follows the block, what was to be
--- printed is what was written to the front of the output and what is to be printed now; the rest of the output stays. So blocks of any sizes, fed one behind the
--- other, print what the whole input prints (proofs/Blocks.antt).
-pub record Feeds (block : List ℕ) (st : State) (ready : Bool) (kept out : List ℕ) (taken written : ℕ) (st′ : State) (kept′ out′ : List ℕ) : Type 0 where
-  pub line : taken ≡ cond ready (lineLength block) 0
+-- Answering the front of a block: whatever follows the block, what was to be printed is what was written to the front of the output and what is to be printed
+-- now; the rest of the output stays. So an input whose parts are answered one behind the other prints what the whole input prints (proofs/Blocks.antt).
+pub record Prints (block : List ℕ) (st : State) (out : List ℕ) (taken written : ℕ) (st′ : State) (out′ : List ℕ) : Type 0 where
   pub within : taken ≤ length block
   pub same : (rest : List ℕ) → printedFrom st (block ++ rest) ≡ take written out′ ++ printedFrom st′ (drop taken block ++ rest)
   pub room : written ≤ length out
   pub past : drop written out′ ≡ drop written out
+
+-- Feeding a block: its first line is taken, or nothing where a lent slice has another length than `lent` asks for.
+pub record Feeds (block : List ℕ) (st : State) (ready : Bool) (kept out : List ℕ) (taken written : ℕ) (st′ : State) (kept′ out′ : List ℕ) : Type 0 where
+  pub line : taken ≡ cond ready (lineLength block) 0
+  pub prints : Prints block st out taken written st′ out′
   -- where nothing is taken, nothing is written, and the line and its bytes stay
   pub untaken : ready ≡ false → (written ≡ 0) × (st′ ≡ st) × (kept′ ≡ kept)
   -- otherwise the bytes of `kept` are free but for those that the new state names: only its length stays
   pub free : length kept′ ≡ length kept
+
+-- Feeding a block's lines one behind the other: to its end, or until the output has no room for one line more. Something is taken of a block that is not empty.
+pub record FeedsLines (block : List ℕ) (st : State) (out : List ℕ) (taken written : ℕ) (st′ : State) (out′ : List ℕ) : Type 0 where
+  pub prints : Prints block st out taken written st′ out′
+  pub stops : taken < length block → length out < written + lineRoom
+  pub some : 0 < length block → 0 < taken
+
+-- Answering a block up to a place, with outputs that are written out in between: there is a text that was to be printed for it, whatever follows.
+pub record Carries (block : List ℕ) (st : State) (to : ℕ) (st′ : State) : Type 0 where
+  pub text : List ℕ
+  pub same : (rest : List ℕ) → printedFrom st (block ++ rest) ≡ text ++ printedFrom st′ (drop to block ++ rest)
 
 -- what the end of the input writes
 abbrev pub finished : Bool → State → List ℕ

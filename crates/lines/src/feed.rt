@@ -1,8 +1,9 @@
 // The line step: an input in blocks of any sizes, of which each line is answered as soon as its newline is there.
 ghost use mathlib.Core.Path.{_≡_};
-ghost use Prim.Native.Nat.{_≤_};
-ghost use lib.ListN.{length};
+ghost use Prim.Native.Nat.{_+_, _<_, _≤_};
+ghost use lib.ListN.{length, take, drop};
 ghost use Rattle.clip.specs.Slice.{over};
+ghost use Rattle.frames.specs.Frame.{longest};
 ghost use Rattle.lines.specs.State as T;
 use super::answer::LINE_ROOM;
 use super::answer::answer_line;
@@ -62,6 +63,52 @@ pub fn feed(block: &[u8], line: Line, kept: &mut [u8], out: &mut [u8]) -> Fed
         line: reached,
         taken: at,
         written: 0,
+    }
+}
+
+// One line more: from a place of the block on, behind what waits in the output.
+fn feed_from(
+    block: &[u8],
+    from: usize,
+    line: Line,
+    kept: &mut [u8],
+    out: &mut [u8],
+    waiting: usize,
+) -> Fed
+    requires { ⌜ (from < length (now block)) × (length (now kept) ≡ longest) × (waiting + T.lineRoom ≤ length (now out)) ⌝ }
+    ensures { λ r. ⌜ T.Prints (drop from (now (block .entry))) (T.stateOf line (now (kept .entry))) (drop waiting (now (out .entry)))
+        (r .taken) (r .written) (T.stateOf (r .line) (now (kept .exit))) (drop waiting (now (out .exit)))
+        × (take waiting (now (out .exit)) ≡ take waiting (now (out .entry))) × (0 < r .taken) ⌝ }
+{
+    feed(&block[from..], line, kept, &mut out[waiting..])
+}
+
+// Answers every line that ends in the block, as long as the output has room for one more: a write for each would cost more than the answer.
+pub fn feed_lines(block: &[u8], line: Line, kept: &mut [u8], out: &mut [u8]) -> Fed
+    requires { ⌜ (length (now kept) ≡ longest) × (T.lineRoom ≤ length (now out)) ⌝ }
+    ensures { λ r. ⌜ T.FeedsLines (now (block .entry)) (T.stateOf line (now (kept .entry))) (now (out .entry))
+        (r .taken) (r .written) (T.stateOf (r .line) (now (kept .exit))) (now (out .exit)) ⌝ }
+{
+    let mut known = line;
+    let mut from = 0usize;
+    let mut waiting = 0usize;
+    while from < block.len() {
+        if out.len() - waiting < LINE_ROOM {
+            return Fed {
+                line: known,
+                taken: from,
+                written: waiting,
+            };
+        }
+        let fed = feed_from(block, from, known, kept, out, waiting);
+        known = fed.line;
+        from += fed.taken;
+        waiting += fed.written;
+    }
+    Fed {
+        line: known,
+        taken: from,
+        written: waiting,
     }
 }
 

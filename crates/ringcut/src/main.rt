@@ -1,15 +1,15 @@
 // Reads frames from standard input, one a line in hexadecimal, and prints each answer as a line on standard output.
+// Proved: the line step makes the bytes that are to be printed for a block, and what it knows of a line is carried from one block to the next. No contract speaks
+// of what is read or written, so not proved: that the blocks are read in order, that the bytes made are those written, and that the last line is finished.
 ghost use mathlib.Core.Path.{_≡_};
-ghost use Prim.Native.Nat.{_+_, _-_, _<_, _≤_};
+ghost use Prim.Native.Nat.{_≤_};
 ghost use lib.ListN.{length};
 ghost use Rattle.frames.specs.Frame.{longest};
-ghost use Rattle.lines.specs.State.{lineRoom};
+ghost use Rattle.lines.specs.State as T;
 use frames::reader::LONGEST;
 use libc::STDIN_FILENO;
 use libc::STDOUT_FILENO;
-use lines::answer::LINE_ROOM;
-use lines::feed::Fed;
-use lines::feed::feed;
+use lines::feed::feed_lines;
 use lines::feed::finish;
 use lines::feed::start;
 use lines::line::Line;
@@ -28,52 +28,24 @@ fn write_out(out: &[u8], waiting: usize)
     io::write_all(STDOUT_FILENO, &out[..waiting]);
 }
 
-// Writes out what waits where the output has no room for one more line, and answers what waits then.
-fn make_room(out: &[u8], waiting: usize) -> usize
-    requires { ⌜ (waiting ≤ length (now out)) × (lineRoom ≤ length (now out)) ⌝ }
-    ensures { λ r. ⌜ r + lineRoom ≤ length (now (out .entry)) ⌝ }
-{
-    if out.len() - waiting >= LINE_ROOM {
-        return waiting;
-    }
-    write_out(out, waiting);
-    0
-}
-
-fn feed_from(
-    block: &[u8],
-    from: usize,
-    line: Line,
-    kept: &mut [u8],
-    out: &mut [u8],
-    waiting: usize,
-) -> Fed
-    requires { ⌜ (from < length (now block)) × (length (now kept) ≡ longest) × (waiting + lineRoom ≤ length (now out)) ⌝ }
-    ensures { λ r. ⌜ (0 < r .taken) × (r .taken ≤ length (now (block .entry)) - from) × (r .written ≤ length (now (out .entry)) - waiting) ⌝ }
-{
-    feed(&block[from..], line, kept, &mut out[waiting..])
-}
-
-// Answers every line that ends in the block, and writes out what waits: the next read may wait for more.
+// Answers every line that ends in the block, and writes the answers out: the next read may wait for more.
 fn feed_all(block: &[u8], line: Line, kept: &mut [u8], out: &mut [u8]) -> Line
-    requires { ⌜ (length (now kept) ≡ longest) × (lineRoom ≤ length (now out)) ⌝ }
+    requires { ⌜ (length (now kept) ≡ longest) × (T.lineRoom ≤ length (now out)) ⌝ }
+    ensures { λ r. ⌜ T.Carries (now (block .entry)) (T.stateOf line (now (kept .entry))) (length (now (block .entry))) (T.stateOf r (now (kept .exit))) ⌝ }
 {
     let mut known = line;
     let mut from = 0usize;
-    let mut waiting = 0usize;
     while from < block.len() {
-        waiting = make_room(out, waiting);
-        let fed = feed_from(block, from, known, kept, out, waiting);
+        let fed = feed_lines(&block[from..], known, kept, out);
+        write_out(out, fed.written);
         known = fed.line;
         from += fed.taken;
-        waiting += fed.written;
     }
-    write_out(out, waiting);
     known
 }
 
 fn read_block(line: Line, kept: &mut [u8], out: &mut [u8]) -> Turn
-    requires { ⌜ (length (now kept) ≡ longest) × (lineRoom ≤ length (now out)) ⌝ }
+    requires { ⌜ (length (now kept) ≡ longest) × (T.lineRoom ≤ length (now out)) ⌝ }
 {
     let mut block = io::large_buffer();
     let got = libc::read(STDIN_FILENO, &mut block);
@@ -86,7 +58,7 @@ fn read_block(line: Line, kept: &mut [u8], out: &mut [u8]) -> Turn
 
 // A proved loop has to end, and nothing says that the input does: the turns are counted down from a number that no run uses up.
 fn read_all(kept: &mut [u8], out: &mut [u8]) -> Line
-    requires { ⌜ (length (now kept) ≡ longest) × (lineRoom ≤ length (now out)) ⌝ }
+    requires { ⌜ (length (now kept) ≡ longest) × (T.lineRoom ≤ length (now out)) ⌝ }
 {
     let mut line = start();
     let mut turns = u64::MAX;

@@ -1,40 +1,72 @@
--- `feed_all` is safe and ends: each turn takes something of the block, and the output has room for what waits. Assumes nothing.
-use mathlib.Core.Path.{_≡_}
-use Prim.Native.Nat.{_-_, _≤_}
-use lib.ListN.{length}
+-- `feed_all` meets its contract. The invariant: there is a text that was to be printed for what is answered, whatever follows. Assumes nothing.
+use mathlib.Core.Path.{_≡_, refl, subst}
+use mathlib.Core.List.{List}
+use Prim.Native.Nat.{ℕ, _+_, _-_, _<_, _≤_}
+use native.Mathlib.Omega.{arith}
+use denote.Ref.{now}
+use lib.ListN.{length, take, drop, length-drop}
 use borrow.Author.Needs.{needs}
+use Rattle.binary64.proofs.Fill.{tail-part}
+use Rattle.lines.specs.State.{State, stateOf, Prints, Carries}
+use Rattle.lines.proofs.Parts.{carries-start, carries-then}
 use Rattle.ringcut.proofs.feed_all.Statement.{statement}
 use Rattle.ringcut.proofs.feed_all.Tie as tie
 
+-- what is left of the block, as it is lent
+module _ (block : List ℕ) (at : ℕ) {st₁ st₂ : State} {out out′ : List ℕ} {taken written : ℕ} where
+  part-within : at ≤ length block → Prints (take (length block - at) (drop at block)) st₁ out taken written st₂ out′ → at + taken ≤ length block
+  part-within h p = let q = rw (tail-part block at) at p in omega (arith, q .within, length-drop at block)
+
+  carries-part : {st : State} → Carries block st at st₁ → Prints (take (length block - at) (drop at block)) st₁ out taken written st₂ out′ → Carries block st (at + taken) st₂
+  carries-part c p = carries-then c (rw (tail-part block at) at p)
+
 abbrev Inv-loop : tie.InvT-loop
-Inv-loop block kept₀ out₀ known₀ from₀ waiting₀ kept out known from waiting = (length kept ≡ length kept₀) × (length out ≡ length out₀) × (waiting ≤ length out)
+Inv-loop block kept₀ out₀ known₀ from₀ kept out known from =
+    (length kept ≡ length kept₀) × (length out ≡ length out₀) × (from ≤ length block) × Carries block (stateOf known₀ kept₀) from (stateOf known kept)
 
 abbrev μ-loop : tie.MeasureT-loop
-μ-loop block kept₀ out₀ known₀ from₀ waiting₀ kept out known from waiting = length block - from
+μ-loop block kept₀ out₀ known₀ from₀ kept out known from = length block - from
 
 loop-holds : tie.Need-loop-holds Inv-loop μ-loop
-loop-holds c = search needs
+loop-holds c =
+    let a = c .before .before .before .args in
+    (refl, refl, omega arith, carries-start (now (a .block)) (stateOf (a .line) (now (a .kept))))
 
-make-room-requires : tie.Need-make-room-requires Inv-loop μ-loop
-make-room-requires c κs = search needs
+sub-feed-lines : tie.Need-sub-feed-lines Inv-loop μ-loop
+sub-feed-lines c = search needs
 
-feed-from-requires : tie.Need-feed-from-requires Inv-loop μ-loop
-feed-from-requires c κs = search needs
+part-feed-lines-start : tie.Need-part-feed-lines-start Inv-loop μ-loop
+part-feed-lines-start c = search needs
 
-add-from : tie.Need-add-from Inv-loop μ-loop
-add-from c = search needs
+part-feed-lines-end : tie.Need-part-feed-lines-end Inv-loop μ-loop
+part-feed-lines-end c = search needs
 
-add-waiting : tie.Need-add-waiting Inv-loop μ-loop
-add-waiting c = search needs
-
-loop-less : tie.Need-loop-less Inv-loop μ-loop
-loop-less c = search needs
-
-loop-again : tie.Need-loop-again Inv-loop μ-loop
-loop-again c = search needs
+feed-lines-requires : tie.Need-feed-lines-requires Inv-loop μ-loop
+feed-lines-requires c κs = search needs
 
 write-out-requires : tie.Need-write-out-requires Inv-loop μ-loop
-write-out-requires c κs = search needs
+write-out-requires c κs = search (needs, c .before .before .before .before .before .feed-lines .ensures .prints .room)
+
+add-from : tie.Need-add-from Inv-loop μ-loop
+add-from c =
+    let block = now (c .before .before .before .before .before .before .before .before .before .before .before .before .before .before .before .before .args .block) in
+    let l = c .before .before .before .before .before .before .before .before .before .before .before .before .loop in
+    search (needs, part-within block (l .from) (l .inv .2) (c .before .before .before .before .before .before .before .feed-lines .ensures .prints))
+
+loop-less : tie.Need-loop-less Inv-loop μ-loop
+loop-less c =
+    let block = now (c .before .before .before .before .before .before .before .before .before .before .before .before .before .before .before .before .args .block) in
+    let l = c .before .before .before .before .before .before .before .before .before .before .before .before .loop in
+    let f = c .before .before .before .before .before .before .before .feed-lines .ensures in
+    let some : 0 < c .before .before .before .before .before .before .before .feed-lines .result .taken = f .some (search needs) in
+    search (needs, some, part-within block (l .from) (l .inv .2) (f .prints))
+
+loop-again : tie.Need-loop-again Inv-loop μ-loop
+loop-again c =
+    let block = now (c .before .before .before .before .before .before .before .before .before .before .before .before .before .before .before .before .args .block) in
+    let l = c .before .before .before .before .before .before .before .before .before .before .before .before .loop in
+    let f = c .before .before .before .before .before .before .before .feed-lines .ensures in
+    (search needs, search needs, part-within block (l .from) (l .inv .2) (f .prints), carries-part block (l .from) (l .inv .3) (f .prints))
 
 same-length : tie.Need-same-length Inv-loop μ-loop
 same-length c = search needs
@@ -43,7 +75,11 @@ same-length-2 : tie.Need-same-length-2 Inv-loop μ-loop
 same-length-2 c = search needs
 
 returns : tie.Need-returns Inv-loop μ-loop
-returns c = search needs
+returns c =
+    let a = c .before .before .before .before .before .args in
+    let l = c .before .loop in
+    let all : l .from ≡ length (now (a .block)) = omega arith in
+    subst (λ (n : ℕ). Carries (now (a .block)) (stateOf (a .line) (now (a .kept))) n (stateOf (l .known) (l .kept))) all (l .inv .3)
 
 pub feed-all-spec : {M : Type 1} → statement M
 feed-all-spec =
@@ -52,13 +88,14 @@ feed-all-spec =
     Inv-loop
     μ-loop
     loop-holds
-    make-room-requires
-    feed-from-requires
+    sub-feed-lines
+    part-feed-lines-start
+    part-feed-lines-end
+    feed-lines-requires
+    write-out-requires
     add-from
-    add-waiting
     loop-less
     loop-again
-    write-out-requires
     same-length
     same-length-2
     returns)

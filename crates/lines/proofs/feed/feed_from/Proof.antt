@@ -1,8 +1,14 @@
--- `feed_from` meets its contract: the slices that it lends are long enough, so something is taken. Assumes nothing.
+-- `feed_from` meets its contract: the slices that it lends are as `feed` asks, so something is taken. Assumes nothing.
+use mathlib.Core.Path.{refl}
+use Prim.Native.Nat.{_≤_}
+use native.Mathlib.Omega.{arith}
+use denote.Ref.{now}
+use lib.ListN.{length}
 use borrow.Author.Needs.{needs}
 use Rattle.lines.proofs.Feeding.{takes-some}
-use Rattle.ringcut.proofs.feed_from.Statement.{statement}
-use Rattle.ringcut.proofs.feed_from.Tie as tie
+use Rattle.lines.proofs.Parts.{part-prints}
+use Rattle.lines.proofs.feed.feed_from.Statement.{statement}
+use Rattle.lines.proofs.feed.feed_from.Tie as tie
 
 sub-feed : tie.Need-sub-feed
 sub-feed c = search needs
@@ -33,8 +39,11 @@ same-length-2 c = search needs
 
 returns : tie.Need-returns
 returns c =
+    let a = c .before .before .before .before .before .before .before .before .before .before .before .args in
     let f = c .before .before .before .before .feed .ensures in
-    (takes-some f (search needs) (search needs) (search needs), search needs, search needs)
+    let fits : a .waiting ≤ length (now (a .out)) = omega arith in
+    let p = part-prints (now (a .block)) (now (a .out)) _ _ (a .from) (a .waiting) fits refl (f .prints) in
+    (p .0, p .1, takes-some f (search needs) (search needs) (search needs))
 
 pub feed-from-spec : {M : Type 1} → statement M
 feed-from-spec =
