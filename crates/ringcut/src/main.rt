@@ -49,6 +49,7 @@ fn read_block(line: Line, kept: &mut [u8], out: &mut [u8]) -> Turn
 {
     let mut block = io::large_buffer();
     let got = libc::read(STDIN_FILENO, &mut block);
+    // A read that fails ends the work as the end of the input does: there is no exit status to tell it by.
     if got <= 0 {
         return Turn::End;
     }
