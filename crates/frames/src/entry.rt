@@ -24,8 +24,8 @@ use clip::rectangle::intersects_bounds;
 use clip::rectangle::is_fully_inside;
 use tile::TileBounds;
 
-// The longest frames of the smaller sizes of working arrays: with 8, 32 and 81 coordinates in a ring, closed.
-const SMALL: usize = 175;
+// The longest frames of the smaller sizes of working arrays: with 6, 32 and 81 coordinates in a ring, closed.
+const SMALL: usize = 143;
 
 const MEDIUM: usize = 559;
 
@@ -38,13 +38,13 @@ pub enum FrameAnswer {
 }
 
 fn answer_small(frame: &[u8], head: Head, rect: Rect, bounds: TileBounds, out: &mut [u8]) -> usize
-    requires { ⌜ Y.Cuttable (now frame) head (length (now out)) × (length (now frame) ≤ 175) ⌝ }
+    requires { ⌜ Y.Cuttable (now frame) head (length (now out)) × (length (now frame) ≤ 143) ⌝ }
     ensures { λ r. ⌜ S.Answers (Y.answerMeasured head rect bounds (Y.partsOf (F.readFrame (now (frame .entry))))) (now (out .entry)) r (now (out .exit)) ⌝ }
 {
-    let mut ring = [0.0; 16];
-    let mut a = [0.0; 84];
-    let mut b = [0.0; 84];
-    let mut order = [0u32; 42];
+    let mut ring = [0.0; 12];
+    let mut a = [0.0; 60];
+    let mut b = [0.0; 60];
+    let mut order = [0u32; 30];
     answer_in(
         frame,
         head,

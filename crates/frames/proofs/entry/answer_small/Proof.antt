@@ -25,7 +25,7 @@ answer-in-requires : tie.Need-answer-in-requires
 unfolding B fourHalfGrowths halfGrowth
 answer-in-requires c κs =
     let a = c .before .before .before .before .before .before .before .args in
-    ready (now (a .frame)) (a .head) 8 _ _ _ _ _ (c .before .before .before .before .before .before .before .pre .0) (omega (arith, c .before .before .before .before .before .before .before .pre .1)) (omega arith) (omega arith) (omega arith) (omega arith) (omega arith)
+    ready (now (a .frame)) (a .head) 6 _ _ _ _ _ (c .before .before .before .before .before .before .before .pre .0) (omega (arith, c .before .before .before .before .before .before .before .pre .1)) (omega arith) (omega arith) (omega arith) (omega arith) (omega arith)
 
 same-length : tie.Need-same-length
 same-length c = search needs
