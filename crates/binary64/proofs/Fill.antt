@@ -2,11 +2,12 @@
 use mathlib.Core.Path.{_≡_, refl, sym, _∙_}
 use mathlib.Core.List.{List, [], _∷_, _++_, append-nil, append-assoc}
 use Prim.Native.Nat.{ℕ, suc, _+_, _-_, _≤_, _<_}
-use native.Mathlib.Nat.{add-zero}
+use native.Mathlib.Nat.{zero-add, add-zero}
 use native.Mathlib.Numerals.{add-one}
 use native.Mathlib.Omega.{arith}
 use lib.ListN.{length, getD, take, drop, set, length-set, length-drop, drop-of-length-le}
 use lib.Seq.{sets, sets-eq, set-at, take-suc, take-all, drop-cons, drop-drop, length-take-le}
+use Rattle.binary64.specs.Slices.{over}
 
 pub record Upto {A : Type 0} (F d : List A) (j : ℕ) (l : List A) : Type 0 where
   pub here : l ≡ take j F ++ drop j d
@@ -49,3 +50,7 @@ sets-part from to part to′ at k hf ht hp h =
     let l : length (drop at to) ≤ length to - at = omega (arith, length-drop at to) in
     let e : drop (length to - at) (drop at to) ≡ [] = drop-of-length-le (drop at to) l in
     h ∙ rw (e, append-nil, hp, tail-part to at, drop-drop k at to) (sym (sets-eq (take k from) to at (omega arith) ∙ rw (n, append-assoc)))
+
+-- all that is written, from the front
+pub whole-over : {A : Type 0} (vs l : List A) → length vs ≤ length l → sets l 0 vs ≡ over vs l
+whole-over vs l h = sets-eq vs l 0 (omega arith) ∙ rw (zero-add (length vs))

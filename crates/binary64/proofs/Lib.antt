@@ -1,4 +1,5 @@
 mod Arithmetic
+pub mod Booleans
 pub mod Comparisons
 pub mod Cut
 pub mod Fill

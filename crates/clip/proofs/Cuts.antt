@@ -6,12 +6,12 @@ use Prim.Native.Nat.{ℕ, zero, suc, _+_, _*_, _<_, _≤_}
 use native.Mathlib.Omega.{arith}
 use borrow.Author.Tests.{lt-ltb}
 use lib.Ieee.{Float}
-use lib.ListN.{length, take, drop, length-append}
+use lib.ListN.{length, take, drop}
 use lib.Seq.{take-at, length-take-le}
 use Rattle.tile.specs.declared.Coord.{Coord}
 use Rattle.tile.specs.declared.TileBounds.{TileBounds}
-use Rattle.tile.specs.Ring.{coords, flat, closed, close, Written}
-use Rattle.tile.proofs.Rings.{length-front, length-flat, coords-flat, coords-front, length-close}
+use Rattle.tile.specs.Ring.{coords, flat, close, Written}
+use Rattle.tile.proofs.Rings.{length-front, length-flat, coords-flat, coords-front, length-close, close-most}
 use Rattle.box_pairs.specs.declared.Issue.{Issue}
 use Rattle.box_pairs.specs.Issue.{hasIssue, issueOf}
 use Rattle.sutherland_hodgman.specs.Growth.{fourHalfGrowths, B}
@@ -19,13 +19,13 @@ use Rattle.sutherland_hodgman.specs.Clip.{leaveOff, around, pass, passes, finis
 use Rattle.sutherland_hodgman.specs.Cutter.{Room, Cut}
 use Rattle.sutherland_hodgman.proofs.Growth.{halfGrowth-mono, clipRing-grows, B-positive, le-four}
 use Rattle.sutherland_hodgman.proofs.LeavingOff.{clip-close}
-use Rattle.clip.specs.declared.bridge.Bridge.{Bridge}
-use Rattle.clip.specs.declared.bridge.Bridge.the-variants.{None, Along}
+use Rattle.rings.specs.declared.bridge.Bridge.{Bridge}
+use Rattle.rings.specs.declared.bridge.Bridge.the-variants.{None, Along}
 use Rattle.clip.specs.declared.polygon.Flags.{Flags}
 use Rattle.clip.specs.declared.polygon.Reason.the-variants as Because
 use Rattle.clip.specs.declared.polygon.Route.{Route}
 use Rattle.clip.specs.declared.polygon.Route.the-variants as To
-use Rattle.clip.specs.Polygon.{overlayIfIssue, bridgeUnlessSkipped, overlayIfBridge, cutExterior, routeCut, leftOut, cutHole, RingRoom, Stands, CutStands}
+use Rattle.clip.specs.Polygon.{overlayIfIssue, bridgeUnlessSkipped, overlayIfBridge, cutExterior, routeCut, leftOut, cutHole, RingRoom, Stands, CutStands, cutRings, unlessNone, cutHoles}
 
 -- ---- room
 
@@ -43,15 +43,6 @@ le-B (suc n) = omega (arith, le-four (suc n))
 -- the room of a ring with coordinates is for at least two more than it has
 pub two-more : (n : ℕ) → 0 < n → n + 2 ≤ B n
 two-more n h = omega (arith, le-four n, B-positive n (λ e. omega arith))
-
-pub close-most : (l : List Coord) → length (close l) ≤ suc (length l)
-unfolding close
-close-most [] = omega arith
-close-most (p ∷ r) = go (closed (p ∷ r))
-  where
-    go : (t : Bool) → length (cond t (p ∷ r) ((p ∷ r) ++ (p ∷ []))) ≤ suc (length (p ∷ r))
-    go true = omega arith
-    go false = omega (arith, length-append (p ∷ r) (p ∷ []))
 
 close-none : close [] ≡ []
 unfolding close
@@ -137,3 +128,14 @@ module _ (flags : Flags) (b : TileBounds) (r ring : List Coord) (issue : Issue) 
       go true bridge = tt
       go false (Along edge) = tt
       go false None = (stands, some)
+
+-- ---- all rings of a cut
+
+module _ (b : TileBounds) (r : List Coord) (rest : List (List Coord)) (some : 0 < length (cutExterior b r)) where
+  pub cut-rings : cutRings b (r ∷ rest) ≡ unlessNone (cutExterior b r) (cutHoles b rest)
+  unfolding cutRings
+  cut-rings = go (cutExterior b r) some
+    where
+      go : (c : List Coord) → 0 < length c → c ∷ cutHoles b rest ≡ unlessNone c (cutHoles b rest)
+      go [] h = absurd (omega arith)
+      go (p ∷ c) h = refl

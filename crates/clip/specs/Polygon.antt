@@ -15,18 +15,21 @@ use Rattle.box_pairs.specs.declared.Issue.{Issue}
 use Rattle.box_pairs.specs.Issue.{issueOf, hasIssue}
 use Rattle.sutherland_hodgman.specs.Growth.{B, mostCoordinates}
 use Rattle.sutherland_hodgman.specs.Clip.{clipRing}
-use Rattle.clip.specs.declared.bridge.Bridge.{Bridge}
-use Rattle.clip.specs.declared.bridge.Bridge.the-variants.{None, Along}
-use Rattle.clip.specs.declared.rectangle.Rect.{Rect}
-use Rattle.clip.specs.declared.rectangle.Rect.the-variants as Rects
+use Rattle.rings.specs.declared.bridge.Bridge.{Bridge}
+use Rattle.rings.specs.declared.bridge.Bridge.the-variants.{None, Along}
+use Rattle.rings.specs.declared.rectangle.Rect.{Rect}
+use Rattle.rings.specs.declared.rectangle.Rect.the-variants as Rects
 use Rattle.clip.specs.declared.polygon.Flags.{Flags}
 use Rattle.clip.specs.declared.polygon.Reason.{Reason}
 use Rattle.clip.specs.declared.polygon.Reason.the-variants as Because
 use Rattle.clip.specs.declared.polygon.Route.{Route}
 use Rattle.clip.specs.declared.polygon.Route.the-variants as To
-use Rattle.clip.specs.Bridge.{firstBridge}
-use Rattle.clip.specs.Rectangle.{rectangle, intersectsBounds, isFullyInside}
-use Rattle.clip.specs.Representable.{anyHugeRing}
+use Rattle.rings.specs.Bridge.{firstBridge}
+use Rattle.rings.specs.Rectangle.{rectangle, intersectsBounds, isFullyInside}
+use Rattle.rings.specs.Representable.{anyHugeRing}
+use Rattle.rings.specs.Rings.{exterior}
+use Rattle.clip.specs.declared.polygon.PolygonAnswer.{PolygonAnswer}
+use Rattle.clip.specs.declared.polygon.PolygonAnswer.the-variants as Is
 
 -- ---- the exterior decides
 
@@ -99,10 +102,6 @@ routed To.Unchanged b rings = unchanged
 routed (To.Cut n) b rings = cut (cutRings b rings)
 routed (To.Overlay reason) b rings = overlayOrDropped rings reason
 
-abbrev pub exterior : List (List Coord) → List Coord
-exterior [] = []
-exterior (r ∷ rs) = r
-
 -- a polygon as if rect were its rectangle; `routeRect` gives it one of four numbers
 abbrev pub routeMeasured : Flags → Rect → TileBounds → List (List Coord) → Routed
 routeMeasured flags rect b rings = routed (routeExterior flags rect b (exterior rings)) b rings
@@ -129,6 +128,40 @@ abbrev pub reasonNumber : Reason → ℕ
 reasonNumber (Because.Input issue) = 1
 reasonNumber (Because.Cut issue) = 2
 reasonNumber (Because.Bridge edge) = edgeNumber edge
+
+-- ---- answers
+
+-- the answer, without the rings of a cut
+abbrev pub answerOf : Routed → PolygonAnswer
+answerOf nothing = Is.Nothing
+answerOf dropped = Is.Dropped
+answerOf unchanged = Is.Unchanged
+answerOf (cut rings) = Is.Cut (length rings)
+answerOf (overlay reason) = Is.Overlay reason
+
+-- "dropped, guard count 1"; every other answer has none
+abbrev pub guardCount : PolygonAnswer → ℕ
+guardCount Is.Nothing = 0
+guardCount Is.Dropped = 1
+guardCount Is.Unchanged = 0
+guardCount (Is.Cut rings) = 0
+guardCount (Is.Overlay reason) = 0
+
+-- "(0 nothing, 1 whole dropped, 2 whole unchanged, ..", "(2 unchanged, 4 cut, 5 overlay)"
+abbrev pub answerNumber : PolygonAnswer → ℕ
+answerNumber Is.Nothing = 0
+answerNumber Is.Dropped = 1
+answerNumber Is.Unchanged = 2
+answerNumber (Is.Cut rings) = 4
+answerNumber (Is.Overlay reason) = 5
+
+-- "reason, 1 byte, 0 unless overlay"
+abbrev pub answerReason : PolygonAnswer → ℕ
+answerReason Is.Nothing = 0
+answerReason Is.Dropped = 0
+answerReason Is.Unchanged = 0
+answerReason (Is.Cut rings) = 0
+answerReason (Is.Overlay reason) = reasonNumber reason
 
 -- ---- what the code asks for and leaves
 

@@ -1,7 +1,2 @@
-// Routing of one polygon: what becomes of it at a tile. `polygon` decides by the exterior and cuts rings, `rings` walks over all rings of a lent polygon, `slice` is the slice call.
-pub mod bridge;
+// Routing of one polygon: what becomes of it at a tile. Its exterior decides; its rings are cut one by one.
 pub mod polygon;
-pub mod rectangle;
-pub mod representable;
-pub mod rings;
-pub mod slice;

@@ -6,14 +6,14 @@ ghost use lib.ListN.{length, take};
 ghost use Rattle.tile.specs.Ring.{coords, close as closed};
 ghost use Rattle.box_pairs.specs.Issue.{hasIssue, issueOf};
 ghost use Rattle.clip.specs.Polygon as S;
-use super::bridge::Bridge;
-use super::bridge::first_bridge;
-use super::rectangle::Rect;
-use super::rectangle::intersects_bounds;
-use super::rectangle::is_fully_inside;
 use binary64::slices::copy;
 use box_pairs::Issue;
 use box_pairs::find_issue;
+use rings::bridge::Bridge;
+use rings::bridge::first_bridge;
+use rings::rectangle::Rect;
+use rings::rectangle::intersects_bounds;
+use rings::rectangle::is_fully_inside;
 use sutherland_hodgman::clip_ring;
 use tile::Edge;
 use tile::TileBounds;
@@ -36,6 +36,15 @@ pub enum Reason {
 // What the exterior decides; a cut exterior has so many coordinates.
 pub enum Route {
     Nothing,
+    Unchanged,
+    Cut(usize),
+    Overlay(Reason),
+}
+
+// What becomes of a polygon; of a cut, how many rings it has. Dropped means guard count 1.
+pub enum PolygonAnswer {
+    Nothing,
+    Dropped,
     Unchanged,
     Cut(usize),
     Overlay(Reason),

@@ -1,7 +1,7 @@
 -- A cut part of a frame: its exterior and its holes have room, and what is written is the part's bytes. Assumes nothing.
 use mathlib.Core.Path.{_≡_, refl, sym, _∙_, ap}
 use mathlib.Core.List.{List, [], _∷_, _++_, append-assoc}
-use Prim.Native.Nat.{ℕ, _+_, _*_, _-_, _<_, _≤_}
+use Prim.Native.Nat.{ℕ, _+_, _*_, _-_, _≤_}
 use native.Mathlib.Omega.{arith}
 use lib.Ieee.{Float}
 use lib.ListN.{length, take, drop, length-append}
@@ -12,56 +12,23 @@ use Rattle.tile.specs.declared.TileBounds.{TileBounds}
 use Rattle.tile.specs.Ring.{coords, flat, close}
 use Rattle.tile.proofs.Rings.{coords-flat}
 use Rattle.sutherland_hodgman.specs.Growth.{B}
-use Rattle.clip.specs.Polygon.{unlessNone, cutExterior, cutHoles, cutRings, cut, overlay, exterior, reasonNumber, Stands, ExteriorRoom}
+use Rattle.clip.specs.Polygon.{unlessNone, cutExterior, cutHoles, cutRings, cut, overlay, reasonNumber, Stands, ExteriorRoom}
+use Rattle.rings.specs.Rings.{exterior, largest, total}
 use Rattle.clip.specs.declared.polygon.Reason.{Reason}
-use Rattle.clip.specs.Representable.{anyHugeRing}
-use Rattle.clip.specs.Rings.{largest}
-use Rattle.clip.proofs.Cuts.{B-mono, cut-fits-room}
-use Rattle.clip.proofs.Holes.{cut-rings}
-use Rattle.clip.proofs.LentRings.{larger-least}
+use Rattle.rings.specs.Representable.{anyHugeRing}
+use Rattle.clip.proofs.Cuts.{B-mono, cut-fits-room, cut-rings}
+use Rattle.rings.proofs.LentRings.{larger-least}
 use Rattle.frames.specs.declared.part.Written.{Written}
-use Rattle.frames.specs.Frame.{Reading, refused, read, Accepted, mostRings, countOf, coordsOf, readRing, readMany, readPart}
-use Rattle.frames.specs.Room.{sumOf, partRoom}
-use Rattle.frames.specs.Encoding.{each, countBytes, coordBytes, ringBytes, partBytes}
-use Rattle.frames.specs.Part.{ringsIn, partAt, ringsFrom, writtenPart, PutRings, Working, RingsRoom, PartRoom, CutRoom}
-use Rattle.frames.specs.Measure.{hugeOf}
-use Rattle.frames.proofs.Coordinates.{decoded}
-use Rattle.frames.proofs.Readings.{taken}
-use Rattle.frames.proofs.Places.{part-at}
-use Rattle.frames.proofs.Writing.{sets-before, length-count}
-use Rattle.frames.proofs.Cutting.{NextRing, next-ring, working-later, working-ring, unless-append, unless-bytes, unless-count, put-then, ring-read-in}
-
--- ---- the rings of a part
-
-pub record PartRings (frame : List ℕ) (at : ℕ) : Type 0 where
-  pub whole : at + 2 ≤ length frame
-  pub some : 0 < countOf (drop at frame)
-  pub few : countOf (drop at frame) ≤ mostRings
-  pub accepted : Accepted (readMany readRing (countOf (drop at frame)) (drop (at + 2) frame))
-  pub same : partAt frame at ≡ ringsFrom frame (at + 2) (countOf (drop at frame))
-
-pub part-rings : (frame : List ℕ) (at : ℕ) → at ≤ length frame → Accepted (readPart (drop at frame)) → PartRings frame at
-part-rings frame at h a = let t = taken (readPart (drop at frame)) a in go (t .value) (t .rest) (t .is)
-  where
-    go : (part : List (List Coord)) (rest : List ℕ) → readPart (drop at frame) ≡ read part rest → PartRings frame at
-    go part rest e =
-        let p = part-at frame at part rest h e in
-        let r = p .rings in
-        record { whole = p .whole; some = p .some; few = p .few; accepted = rw r; same = ap ringsIn e ∙ sym (ap ringsIn r) }
-
--- the exterior, as it stands in the frame
-abbrev pub exteriorAt : List ℕ → ℕ → List Coord
-exteriorAt frame at = close (coordsOf (countOf (drop (at + 2) frame)) (drop (at + 2 + 2) frame))
-
-abbrev pub holesAt : List ℕ → ℕ → List (List Coord)
-holesAt frame at = ringsFrom frame (at + 2 + 2 + 16 * countOf (drop (at + 2) frame)) (countOf (drop at frame) - 1)
-
-module _ (frame : List ℕ) (at : ℕ) (h : at ≤ length frame) (a : Accepted (readPart (drop at frame))) where
-  pub first-ring : NextRing frame (at + 2) (countOf (drop at frame))
-  first-ring = let p = part-rings frame at h a in next-ring frame (at + 2) (countOf (drop at frame)) (p .whole) (p .some) (p .accepted)
-
-  pub part-here : partAt frame at ≡ exteriorAt frame at ∷ holesAt frame at
-  part-here = part-rings frame at h a .same ∙ first-ring .here
+use Rattle.frame_bytes.specs.Frame.{Reading, refused, read, mostRings, countOf, coordsOf, ringsIn, partAt}
+use Rattle.frame_bytes.specs.Room.{partRoom}
+use Rattle.frame_bytes.specs.Encoding.{each, countBytes, coordBytes, ringBytes}
+use Rattle.frames.specs.Output.{partBytes}
+use Rattle.frames.specs.Part.{writtenPart, PutRings, Working, RingsRoom, PartRoom, CutRoom}
+use Rattle.frame_bytes.specs.Measure.{hugeOf}
+use Rattle.frame_bytes.proofs.Coordinates.{decoded}
+use Rattle.frame_bytes.proofs.Writing.{sets-before, length-count}
+use Rattle.frame_bytes.proofs.PartRings.{part-rings, exteriorAt, holesAt, first-ring, part-here}
+use Rattle.frames.proofs.Cutting.{working-later, working-ring, unless-append, unless-bytes, unless-count, put-then, ring-read-in}
 
 -- ---- room
 
@@ -79,7 +46,7 @@ module _ (bounds : TileBounds) (frame : List ℕ) (at m ring a : ℕ) (b : List 
   output-here = rw here at (room .output)
 
   pub exterior-put : (2 * m ≤ length b) × (to + 6 + 2 + 16 * m ≤ out)
-  unfolding partRoom sumOf largest
+  unfolding partRoom total largest
   exterior-put =
       let g = larger-least (length (exteriorAt frame at)) (largest length (holesAt frame at)) in
       let s = B-mono (length (exteriorAt frame at)) (largest length (exteriorAt frame at ∷ holesAt frame at)) (g .0) in
@@ -91,7 +58,7 @@ module _ (bounds : TileBounds) (frame : List ℕ) (at m ring a : ℕ) (b : List 
 
   module _ (p r : Written) (o o′ : List ℕ) (put : PutRings (unlessNone (cutExterior bounds (exteriorAt frame at)) []) p o r o′) (e : p .next ≡ to + 6) (z : p .rings ≡ 0) where
     pub holes-room : RingsRoom frame (at + 2 + 2 + 16 * countOf (drop (at + 2) frame)) (countOf (drop at frame) - 1) ring a (length b) out r
-    unfolding partRoom sumOf
+    unfolding partRoom total
     holes-room =
         let n = first-ring frame at (room .within) (room .accepted) in
         record {

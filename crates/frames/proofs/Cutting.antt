@@ -13,40 +13,17 @@ use Rattle.tile.specs.Ring.{coords, flat, closed, close}
 use Rattle.tile.proofs.Rings.{coords-flat, length-close}
 use Rattle.sutherland_hodgman.specs.Growth.{B}
 use Rattle.clip.specs.Polygon.{cutHole, unlessNone, cutHoles, RingRoom, Stands}
-use Rattle.clip.specs.Rings.{largest, allClosed}
-use Rattle.clip.proofs.Closing.{both}
+use Rattle.rings.specs.Rings.{largest, allClosed, total, ringRoom}
+use Rattle.binary64.proofs.Booleans.{both}
 use Rattle.clip.proofs.Cuts.{B-mono, hole-fits-room}
-use Rattle.clip.proofs.LentRings.{larger-least}
+use Rattle.rings.proofs.LentRings.{larger-least}
 use Rattle.frames.specs.declared.part.Written.{Written}
-use Rattle.frames.specs.Frame.{read, Accepted, countOf, coordsOf, readRing, readMany}
-use Rattle.frames.specs.Room.{sumOf, ringRoom}
-use Rattle.frames.specs.Encoding.{each, coordBytes, ringBytes}
-use Rattle.frames.specs.Part.{ringsIn, ringsFrom, PutRings, Working, RingsRoom}
-use Rattle.frames.proofs.Readings.{taken, ring-reads}
-use Rattle.frames.proofs.Places.{step, ring-at}
-use Rattle.frames.proofs.Coordinates.{length-coordsOf, decoded}
-use Rattle.frames.proofs.Writing.{length-ring}
-
--- ---- the next of so many rings
-
-pub record NextRing (frame : List ℕ) (at k : ℕ) : Type 0 where
-  pub whole : at + 2 + 16 * countOf (drop at frame) ≤ length frame
-  pub here : ringsFrom frame at k ≡ close (coordsOf (countOf (drop at frame)) (drop (at + 2) frame)) ∷ ringsFrom frame (at + 2 + 16 * countOf (drop at frame)) (k - 1)
-  pub later : Accepted (readMany readRing (k - 1) (drop (at + 2 + 16 * countOf (drop at frame)) frame))
-
-pub next-ring : (frame : List ℕ) (at k : ℕ) → at ≤ length frame → 0 < k → Accepted (readMany readRing k (drop at frame)) → NextRing frame at k
-next-ring frame at k h pos a = let t = taken (readMany readRing k (drop at frame)) a in go (t .value) (t .rest) (t .is)
-  where
-    go : (all : List (List Coord)) (rest : List ℕ) → readMany readRing k (drop at frame) ≡ read all rest → NextRing frame at k
-    go all rest e =
-        let s = step readRing ring-reads frame at k all rest h pos e in
-        let r = ring-at frame at (s .value) (drop (s .next) frame) h (s .first) in
-        let n : readMany readRing (k - 1) (drop (at + 2 + 16 * countOf (drop at frame)) frame) ≡ read (s .others) rest = rw (← r .follows) (s .later) in
-        record {
-          whole = r .whole;
-          here = ap ringsIn e ∙ s .whole ∙ rw (r .coordinates, n);
-          later = rw n;
-        }
+use Rattle.frame_bytes.specs.Frame.{countOf, coordsOf, readMany, ringsFrom}
+use Rattle.frame_bytes.specs.Encoding.{each, coordBytes, ringBytes}
+use Rattle.frames.specs.Part.{PutRings, Working, RingsRoom}
+use Rattle.frame_bytes.proofs.Coordinates.{length-coordsOf, decoded}
+use Rattle.frame_bytes.proofs.Writing.{length-ring}
+use Rattle.frame_bytes.proofs.PartRings.{NextRing, next-ring}
 
 -- ---- the working slices
 
@@ -149,7 +126,7 @@ module _ (bounds : TileBounds) (frame : List ℕ) (at k ring a b out : ℕ) (p :
   working-here : Working (ringHere ∷ rest) ring a b
   working-here = rw (hole .here) at (room .working)
 
-  output-here : p .next + (2 * length (ringHere ∷ rest) + 16 * sumOf ringRoom (ringHere ∷ rest)) ≤ out
+  output-here : p .next + (2 * length (ringHere ∷ rest) + 16 * total ringRoom (ringHere ∷ rest)) ≤ out
   output-here = rw (hole .here) at (room .output)
 
   pub hole-room : (s : List Float) → length s ≡ ring → (2 * countOf (drop at frame) ≤ ring) × RingRoom (countOf (drop at frame)) (sets s 0 (flat (coordsOf (countOf (drop at frame)) (drop (at + 2) frame)))) a b
@@ -161,14 +138,14 @@ module _ (bounds : TileBounds) (frame : List ℕ) (at k ring a b out : ℕ) (p :
 
   module _ (m : ℕ) (after : List Float) (st : Stands (cutHole bounds ringHere) m after) where
     pub cut-room : length after ≡ b → (2 * m ≤ length after) × (p .next + 2 + 16 * m ≤ out)
-    unfolding sumOf
+    unfolding total
     cut-room e = let f = hole-fits-room bounds ringHere in (omega (arith, st .count, second-here), omega (arith, st .count, output-here))
 
     pub cut-ring : coords (take (2 * m) after) ≡ cutHole bounds ringHere
     cut-ring = rw (st .numbers) (coords-flat (cutHole bounds ringHere))
 
   pub next-room : (o : List ℕ) (r : Written) (o′ : List ℕ) → PutRings (unlessNone (cutHole bounds ringHere) []) p o r o′ → RingsRoom frame (at + 2 + 16 * countOf (drop at frame)) (k - 1) ring a b out r
-  unfolding sumOf
+  unfolding total
   next-room o r o′ put = record {
     within = hole .whole;
     accepted = hole .later;

@@ -12,30 +12,32 @@ use Rattle.tile.specs.declared.TileBounds.{TileBounds}
 use Rattle.box_pairs.specs.Issue.{issueOf, hasIssue}
 use Rattle.sutherland_hodgman.specs.Growth.{B}
 use Rattle.clip.specs.declared.polygon.Flags.{Flags}
-use Rattle.clip.specs.declared.rectangle.Rect.{Rect}
-use Rattle.clip.specs.declared.rectangle.Rect.the-variants as Rects
-use Rattle.clip.specs.Rectangle.{rectangle, withRings, intersectsBounds, isFullyInside}
+use Rattle.rings.specs.declared.rectangle.Rect.{Rect}
+use Rattle.rings.specs.declared.rectangle.Rect.the-variants as Rects
+use Rattle.rings.specs.Rectangle.{rectangle, withRings, intersectsBounds, isFullyInside, withParts}
 use Rattle.clip.specs.Polygon as P
-use Rattle.clip.proofs.Closing.{both}
-use Rattle.clip.proofs.Holes.{whole-over}
-use Rattle.frames.specs.declared.head.Head.{Head}
-use Rattle.frames.specs.declared.reader.FrameRefusal.{FrameRefusal}
-use Rattle.frames.specs.declared.reader.FrameCheck.the-variants.{Fails}
+use Rattle.binary64.proofs.Booleans.{both, neither}
+use Rattle.binary64.proofs.Fill.{whole-over}
+use Rattle.frame_bytes.specs.declared.head.Head.{Head}
+use Rattle.frame_bytes.specs.declared.reader.FrameRefusal.{FrameRefusal}
+use Rattle.frame_bytes.specs.declared.reader.FrameCheck.the-variants.{Fails}
 use Rattle.frames.specs.declared.entry.FrameAnswer.the-variants.{Refused, Answered}
-use Rattle.frames.specs.Frame.{Reading, refused, read, checkOf, Accepted, polygon, multipolygon, longest, mostParts, mostCoordinates, headBytes, readPart, Frame, kindOf, partCountOf, wrongKind, wrongPartCount, headOf, readFrame}
-use Rattle.frames.specs.Room.{leastRoom, coordinateBytes, sumOf, partRoom, room, frameRoom, readCall}
-use Rattle.frames.specs.Answer.{Part, Answer, Nothing, Unchanged, ofPolygon, routePart, listedBefore, listParts, ofParts, withParts, ifBox, ofMultipolygon, flagsIn, boundsIn, onlyPart, answerTo}
-use Rattle.frames.specs.Encoding.{each, coordBytes, headerBytes, partBytes, answerBytes, frameBytes, outputAfter, callOutput}
-use Rattle.frames.specs.Measure.{frameRect, soundIfSimple}
-use Rattle.frames.specs.Part.{partAt, PartRoom}
+use Rattle.frame_bytes.specs.Frame.{Reading, refused, read, checkOf, Accepted, polygon, multipolygon, longest, mostParts, mostCoordinates, headBytes, readPart, Frame, kindOf, partCountOf, wrongKind, wrongPartCount, headOf, readFrame, partAt}
+use Rattle.frame_bytes.specs.Room.{leastRoom, coordinateBytes, partRoom, room, frameRoom, readCall}
+use Rattle.rings.specs.Rings.{total, exterior}
+use Rattle.frames.specs.Answer.{Part, Answer, Nothing, Unchanged, ofPolygon, routePart, listedBefore, listParts, ofParts, ifBox, ofMultipolygon, flagsIn, boundsIn, onlyPart, answerTo}
+use Rattle.frame_bytes.specs.Encoding.{each, coordBytes, headerBytes}
+use Rattle.frames.specs.Output.{partBytes, answerBytes, frameBytes, outputAfter, callOutput}
+use Rattle.frame_bytes.specs.Measure.{frameRect, soundIfSimple}
+use Rattle.frames.specs.Part.{PartRoom}
 use Rattle.frames.specs.Parts.{partsIn, partsFrom, ofListing, Answers}
 use Rattle.frames.specs.Entry.{answerOfReading, callAnswer, partsOf, answerRead, answerMeasured, unchangedAtOnce, PartsReady, Answerable, Cuttable}
-use Rattle.frames.proofs.Readings.{neither, taken, many-length, frame-read}
-use Rattle.frames.proofs.Rooms.{mostPart, parts-le, frame-head, frame-few, frame-parts, call-read}
-use Rattle.frames.proofs.Writing.{length-header}
+use Rattle.frame_bytes.proofs.Readings.{taken, many-length, frame-read}
+use Rattle.frame_bytes.proofs.Rooms.{mostPart, parts-le, frame-head, frame-few, frame-parts, call-read}
+use Rattle.frame_bytes.proofs.Writing.{length-header}
 use Rattle.frames.proofs.Cutting.{each-append}
 use Rattle.frames.proofs.Listings.{routed-as, listed-append, routed-fits, listed-fits, NextPart, next-part, part-next, part-room}
-use Rattle.frames.proofs.SimpleExteriors.{sound-part}
+use Rattle.frame_bytes.proofs.SimpleExteriors.{sound-part}
 use Rattle.frames.proofs.Sizes.{parts-fit}
 
 -- ---- what an accepted frame holds
@@ -61,7 +63,7 @@ pub record Holds (frame : List ℕ) : Type 0 where
   pub long : length frame ≤ longest
   pub parts-from : partsFrom frame headBytes (partCountOf frame) ≡ partsOf (readFrame frame)
   pub rect : frameRect (readFrame frame) ≡ withParts Rects.Nothing (partsOf (readFrame frame))
-  pub fits : frameRoom coordinateBytes (readFrame frame) ≡ leastRoom + sumOf (partRoom coordinateBytes) (partsOf (readFrame frame))
+  pub fits : frameRoom coordinateBytes (readFrame frame) ≡ leastRoom + total (partRoom coordinateBytes) (partsOf (readFrame frame))
   pub kinds : eqb (kindOf frame) multipolygon ≡ not (eqb (kindOf frame) polygon)
   pub only : eqb (kindOf frame) polygon ≡ true → partCountOf frame ≡ 1
 
@@ -132,7 +134,7 @@ module _ (frame : List ℕ) (a : Accepted (readFrame frame)) (k : eqb (kindOf fr
   pub only-accepted : Accepted (readPart (drop headBytes frame))
   only-accepted = only-next .accepted
 
-  pub only-sound : soundIfSimple (readPart (drop headBytes frame)) ≡ not (hasIssue (issueOf true (P.exterior (onlyPart (partsOf (readFrame frame))))))
+  pub only-sound : soundIfSimple (readPart (drop headBytes frame)) ≡ not (hasIssue (issueOf true (exterior (onlyPart (partsOf (readFrame frame))))))
   only-sound =
       let same : onlyPart (partsOf (readFrame frame)) ≡ partAt frame headBytes = ap onlyPart (sym (holds frame a .parts-from) ∙ only-next .here) in
       rw same (sound-part frame headBytes only-accepted)
@@ -221,10 +223,10 @@ module _ (frame : List ℕ) (head : Head) (out : ℕ) (c : Cuttable frame head o
     where
       go : (t : Bool) → eqb (head .kind) polygon ≡ t → answerRead (readFrame frame) ≡ Unchanged
       go true k =
-          let u : (isFullyInside rect b && (head .«assume_simple» && not (hasIssue (issueOf true (P.exterior (onlyPart parts)))))) ≡ true = rw (other-kinds true k) at j in
+          let u : (isFullyInside rect b && (head .«assume_simple» && not (hasIssue (issueOf true (exterior (onlyPart parts)))))) ≡ true = rw (other-kinds true k) at j in
           let v = both (isFullyInside rect b) _ u in
           let w = both (head .«assume_simple») _ (v .1) in
-          of-polygon k ∙ rw (i, w .0, not-true (hasIssue (issueOf true (P.exterior (onlyPart parts)))) (w .1), v .0)
+          of-polygon k ∙ rw (i, w .0, not-true (hasIssue (issueOf true (exterior (onlyPart parts)))) (w .1), v .0)
       go false k =
           let u : (isFullyInside rect b && true) ≡ true = rw (other-kinds false k) at j in
           of-multipolygon k ∙ rw (i, both (isFullyInside rect b) true u .0)
@@ -244,8 +246,8 @@ module _ (frame : List ℕ) (head : Head) (out : ℕ) (c : Cuttable frame head o
 
 -- ---- the answer's bytes have room
 
-listing-fits : (flags : Flags) (b : TileBounds) (i : ℕ) (parts : List (List (List Coord))) → length (each (partBytes coordBytes) (listParts flags b i parts .parts)) ≤ sumOf (partRoom 16) parts
-unfolding listParts sumOf each
+listing-fits : (flags : Flags) (b : TileBounds) (i : ℕ) (parts : List (List (List Coord))) → length (each (partBytes coordBytes) (listParts flags b i parts .parts)) ≤ total (partRoom 16) parts
+unfolding listParts total each
 listing-fits flags b i [] = omega arith
 listing-fits flags b i (part ∷ parts) =
     let f = partBytes coordBytes in
@@ -271,18 +273,18 @@ route-fits : (flags : Flags) (rect : Rect) (b : TileBounds) (rings : List (List 
 unfolding P.routeRect each
 route-fits flags Rects.Nothing b rings = omega arith
 route-fits flags Rects.NotFinite b rings = omega arith
-route-fits flags (Rects.Box w s e n) b rings = routed-fits 0 b rings (P.routeExterior flags (Rects.Box w s e n) b (P.exterior rings))
+route-fits flags (Rects.Box w s e n) b rings = routed-fits 0 b rings (P.routeExterior flags (Rects.Box w s e n) b (exterior rings))
 
-polygon-fits : (flags : Flags) (b : TileBounds) (parts : List (List (List Coord))) → length (answerBytes coordBytes (ofPolygon (P.route flags b (onlyPart parts)))) ≤ 5 + sumOf (partRoom 16) parts
-unfolding P.route P.routeRect withRings sumOf answerBytes
+polygon-fits : (flags : Flags) (b : TileBounds) (parts : List (List (List Coord))) → length (answerBytes coordBytes (ofPolygon (P.route flags b (onlyPart parts)))) ≤ 5 + total (partRoom 16) parts
+unfolding P.route P.routeRect withRings total answerBytes
 polygon-fits flags b [] = omega (arith, length-header 0 0 0)
 polygon-fits flags b (part ∷ parts) = omega (arith, polygon-bytes (P.route flags b part), route-fits flags (rectangle part) b part)
 
-multipolygon-fits : (flags : Flags) (b : TileBounds) (parts : List (List (List Coord))) → length (answerBytes coordBytes (ofMultipolygon flags b parts)) ≤ 5 + sumOf (partRoom 16) parts
+multipolygon-fits : (flags : Flags) (b : TileBounds) (parts : List (List (List Coord))) → length (answerBytes coordBytes (ofMultipolygon flags b parts)) ≤ 5 + total (partRoom 16) parts
 unfolding ofMultipolygon answerBytes
 multipolygon-fits flags b parts = let whole = withParts Rects.Nothing parts in go whole (intersectsBounds whole b) (isFullyInside whole b)
   where
-    go : (r : Rect) (i j : Bool) → length (answerBytes coordBytes (ifBox r (cond i (cond j Unchanged (ofListing (listParts flags b 0 parts))) (Nothing 0)))) ≤ 5 + sumOf (partRoom 16) parts
+    go : (r : Rect) (i j : Bool) → length (answerBytes coordBytes (ifBox r (cond i (cond j Unchanged (ofListing (listParts flags b 0 parts))) (Nothing 0)))) ≤ 5 + total (partRoom 16) parts
     go Rects.Nothing i j = omega (arith, length-header 0 0 0)
     go Rects.NotFinite i j = omega (arith, length-header 1 1 0)
     go (Rects.Box w s e n) false j = omega (arith, length-header 0 0 0)
@@ -293,7 +295,7 @@ answer-fits : (f : Frame) → length (frameBytes f) ≤ room coordinateBytes (f 
 unfolding answerTo room
 answer-fits f = go (eqb (f .head .kind) polygon)
   where
-    go : (t : Bool) → length (answerBytes coordBytes (cond t (ofPolygon (P.route (flagsIn (f .head)) (boundsIn (f .head)) (onlyPart (f .parts)))) (ofMultipolygon (flagsIn (f .head)) (boundsIn (f .head)) (f .parts)))) ≤ 5 + sumOf (partRoom 16) (f .parts)
+    go : (t : Bool) → length (answerBytes coordBytes (cond t (ofPolygon (P.route (flagsIn (f .head)) (boundsIn (f .head)) (onlyPart (f .parts)))) (ofMultipolygon (flagsIn (f .head)) (boundsIn (f .head)) (f .parts)))) ≤ 5 + total (partRoom 16) (f .parts)
     go true = polygon-fits (flagsIn (f .head)) (boundsIn (f .head)) (f .parts)
     go false = multipolygon-fits (flagsIn (f .head)) (boundsIn (f .head)) (f .parts)
 
@@ -330,5 +332,5 @@ answered-few frame out n q = go (readCall frame out) refl q
         let c = call-read frame out f rest e in
         let r = frame-read frame f rest (c .0) in
         let same : length (frameBytes f) ≡ n = cc in
-        let most : sumOf (partRoom coordinateBytes) (f .parts) ≤ partCountOf frame * mostPart = rw (r .parts) at (parts-le 0 (partCountOf frame) (drop headBytes frame) (frame-parts frame (rw (c .0)))) in
+        let most : total (partRoom coordinateBytes) (f .parts) ≤ partCountOf frame * mostPart = rw (r .parts) at (parts-le 0 (partCountOf frame) (drop headBytes frame) (frame-parts frame (rw (c .0)))) in
         omega (arith, same, answer-fits f, most, r .few)

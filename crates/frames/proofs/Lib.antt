@@ -1,14 +1,6 @@
-pub mod Coordinates
 pub mod CutParts
 pub mod Cutting
 pub mod Entries
 pub mod Listings
-pub mod Measures
-pub mod Places
-pub mod Readings
-pub mod Rooms
-pub mod SimpleExteriors
 pub mod Sizes
-pub mod Walks
 pub mod Worked
-pub mod Writing

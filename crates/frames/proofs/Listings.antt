@@ -12,26 +12,28 @@ use Rattle.binary64.proofs.Fill.{sets-append}
 use Rattle.tile.specs.declared.Coord.{Coord}
 use Rattle.tile.specs.declared.TileBounds.{TileBounds}
 use Rattle.clip.specs.declared.polygon.Flags.{Flags}
-use Rattle.clip.specs.declared.rectangle.Rect.{Rect}
-use Rattle.clip.specs.declared.rectangle.Rect.the-variants as Rects
+use Rattle.rings.specs.declared.rectangle.Rect.{Rect}
+use Rattle.rings.specs.declared.rectangle.Rect.the-variants as Rects
 use Rattle.clip.specs.declared.polygon.Route.{Route}
 use Rattle.clip.specs.declared.polygon.Route.the-variants as To
-use Rattle.clip.specs.Rectangle.{rectangle, intersectsBounds, isFullyInside}
-use Rattle.clip.specs.Representable.{anyHugeRing}
+use Rattle.rings.specs.Rectangle.{rectangle, intersectsBounds, isFullyInside}
+use Rattle.rings.specs.Representable.{anyHugeRing}
 use Rattle.clip.specs.Polygon as P
-use Rattle.clip.specs.Slice.{answerOf, guardCount}
+use Rattle.clip.specs.Polygon.{answerOf, guardCount}
 use Rattle.clip.proofs.Cuts.{cut-fits-room, hole-fits-room}
 use Rattle.frames.specs.declared.parts.Listing as L
-use Rattle.frames.specs.Frame.{Reading, read, Accepted, mostParts, readPart, readMany}
-use Rattle.frames.specs.Room.{sumOf, ringRoom, partRoom}
+use Rattle.frame_bytes.specs.Frame.{Reading, read, Accepted, mostParts, readPart, readMany, ringsIn, partAt}
+use Rattle.rings.specs.Rings.{total, ringRoom, exterior}
+use Rattle.frame_bytes.specs.Room.{partRoom}
 use Rattle.frames.specs.Answer.{Part, Answer, Nothing, Dropped, Unchanged, Listed, listedBefore, Listing, addPart, listParts, ofParts, ofPolygon, routePart}
-use Rattle.frames.specs.Encoding.{each, countBytes, coordBytes, headerBytes, ringBytes, partBytes, answerBytes}
-use Rattle.frames.specs.Measure.{measuredOf}
-use Rattle.frames.specs.Part.{ringsIn, partAt, writtenPart, partAnswer, PartRoom}
+use Rattle.frame_bytes.specs.Encoding.{each, countBytes, coordBytes, headerBytes, ringBytes}
+use Rattle.frames.specs.Output.{partBytes, answerBytes}
+use Rattle.frame_bytes.specs.Measure.{measuredOf}
+use Rattle.frames.specs.Part.{writtenPart, partAnswer, PartRoom}
 use Rattle.frames.specs.Parts.{routePartAs, partsIn, partsFrom, unchangedBytes, withPart, Lists, listingOf, finishedHeader, finishedLength, polygonHeader, polygonLength, Answers, Few, Workable, AllParts, PartsRoom}
-use Rattle.frames.proofs.Readings.{taken, part-reads}
-use Rattle.frames.proofs.Places.{step}
-use Rattle.frames.proofs.Writing.{sets-before, length-count, length-header, length-ring}
+use Rattle.frame_bytes.proofs.Readings.{taken, part-reads}
+use Rattle.frame_bytes.proofs.Places.{step}
+use Rattle.frame_bytes.proofs.Writing.{sets-before, length-count, length-header, length-ring}
 use Rattle.frames.proofs.Cutting.{unless-append, unless-bytes, each-append}
 use Rattle.frames.proofs.CutParts.{overlay-length, part-bytes}
 
@@ -120,8 +122,8 @@ parts-none flags b i x l l′ out out′ f = record { output = sym (f .output); 
 
 -- ---- the room of a part's bytes
 
-holes-bytes : (b : TileBounds) (rings : List (List Coord)) → length (each (ringBytes coordBytes) (P.cutHoles b rings)) ≤ 2 * length rings + 16 * sumOf ringRoom rings
-unfolding P.cutHoles each sumOf
+holes-bytes : (b : TileBounds) (rings : List (List Coord)) → length (each (ringBytes coordBytes) (P.cutHoles b rings)) ≤ 2 * length rings + 16 * total ringRoom rings
+unfolding P.cutHoles each total
 holes-bytes b [] = omega arith
 holes-bytes b (r ∷ rings) =
     let f = ringBytes coordBytes in
@@ -129,8 +131,8 @@ holes-bytes b (r ∷ rings) =
     let l = P.cutHoles b rings in
     omega (arith, ap (λ (x : List (List Coord)). length (each f x)) (unless-append c l), ap length (each-append f (P.unlessNone c []) l), length-append (each f (P.unlessNone c [])) (each f l), unless-bytes c, hole-fits-room b r, holes-bytes b rings)
 
-rings-bytes : (b : TileBounds) (rings : List (List Coord)) → length (each (ringBytes coordBytes) (P.cutRings b rings)) ≤ 2 * length rings + 16 * sumOf ringRoom rings
-unfolding P.cutRings each sumOf
+rings-bytes : (b : TileBounds) (rings : List (List Coord)) → length (each (ringBytes coordBytes) (P.cutRings b rings)) ≤ 2 * length rings + 16 * total ringRoom rings
+unfolding P.cutRings each total
 rings-bytes b [] = omega arith
 rings-bytes b (r ∷ rings) =
     let f = ringBytes coordBytes in
@@ -144,7 +146,7 @@ module _ (i : ℕ) (b : TileBounds) (rings : List (List Coord)) where
   routed-fits (To.Cut n) = omega (arith, length-append (partBytes coordBytes (record { index = i; outcome = P.cut (P.cutRings b rings) })) [], part-bytes i (P.cutRings b rings), rings-bytes b rings)
   routed-fits (To.Overlay reason) = go (anyHugeRing rings)
     where
-      go : (t : Bool) → length (each (partBytes coordBytes) (listedBefore i (cond t P.dropped (P.overlay reason)) [])) ≤ 6 + 2 * length rings + 16 * sumOf ringRoom rings
+      go : (t : Bool) → length (each (partBytes coordBytes) (listedBefore i (cond t P.dropped (P.overlay reason)) [])) ≤ 6 + 2 * length rings + 16 * total ringRoom rings
       go true = omega arith
       go false = omega (arith, length-append (partBytes coordBytes (record { index = i; outcome = P.overlay reason })) [], overlay-length i reason)
 
@@ -155,7 +157,7 @@ module _ (i : ℕ) (b : TileBounds) (rings : List (List Coord)) where
       go : (s t : Bool) → length (each (partBytes coordBytes) (listedBefore i (cond s (cond t P.unchanged (P.routeMeasured flags rect b rings)) P.nothing) [])) ≤ partRoom 16 rings
       go false t = routed-fits To.Nothing
       go true true = routed-fits To.Unchanged
-      go true false = routed-fits (P.routeExterior flags rect b (P.exterior rings))
+      go true false = routed-fits (P.routeExterior flags rect b (exterior rings))
 
 -- ---- the next of so many parts
 
@@ -194,18 +196,18 @@ module _ (flags : Flags) (bounds : TileBounds) (frame : List ℕ) (at k ring a b
   pub part-next : NextPart frame at k
   part-next = next-part frame at k (room .within) h (room .accepted)
 
-  output-here : to + sumOf (partRoom 16) (partAt frame at ∷ partsFrom frame (nextPlace frame at) (k - 1)) ≤ out
+  output-here : to + total (partRoom 16) (partAt frame at ∷ partsFrom frame (nextPlace frame at) (k - 1)) ≤ out
   output-here = rw (part-next .here) at (room .output)
 
   workable-here : Workable ring a b order (partAt frame at) × AllParts (Workable ring a b order) (partsFrom frame (nextPlace frame at) (k - 1))
   workable-here = subst (AllParts (Workable ring a b order)) (part-next .here) (room .workable)
 
   pub part-room : PartRoom frame at ring a b order out to
-  unfolding sumOf
+  unfolding total
   part-room = record { within = room .within; accepted = part-next .accepted; working = workable-here .0 .working; positions = workable-here .0 .positions; output = omega (arith, output-here) }
 
   pub parts-room : (i : ℕ) (rect : Rect) (to′ : ℕ) → to′ ≡ to + length (each (partBytes coordBytes) (listedBefore i (routePartAs flags rect bounds (partAt frame at)) [])) → PartsRoom frame (nextPlace frame at) (k - 1) ring a b order out to′
-  unfolding sumOf
+  unfolding total
   parts-room i rect to′ e = record { within = part-next .within; accepted = part-next .later; workable = workable-here .1; output = omega (arith, output-here, listed-fits i bounds (partAt frame at) flags rect) }
 
   -- what the part and those behind it list

@@ -9,19 +9,16 @@ use lib.ListN.{length, drop}
 use Rattle.tile.specs.declared.Coord.{Coord}
 use Rattle.tile.specs.Ring.{close}
 use Rattle.sutherland_hodgman.specs.Growth.{B}
-use Rattle.clip.specs.declared.rectangle.Rect.{Rect}
-use Rattle.clip.specs.declared.rectangle.Rect.the-variants as Rects
-use Rattle.clip.specs.Rectangle.{withRing, withRings}
-use Rattle.clip.specs.Rings.{larger, largest, allClosed}
-use Rattle.clip.proofs.Closing.{stays-rings, ring-closed}
+use Rattle.rings.specs.declared.rectangle.Rect.{Rect}
+use Rattle.rings.specs.declared.rectangle.Rect.the-variants as Rects
+use Rattle.rings.specs.Rectangle.{withRing, withRings, withParts}
+use Rattle.rings.specs.Rings.{larger, largest, allClosed}
+use Rattle.rings.proofs.Closing.{stays-rings, ring-closed}
 use Rattle.clip.proofs.Cuts.{B-mono}
-use Rattle.frames.specs.Frame.{Accepted, mostCoordinates, countOf, coordsOf, readRing, readMany, readPart}
-use Rattle.frames.specs.Answer.{withParts}
-use Rattle.frames.specs.Part.{ringsFrom, partAt}
+use Rattle.frame_bytes.specs.Frame.{Accepted, mostCoordinates, countOf, coordsOf, readRing, readMany, readPart, ringsFrom, partAt}
 use Rattle.frames.specs.Parts.{AllParts, Workable, partsFrom}
-use Rattle.frames.proofs.Coordinates.{close-grows}
-use Rattle.frames.proofs.Cutting.{next-ring}
-use Rattle.frames.proofs.CutParts.{part-rings}
+use Rattle.frame_bytes.proofs.Coordinates.{close-grows}
+use Rattle.frame_bytes.proofs.PartRings.{next-ring, part-rings}
 use Rattle.frames.proofs.Listings.{nextPlace, next-part}
 
 larger-most : (m a b : ℕ) → a ≤ m → b ≤ m → larger a b ≤ m

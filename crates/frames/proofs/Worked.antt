@@ -15,14 +15,15 @@ use Rattle.box_pairs.specs.Pairs.{anyBelow, anyPair, edgesCross, selfIntersecti
 use Rattle.box_pairs.specs.Issue.{repeated, issueOf, hasIssue}
 use Rattle.sutherland_hodgman.specs.Lines.{inside, crossing}
 use Rattle.sutherland_hodgman.specs.Clip.{steps, leaveOff, around, pass, passes, finish, clipRing}
-use Rattle.clip.specs.Bridge.{runsAlong, bridgeOf, firstBridge}
-use Rattle.clip.specs.Rectangle.{withCoord, withRing, withRings, reaches, intersectsBounds, liesBetween, isFullyInside}
-use Rattle.clip.specs.Representable.{hugeCoord, anyHuge, anyHugeRing}
+use Rattle.rings.specs.Bridge.{runsAlong, bridgeOf, firstBridge}
+use Rattle.rings.specs.Rectangle.{withCoord, withRing, withRings, reaches, intersectsBounds, liesBetween, isFullyInside, withParts}
+use Rattle.rings.specs.Representable.{hugeCoord, anyHuge, anyHugeRing}
 use Rattle.clip.specs.Polygon.{bridgeUnlessSkipped, routeCut, routeExterior, cutHole, cutHoles, cutRings, overlayOrDropped, routeRect, route}
-use Rattle.frames.specs.declared.reader.FrameRefusal.{FrameRefusal}
-use Rattle.frames.specs.Frame.{polygon, multipolygon, Reading, refused, read, Frame, readMany, countOf, coordsOf, readCount, readCoords, readRing, readPart, readParts, readFrame}
-use Rattle.frames.specs.Answer.{routePart, listParts, withParts, ofMultipolygon, answerTo}
-use Rattle.frames.specs.Encoding.{each, countBytes, coordBytes, ringBytes, partBytes, answerBytes, frameBytes}
+use Rattle.frame_bytes.specs.declared.reader.FrameRefusal.{FrameRefusal}
+use Rattle.frame_bytes.specs.Frame.{polygon, multipolygon, Reading, refused, read, Frame, readMany, countOf, coordsOf, readCount, readCoords, readRing, readPart, readParts, readFrame}
+use Rattle.frames.specs.Answer.{routePart, listParts, ofMultipolygon, answerTo}
+use Rattle.frame_bytes.specs.Encoding.{each, countBytes, coordBytes, ringBytes}
+use Rattle.frames.specs.Output.{partBytes, answerBytes, frameBytes}
 
 -- ---- coordinates
 

@@ -7,13 +7,13 @@ use Rattle.tile.specs.declared.Coord.{Coord}
 use Rattle.tile.specs.declared.TileBounds.{TileBounds}
 use Rattle.tile.specs.Bounds.{buffered}
 use Rattle.clip.specs.declared.polygon.Flags.{Flags}
-use Rattle.clip.specs.declared.rectangle.Rect.{Rect}
-use Rattle.clip.specs.declared.rectangle.Rect.the-variants as Rects
-use Rattle.clip.specs.Rectangle.{rectangle, withRings, intersectsBounds, isFullyInside}
+use Rattle.rings.specs.declared.rectangle.Rect.{Rect}
+use Rattle.rings.specs.declared.rectangle.Rect.the-variants as Rects
+use Rattle.rings.specs.Rectangle.{rectangle, intersectsBounds, isFullyInside, withParts}
 use Rattle.clip.specs.Polygon as P
-use Rattle.clip.specs.Slice.{answerOf, guardCount}
-use Rattle.frames.specs.declared.head.Head.{Head}
-use Rattle.frames.specs.Frame.{polygon, Frame}
+use Rattle.clip.specs.Polygon.{answerOf, guardCount}
+use Rattle.frame_bytes.specs.declared.head.Head.{Head}
+use Rattle.frame_bytes.specs.Frame.{polygon, Frame}
 
 -- a listed part: its number in the frame, "index from 0", and what becomes of it
 pub record Part : Type 0 where
@@ -68,11 +68,6 @@ listParts flags b i (part ∷ parts) = addPart i (routePart flags b part) (listP
 abbrev pub ofParts : ℕ → List Part → Answer
 ofParts guard [] = Nothing guard
 ofParts guard (part ∷ parts) = Listed guard (part ∷ parts)
-
--- the rectangle of all parts
-unfoldable pub withParts : Rect → List (List (List Coord)) → Rect
-withParts r [] = r
-withParts r (part ∷ parts) = withParts (withRings r part) parts
 
 -- "No coordinate at all: nothing. One non-finite coordinate: the whole is dropped, count 1."
 abbrev pub ifBox : Rect → Answer → Answer

@@ -9,18 +9,19 @@ use lib.ListN.{length}
 use Rattle.tile.specs.declared.Coord.{Coord}
 use Rattle.tile.specs.declared.TileBounds.{TileBounds}
 use Rattle.box_pairs.specs.Issue.{issueOf, hasIssue}
-use Rattle.clip.specs.declared.rectangle.Rect.{Rect}
-use Rattle.clip.specs.declared.rectangle.Rect.the-variants as Rects
-use Rattle.clip.specs.Rectangle.{isFullyInside}
-use Rattle.clip.specs.Polygon.{exterior, routeMeasured}
-use Rattle.frames.specs.declared.head.Head.{Head}
+use Rattle.rings.specs.declared.rectangle.Rect.{Rect}
+use Rattle.rings.specs.declared.rectangle.Rect.the-variants as Rects
+use Rattle.rings.specs.Rectangle.{isFullyInside}
+use Rattle.rings.specs.Rings.{exterior}
+use Rattle.clip.specs.Polygon.{routeMeasured}
+use Rattle.frame_bytes.specs.declared.head.Head.{Head}
 use Rattle.frames.specs.declared.entry.FrameAnswer.{FrameAnswer}
 use Rattle.frames.specs.declared.entry.FrameAnswer.the-variants.{Refused, Answered}
-use Rattle.frames.specs.Frame.{Reading, refused, read, Accepted, polygon, multipolygon, mostParts, headBytes, refusalNumber, Frame, headOf, readFrame}
-use Rattle.frames.specs.Room.{leastRoom, coordinateBytes, frameRoom, readCall}
+use Rattle.frame_bytes.specs.Frame.{Reading, refused, read, Accepted, polygon, multipolygon, mostParts, headBytes, refusalNumber, Frame, headOf, readFrame}
+use Rattle.frame_bytes.specs.Room.{leastRoom, coordinateBytes, frameRoom, readCall}
 use Rattle.frames.specs.Answer.{Answer, Nothing, ofPolygon, listParts, flagsIn, onlyPart, answerTo}
-use Rattle.frames.specs.Encoding.{frameBytes}
-use Rattle.frames.specs.Measure.{frameRect}
+use Rattle.frames.specs.Output.{frameBytes}
+use Rattle.frame_bytes.specs.Measure.{frameRect}
 use Rattle.frames.specs.Parts.{ofListing, PartsRoom}
 
 -- ---- what is answered

@@ -11,25 +11,14 @@ use Rattle.tile.specs.declared.TileBounds.{TileBounds}
 use Rattle.sutherland_hodgman.specs.Growth.{B}
 use Rattle.clip.specs.declared.polygon.Route.{Route}
 use Rattle.clip.specs.Polygon as P
-use Rattle.clip.specs.Rings.{largest, allClosed}
+use Rattle.rings.specs.Rings.{largest, allClosed, total, ringRoom, exterior}
 use Rattle.frames.specs.declared.part.PartAnswer.{PartAnswer}
 use Rattle.frames.specs.declared.part.PartAnswer.the-variants as Is
 use Rattle.frames.specs.declared.part.Written.{Written}
-use Rattle.frames.specs.Frame.{Reading, refused, read, Accepted, mostCoordinates, readRing, readMany, readPart}
-use Rattle.frames.specs.Room.{coordinateBytes, sumOf, ringRoom, partRoom}
-use Rattle.frames.specs.Encoding.{each, coordBytes, ringBytes, partBytes}
-
--- the rings that are read; of a refusal, none
-abbrev pub ringsIn : Reading (List (List Coord)) → List (List Coord)
-ringsIn (refused r) = []
-ringsIn (read rings rest) = rings
-
--- the rings of the part at a place, and so many rings from a place on
-abbrev pub partAt : List ℕ → ℕ → List (List Coord)
-partAt frame at = ringsIn (readPart (drop at frame))
-
-abbrev pub ringsFrom : List ℕ → ℕ → ℕ → List (List Coord)
-ringsFrom frame at k = ringsIn (readMany readRing k (drop at frame))
+use Rattle.frame_bytes.specs.Frame.{Accepted, mostCoordinates, readRing, readMany, readPart, ringsFrom, partAt}
+use Rattle.frame_bytes.specs.Room.{coordinateBytes, partRoom}
+use Rattle.frame_bytes.specs.Encoding.{each, coordBytes, ringBytes}
+use Rattle.frames.specs.Output.{partBytes}
 
 -- ---- what is answered and written
 
@@ -70,7 +59,7 @@ pub record RingsRoom (frame : List ℕ) (at k ring a b out : ℕ) (placed : Writ
   pub within : at ≤ length frame
   pub accepted : Accepted (readMany readRing k (drop at frame))
   pub working : Working (ringsFrom frame at k) ring a b
-  pub output : placed .next + (2 * length (ringsFrom frame at k) + coordinateBytes * sumOf ringRoom (ringsFrom frame at k)) ≤ out
+  pub output : placed .next + (2 * length (ringsFrom frame at k) + coordinateBytes * total ringRoom (ringsFrom frame at k)) ≤ out
 
 -- a part is there, its rings can be cut, and it has room in the output at a place
 pub record PartRoom (frame : List ℕ) (at ring a b order out to : ℕ) : Type 0 where
@@ -86,7 +75,7 @@ pub record CutRoom (bounds : TileBounds) (frame : List ℕ) (at m ring a : ℕ) 
   pub accepted : Accepted (readPart (drop at frame))
   pub working : Working (partAt frame at) ring a (length b)
   pub output : to + partRoom coordinateBytes (partAt frame at) ≤ out
-  pub stands : P.Stands (P.cutExterior bounds (P.exterior (partAt frame at))) m b
+  pub stands : P.Stands (P.cutExterior bounds (exterior (partAt frame at))) m b
   pub whole : 0 < m
 
 -- a part whose exterior has this route is there and has room; where the route is a cut, the cut exterior stands at the front of b
@@ -95,4 +84,4 @@ pub record RouteRoom (route : Route) (bounds : TileBounds) (frame : List ℕ) (a
   pub accepted : Accepted (readPart (drop at frame))
   pub working : Working (partAt frame at) ring a (length b)
   pub output : to + partRoom coordinateBytes (partAt frame at) ≤ out
-  pub stands : P.CutStands bounds (P.exterior (partAt frame at)) route b
+  pub stands : P.CutStands bounds (exterior (partAt frame at)) route b

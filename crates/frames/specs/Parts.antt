@@ -10,18 +10,19 @@ use Rattle.tile.specs.declared.Coord.{Coord}
 use Rattle.tile.specs.declared.TileBounds.{TileBounds}
 use Rattle.sutherland_hodgman.specs.Growth.{B}
 use Rattle.clip.specs.declared.polygon.Flags.{Flags}
-use Rattle.clip.specs.declared.rectangle.Rect.{Rect}
-use Rattle.clip.specs.Rectangle.{intersectsBounds, isFullyInside}
+use Rattle.rings.specs.declared.rectangle.Rect.{Rect}
+use Rattle.rings.specs.Rectangle.{intersectsBounds, isFullyInside}
 use Rattle.clip.specs.Polygon as P
-use Rattle.clip.specs.Rings.{largest}
-use Rattle.clip.specs.Slice.{answerOf, guardCount}
+use Rattle.rings.specs.Rings.{largest, total}
+use Rattle.clip.specs.Polygon.{answerOf, guardCount}
 use Rattle.frames.specs.declared.part.PartAnswer.{PartAnswer}
 use Rattle.frames.specs.declared.part.PartAnswer.the-variants as Is
 use Rattle.frames.specs.declared.parts.Listing as L
-use Rattle.frames.specs.Frame.{Reading, refused, read, Accepted, mostParts, readPart, readMany}
-use Rattle.frames.specs.Room.{coordinateBytes, sumOf, partRoom}
+use Rattle.frame_bytes.specs.Frame.{Reading, refused, read, Accepted, mostParts, readPart, readMany}
+use Rattle.frame_bytes.specs.Room.{coordinateBytes, partRoom}
 use Rattle.frames.specs.Answer.{Answer, listedBefore, Listing, ofParts}
-use Rattle.frames.specs.Encoding.{each, coordBytes, headerBytes, partBytes, answerBytes}
+use Rattle.frame_bytes.specs.Encoding.{each, coordBytes, headerBytes}
+use Rattle.frames.specs.Output.{partBytes, answerBytes}
 use Rattle.frames.specs.Part.{Working}
 
 -- what becomes of a part of a multipolygon that is measured as rect
@@ -113,4 +114,4 @@ pub record PartsRoom (frame : List ℕ) (at k ring a b order out to : ℕ) : Typ
   pub within : at ≤ length frame
   pub accepted : Accepted (readMany readPart k (drop at frame))
   pub workable : AllParts (Workable ring a b order) (partsFrom frame at k)
-  pub output : to + sumOf (partRoom coordinateBytes) (partsFrom frame at k) ≤ out
+  pub output : to + total (partRoom coordinateBytes) (partsFrom frame at k) ≤ out

@@ -2,26 +2,26 @@
 ghost use mathlib.Core.Path.{_≡_};
 ghost use Prim.Native.Nat.{_≤_};
 ghost use lib.ListN.{length};
-ghost use Rattle.frames.specs.Frame as F;
-ghost use Rattle.frames.specs.Room as R;
-ghost use Rattle.frames.specs.Encoding as E;
-ghost use Rattle.frames.specs.Measure as M;
+ghost use Rattle.frame_bytes.specs.Frame as F;
+ghost use Rattle.frame_bytes.specs.Room as R;
+ghost use Rattle.frames.specs.Output as O;
+ghost use Rattle.frame_bytes.specs.Measure as M;
 ghost use Rattle.frames.specs.Parts as S;
 ghost use Rattle.frames.specs.Entry as Y;
-use super::head::HEAD;
-use super::head::Head;
-use super::head::read_head;
-use super::measure::whole_rect;
 use super::parts::answer_in;
 use super::parts::put_alone;
-use super::reader::FrameCheck;
-use super::reader::FrameRefusal;
-use super::reader::MULTIPOLYGON;
-use super::room::check_call;
-use super::simple::is_sound_if_simple;
-use clip::rectangle::Rect;
-use clip::rectangle::intersects_bounds;
-use clip::rectangle::is_fully_inside;
+use frame_bytes::head::HEAD;
+use frame_bytes::head::Head;
+use frame_bytes::head::read_head;
+use frame_bytes::measure::whole_rect;
+use frame_bytes::reader::FrameCheck;
+use frame_bytes::reader::FrameRefusal;
+use frame_bytes::reader::MULTIPOLYGON;
+use frame_bytes::room::check_call;
+use frame_bytes::simple::is_sound_if_simple;
+use rings::rectangle::Rect;
+use rings::rectangle::intersects_bounds;
+use rings::rectangle::is_fully_inside;
 use tile::TileBounds;
 
 // The longest frames of the smaller sizes of working arrays: with 6, 32 and 81 coordinates in a ring, closed.
@@ -185,7 +185,7 @@ fn answer(frame: &[u8], out: &mut [u8]) -> usize
 
 pub fn frame(frame: &[u8], out: &mut [u8]) -> FrameAnswer
     ensures { λ r. ⌜ r ≡ Y.callAnswer (now (frame .entry)) (now (out .entry)) ⌝ }
-    ensures { λ _. ⌜ now (out .exit) ≡ E.callOutput (now (frame .entry)) (now (out .entry)) ⌝ }
+    ensures { λ _. ⌜ now (out .exit) ≡ O.callOutput (now (frame .entry)) (now (out .entry)) ⌝ }
 {
     if let FrameCheck::Fails(refusal) = check_call(frame, out.len()) {
         return FrameAnswer::Refused(refusal);

@@ -1,10 +1,4 @@
-pub mod encode;
+// The frame call: a polygon or the parts of a multipolygon, read from bytes, routed, cut and answered in bytes.
 pub mod entry;
-pub mod head;
-pub mod measure;
 pub mod part;
 pub mod parts;
-pub mod reader;
-pub mod ring;
-pub mod room;
-pub mod simple;

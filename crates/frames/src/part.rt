@@ -6,24 +6,23 @@ ghost use lib.ListN.{length, take, drop};
 ghost use lib.Seq.{sets};
 ghost use Rattle.tile.specs.Ring.{coords};
 ghost use Rattle.clip.specs.Polygon as P;
-ghost use Rattle.frames.specs.Frame as F;
-ghost use Rattle.frames.specs.Encoding as E;
+ghost use Rattle.frame_bytes.specs.Frame as F;
 ghost use Rattle.frames.specs.Part as S;
-use super::encode::put_count;
-use super::encode::put_part;
-use super::encode::put_ring;
-use super::measure::part_has_huge;
-use super::ring::COORD;
-use super::ring::COUNT;
-use super::ring::count_at;
-use super::ring::decode_ring;
 use clip::polygon::Flags;
 use clip::polygon::Reason;
 use clip::polygon::Route;
 use clip::polygon::clip_hole;
 use clip::polygon::reason_number;
 use clip::polygon::route_exterior;
-use clip::rectangle::Rect;
+use frame_bytes::encode::put_count;
+use frame_bytes::encode::put_part;
+use frame_bytes::encode::put_ring;
+use frame_bytes::measure::part_has_huge;
+use frame_bytes::ring::COORD;
+use frame_bytes::ring::COUNT;
+use frame_bytes::ring::count_at;
+use frame_bytes::ring::decode_ring;
+use rings::rectangle::Rect;
 use tile::TileBounds;
 
 // The bytes of a listed part before the rings of a cut.
@@ -71,7 +70,7 @@ fn put_holes(
     exterior: Written,
 ) -> Written
     requires { ⌜ S.RingsRoom (now frame) start holes (length (now ring)) (length (now a)) (length (now b)) (length (now out)) exterior × (exterior .rings + holes ≤ F.mostRings) ⌝ }
-    ensures { λ r. ⌜ S.PutRings (P.cutHoles bounds (S.ringsFrom (now (frame .entry)) start holes)) exterior (now (out .entry)) r (now (out .exit)) ⌝ }
+    ensures { λ r. ⌜ S.PutRings (P.cutHoles bounds (F.ringsFrom (now (frame .entry)) start holes)) exterior (now (out .entry)) r (now (out .exit)) ⌝ }
 {
     let mut written = exterior;
     let mut at = start;
@@ -101,8 +100,8 @@ fn put_cut(
     to: usize,
 ) -> usize
     requires { ⌜ S.CutRoom bounds (now frame) at m (length (now ring)) (length (now a)) (now b) (length (now out)) to ⌝ }
-    ensures { λ r. ⌜ r ≡ to + length (S.writtenPart index (P.cut (P.cutRings bounds (S.partAt (now (frame .entry)) at)))) ⌝ }
-    ensures { λ _. ⌜ now (out .exit) ≡ sets (now (out .entry)) to (S.writtenPart index (P.cut (P.cutRings bounds (S.partAt (now (frame .entry)) at)))) ⌝ }
+    ensures { λ r. ⌜ r ≡ to + length (S.writtenPart index (P.cut (P.cutRings bounds (F.partAt (now (frame .entry)) at)))) ⌝ }
+    ensures { λ _. ⌜ now (out .exit) ≡ sets (now (out .entry)) to (S.writtenPart index (P.cut (P.cutRings bounds (F.partAt (now (frame .entry)) at)))) ⌝ }
 {
     let rings = count_at(frame, at);
     let n = count_at(frame, at + COUNT);
@@ -128,8 +127,8 @@ fn overlay_or_dropped(
     to: usize,
 ) -> PartAnswer
     requires { ⌜ (at ≤ length (now frame)) × F.Accepted (F.readPart (drop at (now frame))) × (to + 4 ≤ length (now out)) ⌝ }
-    ensures { λ r. ⌜ r ≡ S.partAnswer to index (P.overlayOrDropped (S.partAt (now (frame .entry)) at) reason) ⌝ }
-    ensures { λ _. ⌜ now (out .exit) ≡ sets (now (out .entry)) to (S.writtenPart index (P.overlayOrDropped (S.partAt (now (frame .entry)) at) reason)) ⌝ }
+    ensures { λ r. ⌜ r ≡ S.partAnswer to index (P.overlayOrDropped (F.partAt (now (frame .entry)) at) reason) ⌝ }
+    ensures { λ _. ⌜ now (out .exit) ≡ sets (now (out .entry)) to (S.writtenPart index (P.overlayOrDropped (F.partAt (now (frame .entry)) at) reason)) ⌝ }
 {
     if part_has_huge(frame, at) {
         return PartAnswer::Dropped;
@@ -152,8 +151,8 @@ fn answer_route(
     to: usize,
 ) -> PartAnswer
     requires { ⌜ S.RouteRoom route bounds (now frame) at (length (now ring)) (length (now a)) (now b) (length (now out)) to ⌝ }
-    ensures { λ r. ⌜ r ≡ S.partAnswer to index (P.routed route bounds (S.partAt (now (frame .entry)) at)) ⌝ }
-    ensures { λ _. ⌜ now (out .exit) ≡ sets (now (out .entry)) to (S.writtenPart index (P.routed route bounds (S.partAt (now (frame .entry)) at))) ⌝ }
+    ensures { λ r. ⌜ r ≡ S.partAnswer to index (P.routed route bounds (F.partAt (now (frame .entry)) at)) ⌝ }
+    ensures { λ _. ⌜ now (out .exit) ≡ sets (now (out .entry)) to (S.writtenPart index (P.routed route bounds (F.partAt (now (frame .entry)) at))) ⌝ }
 {
     match route {
         Route::Nothing => PartAnswer::Nothing,
@@ -182,8 +181,8 @@ pub fn route_part(
     to: usize,
 ) -> PartAnswer
     requires { ⌜ S.PartRoom (now frame) at (length (now ring)) (length (now a)) (length (now b)) (length (now order)) (length (now out)) to ⌝ }
-    ensures { λ r. ⌜ r ≡ S.partAnswer to index (P.routeMeasured flags rect bounds (S.partAt (now (frame .entry)) at)) ⌝ }
-    ensures { λ _. ⌜ now (out .exit) ≡ sets (now (out .entry)) to (S.writtenPart index (P.routeMeasured flags rect bounds (S.partAt (now (frame .entry)) at))) ⌝ }
+    ensures { λ r. ⌜ r ≡ S.partAnswer to index (P.routeMeasured flags rect bounds (F.partAt (now (frame .entry)) at)) ⌝ }
+    ensures { λ _. ⌜ now (out .exit) ≡ sets (now (out .entry)) to (S.writtenPart index (P.routeMeasured flags rect bounds (F.partAt (now (frame .entry)) at))) ⌝ }
 {
     let n = count_at(frame, at + COUNT);
     decode_ring(frame, at + COUNT + COUNT, n, ring, 0);

@@ -3,27 +3,26 @@ ghost use mathlib.Core.Path.{_≡_};
 ghost use Prim.Native.Nat.{_+_, _≤_};
 ghost use lib.ListN.{length};
 ghost use lib.Seq.{sets};
-ghost use Rattle.clip.specs.Polygon as P;
-ghost use Rattle.frames.specs.Frame as F;
+ghost use Rattle.frame_bytes.specs.Frame as F;
 ghost use Rattle.frames.specs.Answer as Answers;
-ghost use Rattle.frames.specs.Encoding as E;
+ghost use Rattle.frame_bytes.specs.Encoding as E;
 ghost use Rattle.frames.specs.Part as Q;
 ghost use Rattle.frames.specs.Parts as S;
 ghost use Rattle.frames.specs.Entry as Y;
-use super::encode::put_header;
-use super::encode::put_part;
-use super::head::HEAD;
-use super::head::Head;
-use super::measure::part_rect;
 use super::part::PART;
 use super::part::PartAnswer;
 use super::part::route_part;
-use super::reader::POLYGON;
-use super::room::LEAST_ROOM;
 use clip::polygon::Flags;
-use clip::rectangle::Rect;
-use clip::rectangle::intersects_bounds;
-use clip::rectangle::is_fully_inside;
+use frame_bytes::encode::put_header;
+use frame_bytes::encode::put_part;
+use frame_bytes::head::HEAD;
+use frame_bytes::head::Head;
+use frame_bytes::measure::part_rect;
+use frame_bytes::reader::POLYGON;
+use frame_bytes::room::LEAST_ROOM;
+use rings::rectangle::Rect;
+use rings::rectangle::intersects_bounds;
+use rings::rectangle::is_fully_inside;
 use tile::TileBounds;
 
 // What is listed so far: the guard count, how many parts, and where the next stands in the output.
@@ -78,7 +77,7 @@ fn add_part(
     before: Listing,
 ) -> Listing
     requires { ⌜ Q.PartRoom (now frame) at (length (now ring)) (length (now a)) (length (now b)) (length (now order)) (length (now out)) (before .next) × S.Few index before ⌝ }
-    ensures { λ r. ⌜ S.Lists (S.listingOf index (S.routePartAs flags rect bounds (Q.partAt (now (frame .entry)) at))) before (now (out .entry)) r (now (out .exit)) ⌝ }
+    ensures { λ r. ⌜ S.Lists (S.listingOf index (S.routePartAs flags rect bounds (F.partAt (now (frame .entry)) at))) before (now (out .entry)) r (now (out .exit)) ⌝ }
 {
     if !intersects_bounds(rect, bounds) {
         return before;

@@ -5,11 +5,11 @@ use Prim.Native.Nat.{ℕ, _+_, _≤_}
 use native.Mathlib.Omega.{arith}
 use lib.ListN.{length, take, drop, length-append, length-drop, take-append-drop}
 use lib.Seq.{length-take-le, drop-append-le, take-append-seam, drop-append-add, drop-drop}
-use Rattle.clip.specs.Slice.{over}
-use Rattle.frames.specs.declared.reader.FrameRefusal.{FrameRefusal}
-use Rattle.frames.specs.Frame.{Reading, refused, read, Frame, refusalNumber, readFrame}
+use Rattle.binary64.specs.Slices.{over}
+use Rattle.frame_bytes.specs.declared.reader.FrameRefusal.{FrameRefusal}
+use Rattle.frame_bytes.specs.Frame.{Reading, refused, read, Frame, refusalNumber, readFrame}
 use Rattle.frames.specs.declared.entry.FrameAnswer.the-variants.{Refused, Answered}
-use Rattle.frames.specs.Encoding.{outputAfter, callOutput}
+use Rattle.frames.specs.Output.{outputAfter, callOutput}
 use Rattle.frames.specs.Entry.{answerOfReading, callAnswer}
 use Rattle.lines.specs.Lines.{newline, lowerHex, hexLine, refusalBytes, readingBytes, frameAnswer}
 use Rattle.lines.specs.State.{answerRoom}

@@ -9,9 +9,9 @@ use lib.Dec.{eqb, leb}
 use lib.ListN.{length, getD, take, drop, length-append, drop-of-length-le}
 use lib.Seq.{drop-cons, take-append-seam, drop-append-seam}
 use borrow.Author.Tests.{le-leb, ne-eqb, eq-eqb, eqb-true, eqb-false, leb-true}
-use Rattle.clip.specs.Slice.{over}
-use Rattle.clip.proofs.Closing.{both}
-use Rattle.frames.specs.Frame.{longest}
+use Rattle.binary64.specs.Slices.{over}
+use Rattle.binary64.proofs.Booleans.{both}
+use Rattle.frame_bytes.specs.Frame.{longest}
 use Rattle.lines.specs.declared.line.Line.{Line}
 use Rattle.lines.specs.declared.line.Line.the-variants as Held
 use Rattle.lines.specs.Lines.{newline}

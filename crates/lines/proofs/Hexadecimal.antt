@@ -6,7 +6,7 @@ use native.Mathlib.Numerals.{add-one}
 use native.Mathlib.Omega.{arith}
 use lib.ListN.{length, getD, take, drop, set, length-append, length-take, drop-of-length-le}
 use lib.Seq.{sets, sets-eq, set-at, take-take, take-set-le, getD-take, drop-cons, drop-at, length-take-le, length-sets}
-use Rattle.clip.specs.Slice.{over}
+use Rattle.binary64.specs.Slices.{over}
 use Rattle.lines.specs.Lines.{newline, lowerHex, hexLine}
 
 pub length-lowerHex : (l : List ℕ) → length (lowerHex l) ≡ 2 * length l

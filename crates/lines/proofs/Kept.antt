@@ -8,7 +8,7 @@ use native.Mathlib.Omega.{arith}
 use lib.ListN.{length, take, set, length-take}
 use lib.Seq.{take-suc-set}
 use borrow.Author.Tests.{lt-ltb, le-ltb}
-use Rattle.frames.specs.Frame.{longest}
+use Rattle.frame_bytes.specs.Frame.{longest}
 use Rattle.lines.specs.State.{whole, half, long, takeDigit}
 
 module _ (l : List ℕ) (n high d : ℕ) (sized : length l ≡ longest) where

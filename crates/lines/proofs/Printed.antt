@@ -7,9 +7,9 @@ use native.Mathlib.Omega.{arith}
 use lib.Dec.{ltb, eqb}
 use lib.ListN.{length, length-append}
 use borrow.Author.Tests.{lt-ltb, le-ltb, ltb-false}
-use Rattle.frames.specs.Frame.{longest, shortest, readFrame, refusalNumber}
-use Rattle.frames.specs.declared.reader.FrameRefusal.the-variants.{Size}
-use Rattle.frames.specs.Encoding.{each}
+use Rattle.frame_bytes.specs.Frame.{longest, shortest, readFrame, refusalNumber}
+use Rattle.frame_bytes.specs.declared.reader.FrameRefusal.the-variants.{Size}
+use Rattle.frame_bytes.specs.Encoding.{each}
 use Rattle.lines.specs.Lines.{newline, inFront, linesOf, digit, isDigit, Decoded, notPairs, bytes, withByte, decode, hexLine, refusalBytes, frameAnswer, notPairsNumber, decodedAnswer, answerLine, printed}
 use Rattle.lines.specs.State.{State, notDigits, whole, half, long, start, takeDigit, after, endAnswer, endLine, endOfInput, printedFrom}
 

@@ -7,7 +7,7 @@ use native.Mathlib.Omega.{arith}
 use lib.ListN.{length, getD, take, drop, set}
 use lib.Seq.{drop-cons}
 use borrow.Author.Tests.{lt-ltb, ne-eqb}
-use Rattle.frames.specs.Frame.{longest}
+use Rattle.frame_bytes.specs.Frame.{longest}
 use Rattle.lines.specs.Lines.{newline, digit}
 use Rattle.lines.specs.State.{State, whole, half, takeDigit, after, printedFrom, lineLength, Passes}
 use Rattle.lines.proofs.Kept.{byte-kept}

@@ -9,17 +9,18 @@ use Rattle.tile.specs.declared.Coord.{Coord}
 use Rattle.tile.specs.Ring.{close}
 use Rattle.sutherland_hodgman.specs.Growth.{halfGrowth, fourHalfGrowths, B}
 use Rattle.sutherland_hodgman.proofs.Growth.{halfGrowth-le}
-use Rattle.frames.specs.Frame.{longest, headBytes, Reading, refused, read, Frame, countOf, coordsOf, readMany, readRing, readPart, readFrame}
-use Rattle.frames.specs.Room.{coordinateBytes, sumOf, ringRoom, partRoom, room, readCall}
-use Rattle.frames.proofs.Coordinates.{close-grows}
-use Rattle.frames.proofs.Places.{no-more}
-use Rattle.frames.proofs.Readings.{many-first, ring-read, part-read, frame-read}
+use Rattle.frame_bytes.specs.Frame.{longest, headBytes, Reading, refused, read, Frame, countOf, coordsOf, readMany, readRing, readPart, readFrame}
+use Rattle.frame_bytes.specs.Room.{coordinateBytes, partRoom, room, readCall}
+use Rattle.rings.specs.Rings.{total, ringRoom}
+use Rattle.frame_bytes.proofs.Coordinates.{close-grows}
+use Rattle.frame_bytes.proofs.Places.{no-more}
+use Rattle.frame_bytes.proofs.Readings.{many-first, ring-read, part-read, frame-read}
 
 -- ---- of so many things, where it holds of each
 
 module _ {A : Type 0} (f : List ℕ → Reading A) (g : A → ℕ) (each : (l : List ℕ) (a : A) (rest : List ℕ) → f l ≡ read a rest → g a + 10 * length rest ≤ 10 * length l) where
-  many-ten : (k : ℕ) (l : List ℕ) (all : List A) (rest : List ℕ) → readMany f k l ≡ read all rest → sumOf g all + 10 * length rest ≤ 10 * length l
-  unfolding sumOf
+  many-ten : (k : ℕ) (l : List ℕ) (all : List A) (rest : List ℕ) → readMany f k l ≡ read all rest → total g all + 10 * length rest ≤ 10 * length l
+  unfolding total
   many-ten zero l all rest e =
       let n = no-more f zero l all rest (omega arith) e in
       rw (n .0, n .1) (omega arith)
@@ -56,8 +57,8 @@ closed-none (suc n) l e = omega arith
 ofRing : List Coord → ℕ
 ofRing ring = 2 + coordinateBytes * ringRoom ring
 
-rings-sum : (rings : List (List Coord)) → sumOf ofRing rings ≡ 2 * length rings + coordinateBytes * sumOf ringRoom rings
-unfolding sumOf ofRing
+rings-sum : (rings : List (List Coord)) → total ofRing rings ≡ 2 * length rings + coordinateBytes * total ringRoom rings
+unfolding total ofRing
 rings-sum [] = refl
 rings-sum (ring ∷ rings) = omega (arith, rings-sum rings)
 

@@ -5,8 +5,9 @@ use mathlib.Core.List.{List, [], _∷_, _++_}
 use Prim.Native.Nat.{ℕ, _+_, _*_, _-_, _/_, _%_, _<_}
 use lib.Dec.{ltb, leb, eqb}
 use lib.ListN.{getD}
-use Rattle.frames.specs.Frame.{Reading, refused, read, Frame, refusalNumber, readFrame}
-use Rattle.frames.specs.Encoding.{each, frameBytes}
+use Rattle.frame_bytes.specs.Frame.{Reading, refused, read, Frame, refusalNumber, readFrame}
+use Rattle.frame_bytes.specs.Encoding.{each}
+use Rattle.frames.specs.Output.{frameBytes}
 
 -- ---- the lines of an input
 

@@ -6,8 +6,8 @@ use mathlib.Core.List.{List, [], _∷_, _++_}
 use Prim.Native.Nat.{ℕ, suc, _+_, _*_, _%_, _≤_, _<_}
 use lib.Dec.{ltb, leb, eqb}
 use lib.ListN.{length, getD, take, drop}
-use Rattle.frames.specs.Frame.{longest, refusalNumber}
-use Rattle.frames.specs.declared.reader.FrameRefusal.the-variants.{Size}
+use Rattle.frame_bytes.specs.Frame.{longest, refusalNumber}
+use Rattle.frame_bytes.specs.declared.reader.FrameRefusal.the-variants.{Size}
 use Rattle.lines.specs.declared.line.Line.{Line}
 use Rattle.lines.specs.declared.line.Line.the-variants as Held
 use Rattle.lines.specs.Lines.{newline, digit, isDigit, hexLine, refusalBytes, frameAnswer, notPairsNumber}

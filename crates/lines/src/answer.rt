@@ -2,17 +2,17 @@
 ghost use mathlib.Core.Path.{_≡_};
 ghost use Prim.Native.Nat.{_≤_};
 ghost use lib.ListN.{length};
-ghost use Rattle.clip.specs.Slice.{over};
-ghost use Rattle.frames.specs.Frame.{longest};
+ghost use Rattle.binary64.specs.Slices.{over};
+ghost use Rattle.frame_bytes.specs.Frame.{longest};
 ghost use Rattle.lines.specs.Lines as S;
 ghost use Rattle.lines.specs.State as T;
 use super::digits::to_line;
 use super::line::Line;
+use frame_bytes::reader::FrameRefusal;
+use frame_bytes::reader::LONGEST;
+use frame_bytes::reader::refusal_number;
 use frames::entry::FrameAnswer;
 use frames::entry::frame;
-use frames::reader::FrameRefusal;
-use frames::reader::LONGEST;
-use frames::reader::refusal_number;
 
 // Document 01's refusal 10.
 const NOT_PAIRS: u8 = 10;

@@ -4,7 +4,7 @@ ghost use mathlib.Core.List.{[], _∷_, _++_};
 ghost use Prim.Native.Nat.{_+_, _*_, _<_, _≤_};
 ghost use lib.ListN.{length, take, drop};
 ghost use lib.Seq.{sets};
-ghost use Rattle.clip.specs.Slice.{over};
+ghost use Rattle.binary64.specs.Slices.{over};
 ghost use Rattle.lines.specs.Lines as S;
 
 pub const NEWLINE: u8 = 10;

@@ -2,14 +2,14 @@
 ghost use mathlib.Core.Path.{_≡_};
 ghost use Prim.Native.Nat.{_+_, _<_, _≤_};
 ghost use lib.ListN.{length, take, drop};
-ghost use Rattle.clip.specs.Slice.{over};
-ghost use Rattle.frames.specs.Frame.{longest};
+ghost use Rattle.binary64.specs.Slices.{over};
+ghost use Rattle.frame_bytes.specs.Frame.{longest};
 ghost use Rattle.lines.specs.State as T;
 use super::answer::LINE_ROOM;
 use super::answer::answer_line;
 use super::line::Line;
 use super::line::take_line;
-use frames::reader::LONGEST;
+use frame_bytes::reader::LONGEST;
 
 // What is known of the line now, how much of the block was taken, and how many bytes were written to the output.
 pub struct Fed {

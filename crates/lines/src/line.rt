@@ -2,14 +2,14 @@
 ghost use mathlib.Core.Path.{_≡_};
 ghost use Prim.Native.Nat.{_<_, _≤_};
 ghost use lib.ListN.{length, take};
-ghost use Rattle.frames.specs.Frame.{longest};
+ghost use Rattle.frame_bytes.specs.Frame.{longest};
 ghost use Rattle.lines.specs.Lines as S;
 ghost use Rattle.lines.specs.State as T;
 use super::digits::NEWLINE;
 use super::digits::NOT_A_DIGIT;
 use super::digits::digit_of;
 use super::digits::digit_values;
-use frames::reader::LONGEST;
+use frame_bytes::reader::LONGEST;
 
 // What is known of a line. The bytes stand at the front of a slice of the longest frame's length, which goes with it.
 pub enum Line {

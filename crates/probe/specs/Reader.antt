@@ -1,8 +1,8 @@
 -- What the frame reader's check answers, as a code.
 use Prim.Native.Nat.{ℕ}
-use Rattle.frames.specs.declared.reader.FrameCheck.{FrameCheck}
-use Rattle.frames.specs.declared.reader.FrameCheck.the-variants.{Fails, Passes}
-use Rattle.frames.specs.Frame.{refusalNumber}
+use Rattle.frame_bytes.specs.declared.reader.FrameCheck.{FrameCheck}
+use Rattle.frame_bytes.specs.declared.reader.FrameCheck.the-variants.{Fails, Passes}
+use Rattle.frame_bytes.specs.Frame.{refusalNumber}
 
 abbrev pub checkCode : FrameCheck → ℕ
 checkCode (Fails r) = refusalNumber r

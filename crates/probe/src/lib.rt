@@ -1,6 +1,5 @@
 // Functions of the lower crates, exported for the comparison with the Rust. For tests only: nothing here is shipped.
 ghost use mathlib.Core.Path.{_≡_};
-ghost use Prim.Native.Nat.{ℕ};
 ghost use lib.Ieee.{nan};
 ghost use lib.ListN.{length, getD, set};
 ghost use Rattle.tile.specs.Bounds as B;

@@ -1,13 +1,13 @@
 // The frame reader: which refusal a frame call meets, and the room that an accepted frame asks for.
 ghost use mathlib.Core.Path.{_≡_};
-ghost use Rattle.frames.specs.Frame.{readFrame, checkOf};
-ghost use Rattle.frames.specs.Room.{coordinateBytes, frameRoom, readCall};
+ghost use Rattle.frame_bytes.specs.Frame.{readFrame, checkOf};
+ghost use Rattle.frame_bytes.specs.Room.{coordinateBytes, frameRoom, readCall};
 ghost use Rattle.probe.specs.Reader as S;
-use frames::reader::FrameCheck;
-use frames::reader::check_frame;
-use frames::reader::refusal_number;
-use frames::room::check_call;
-use frames::room::frame_room;
+use frame_bytes::reader::FrameCheck;
+use frame_bytes::reader::check_frame;
+use frame_bytes::reader::refusal_number;
+use frame_bytes::room::check_call;
+use frame_bytes::room::frame_room;
 
 // The refusal's number; 0 where there is none.
 #[no_mangle]

@@ -1,8 +1,8 @@
 // Answers as they cross in the exported calls: an i64, here by its bits, so that minus a refusal's number is a number from the top.
 ghost use Prim.Native.Nat.{_≤_};
+use clip::polygon::PolygonAnswer;
 use clip::polygon::reason_number;
-use clip::slice::PolygonAnswer;
-use clip::slice::SliceAnswer;
+use slices::call::SliceAnswer;
 use sutherland_hodgman::call::Refusal;
 use sutherland_hodgman::call::RingAnswer;
 

@@ -2,8 +2,8 @@
 // given and how many calls were answered otherwise.
 mod code;
 mod lent;
-mod rings;
-mod slices;
+mod ring_calls;
+mod slice_calls;
 mod stream;
 
 ghost use mathlib.Core.Path.{_≡_};
@@ -11,8 +11,8 @@ ghost use lib.ListN.{length};
 use code::Outcome;
 use code::is_refusal;
 use libc::STDOUT_FILENO;
-use rings::replay_ring;
-use slices::replay_slice;
+use ring_calls::replay_ring;
+use slice_calls::replay_slice;
 use stream::Count;
 use stream::is_at_end;
 use stream::read_count;

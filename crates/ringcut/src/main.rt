@@ -4,9 +4,9 @@
 ghost use mathlib.Core.Path.{_≡_};
 ghost use Prim.Native.Nat.{_≤_};
 ghost use lib.ListN.{length};
-ghost use Rattle.frames.specs.Frame.{longest};
+ghost use Rattle.frame_bytes.specs.Frame.{longest};
 ghost use Rattle.lines.specs.State as T;
-use frames::reader::LONGEST;
+use frame_bytes::reader::LONGEST;
 use libc::STDIN_FILENO;
 use libc::STDOUT_FILENO;
 use lines::feed::feed_lines;

@@ -14,11 +14,11 @@ use Rattle.sutherland_hodgman.specs.declared.call.Refusal.the-variants.{Lengths
 use Rattle.sutherland_hodgman.specs.declared.call.RingAnswer.the-variants.{Refused}
 use Rattle.sutherland_hodgman.specs.Growth.{mostCoordinates}
 use Rattle.sutherland_hodgman.specs.Call.{code}
-use Rattle.frames.specs.declared.reader.FrameRefusal.{FrameRefusal}
-use Rattle.frames.specs.declared.reader.FrameRefusal.the-variants as Frames
+use Rattle.frame_bytes.specs.declared.reader.FrameRefusal.{FrameRefusal}
+use Rattle.frame_bytes.specs.declared.reader.FrameRefusal.the-variants as Frames
 use Rattle.frames.specs.declared.entry.FrameAnswer.the-variants.{Answered}
-use Rattle.frames.specs.Frame.{Reading, refused, read, Frame, refusalNumber}
-use Rattle.frames.specs.Entry.{answerOfReading, callAnswer}
+use Rattle.frame_bytes.specs.Frame.{refusalNumber}
+use Rattle.frames.specs.Entry.{callAnswer}
 use Rattle.frames.proofs.Entries.{answered-few}
 
 pub count-fits : (n : ℕ) → n ≤ 8 * mostCoordinates → SFits w64 (pos n)

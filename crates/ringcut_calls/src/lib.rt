@@ -4,16 +4,16 @@ ghost use Prim.Native.Nat.{_^_, _<_};
 ghost use lib.ListN.{length};
 ghost use Rattle.tile.specs.Bounds.{newOf};
 ghost use Rattle.sutherland_hodgman.specs.Call as S;
-ghost use Rattle.clip.specs.Slice as P;
-ghost use Rattle.frames.specs.Encoding as E;
+ghost use Rattle.slices.specs.Slice as P;
+ghost use Rattle.frames.specs.Output as E;
 ghost use Rattle.frames.specs.Entry as F;
 ghost use Rattle.ringcut_calls.specs.Flags.{isSet, flagsOf};
 use clip::polygon::Flags;
+use clip::polygon::PolygonAnswer;
 use clip::polygon::reason_number;
-use clip::slice::PolygonAnswer;
-use clip::slice::SliceAnswer;
+use frame_bytes::reader::refusal_number;
 use frames::entry::FrameAnswer;
-use frames::reader::refusal_number;
+use slices::call::SliceAnswer;
 use sutherland_hodgman::call::Refusal;
 use sutherland_hodgman::call::RingAnswer;
 use tile::TileBounds;
@@ -104,7 +104,7 @@ pub extern "C" fn ringcut_polygon(
         assume_simple: is_set(assume_simple),
         skip_boundary_fallback: is_set(skip_boundary_fallback),
     };
-    match clip::slice::polygon(
+    match slices::call::polygon(
         flags,
         TileBounds::new(west, south, east, north),
         buffer,

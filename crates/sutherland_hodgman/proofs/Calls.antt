@@ -1,7 +1,7 @@
 -- The ring call: what the checks leave, and what cutting and copying out make of the lent slices. Assumes nothing.
 use mathlib.Core.Path.{_≡_, refl, sym, _∙_}
 use mathlib.Core.Logic.{_⊎_, inl, inr}
-use mathlib.Core.Bool.{Bool, true, false, _||_, true≢false}
+use mathlib.Core.Bool.{Bool, true, false, _||_}
 use mathlib.Core.List.{List, [], _∷_, _++_}
 use Prim.Native.Nat.{ℕ, suc, _+_, _*_, _/_, _%_, _≤_}
 use native.Mathlib.Omega.{arith}
@@ -11,6 +11,7 @@ use lib.ListN.{length, getD, take, drop}
 use lib.Seq.{take-length}
 use borrow.Author.Tests.{ltb-false, eqb-false}
 use Rattle.binary64.specs.Slices.{zeros}
+use Rattle.binary64.proofs.Booleans.{neither}
 use Rattle.tile.specs.declared.Coord.{Coord}
 use Rattle.tile.specs.declared.TileBounds.{TileBounds}
 use Rattle.tile.specs.Ring.{coords, flat}
@@ -43,10 +44,6 @@ pub record Cuttable (numbers a b out : ℕ) : Type 0 where
 pub not-refused : (t : Bool) (r : Refusal) (c : Check) → refuse t r c ≡ Passes → (t ≡ false) × (c ≡ Passes)
 not-refused true r c e = absurd (let z : _≡_ {A = ℕ} 0 1 = cc in omega arith)
 not-refused false r c e = (refl, e)
-
-pub neither : (s t : Bool) → s || t ≡ false → (s ≡ false) × (t ≡ false)
-neither true t e = absurd (true≢false e)
-neither false t e = (refl, e)
 
 pub passes-cuttable : (numbers a b out : ℕ) → checked numbers a b out ≡ Passes → Cuttable numbers a b out
 unfolding checked

@@ -142,6 +142,14 @@ count-closed l e = rw (close-closed l e)
 pub count-open : (l : List Coord) → closed l ≡ false → length (close l) ≡ length l + 1
 count-open l e = let z : Coord = record { x = nan; y = nan } in rw (close-open l z e) (length-append l (getD l 0 z ∷ []))
 
+-- closing adds at most one
+pub close-most : (l : List Coord) → length (close l) ≤ length l + 1
+close-most l = go (closed l) refl
+  where
+    go : (c : Bool) → closed l ≡ c → length (close l) ≤ length l + 1
+    go true e = omega (arith, count-closed l e)
+    go false e = omega (arith, count-open l e)
+
 open-some : (l : List Coord) → closed l ≡ false → 0 < length l
 unfolding closed
 open-some [] e = absurd (true≢false e)

@@ -1,7 +1,6 @@
 -- `ringcut_frame` meets its contract, by that of the frame entry. Assumes nothing.
 use mathlib.Core.Path.{sym, _∙_, ap}
 use denote.Ref.{now}
-use lib.ListN.{length}
 use mir.Facts.{toZ-ofZ}
 use Rattle.frames.specs.Entry.{code}
 use Rattle.ringcut_calls.proofs.Codes.{negated, bytes-fit}

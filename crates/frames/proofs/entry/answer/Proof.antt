@@ -2,12 +2,12 @@
 use mathlib.Core.Path.{refl, sym, _∙_}
 use native.Mathlib.Omega.{arith}
 use denote.Ref.{now}
-use Rattle.clip.specs.declared.rectangle.Rect.the-variants as Rects
+use Rattle.rings.specs.declared.rectangle.Rect.the-variants as Rects
 use Rattle.clip.specs.Polygon.{routeRect}
-use Rattle.clip.proofs.Closing.{box-finite}
+use Rattle.rings.proofs.Closing.{box-finite}
 use Rattle.frames.specs.Answer.{Nothing, Dropped}
-use Rattle.frames.specs.Encoding.{answerBytes}
-use Rattle.frames.proofs.Rooms.{frame-head}
+use Rattle.frames.specs.Output.{answerBytes}
+use Rattle.frame_bytes.proofs.Rooms.{frame-head}
 use Rattle.frames.proofs.Listings.{alone}
 use Rattle.frames.proofs.Entries.{holds, as-answer, unmeasured}
 use borrow.Author.Needs.{needs}

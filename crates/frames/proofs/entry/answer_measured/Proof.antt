@@ -4,7 +4,7 @@ use native.Mathlib.Omega.{arith}
 use borrow.Author.Tests.{not-true, not-false}
 use denote.Ref.{now}
 use Rattle.frames.specs.Answer.{Nothing, Unchanged}
-use Rattle.frames.specs.Encoding.{answerBytes}
+use Rattle.frames.specs.Output.{answerBytes}
 use Rattle.frames.proofs.Listings.{alone}
 use Rattle.frames.proofs.Entries.{holds, as-answer, apart, inside, measured}
 use borrow.Author.Needs.{needs}

@@ -2,7 +2,7 @@
 use mathlib.Core.Path.{sym, _∙_}
 use denote.Ref.{now}
 use lib.ListN.{length}
-use Rattle.frames.specs.Room.{readCall}
+use Rattle.frame_bytes.specs.Room.{readCall}
 use Rattle.frames.proofs.Entries.{call-accepts, call-answers, call-refuses}
 use borrow.Author.Needs.{needs}
 use Rattle.frames.proofs.entry.frame.Statement.{statement}

@@ -2,9 +2,9 @@
 use mathlib.Core.Path.{ap}
 use denote.Ref.{now}
 use Rattle.frames.specs.declared.part.PartAnswer.the-variants.{Listed}
-use Rattle.frames.specs.Part.{partAt}
 use Rattle.frames.proofs.CutParts.{overlay-room}
 use borrow.Author.Needs.{needs}
+use Rattle.frame_bytes.specs.Frame.{partAt}
 use Rattle.frames.proofs.part.answer_route.Statement.{statement}
 use Rattle.frames.proofs.part.answer_route.Tie as tie
 

@@ -6,10 +6,9 @@ use native.Mathlib.Omega.{arith}
 use denote.Ref.{now}
 use lib.ListN.{drop}
 use Rattle.clip.specs.Polygon.{overlayOrDropped}
-use Rattle.clip.specs.Representable.{anyHugeRing}
+use Rattle.rings.specs.Representable.{anyHugeRing}
 use Rattle.frames.specs.declared.part.PartAnswer.the-variants.{Listed}
-use Rattle.frames.specs.Frame.{readPart}
-use Rattle.frames.specs.Part.{partAt}
+use Rattle.frame_bytes.specs.Frame.{readPart, partAt}
 use Rattle.frames.proofs.CutParts.{huge-in, overlay-bytes, overlay-length}
 use borrow.Author.Needs.{needs}
 use Rattle.frames.proofs.part.overlay_or_dropped.Statement.{statement}

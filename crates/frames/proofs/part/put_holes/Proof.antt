@@ -7,8 +7,8 @@ use denote.Ref.{now}
 use lib.ListN.{length, drop}
 use Rattle.tile.specs.Ring.{close}
 use Rattle.clip.specs.Polygon.{cutHole, unlessNone, cutHoles, Stands}
-use Rattle.frames.specs.Frame.{countOf, coordsOf, mostRings}
-use Rattle.frames.specs.Part.{ringsFrom, PutRings, RingsRoom}
+use Rattle.frame_bytes.specs.Frame.{countOf, coordsOf, mostRings, ringsFrom}
+use Rattle.frames.specs.Part.{PutRings, RingsRoom}
 use Rattle.frames.proofs.Cutting.{ring-read-in, Ahead, ahead-start, ahead-then, ahead-hole, ahead-none, hole-whole, hole-room, cut-room, cut-ring, next-room, holes-end, same-room, unless-count}
 use borrow.Author.Needs.{needs}
 use Rattle.frames.proofs.part.put_holes.Statement.{statement}

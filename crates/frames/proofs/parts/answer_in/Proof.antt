@@ -3,9 +3,8 @@ use native.Mathlib.Omega.{arith}
 use borrow.Author.Tests.{eq-eqb, ne-eqb}
 use denote.Ref.{now}
 use Rattle.clip.specs.Polygon.{routeMeasured}
-use Rattle.frames.specs.Frame.{headBytes}
+use Rattle.frame_bytes.specs.Frame.{headBytes, partAt}
 use Rattle.frames.specs.Answer.{listParts, flagsIn}
-use Rattle.frames.specs.Part.{partAt}
 use Rattle.frames.specs.Parts.{partsFrom, ofListing}
 use Rattle.frames.proofs.CutParts.{part-head}
 use Rattle.frames.proofs.Listings.{polygon-answers, finished}

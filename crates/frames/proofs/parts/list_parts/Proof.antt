@@ -5,10 +5,9 @@ use native.Mathlib.Numerals.{add-one}
 use native.Mathlib.Omega.{arith}
 use denote.Ref.{now}
 use lib.ListN.{length}
-use Rattle.clip.specs.Rectangle.{rectangle}
-use Rattle.frames.specs.Frame.{headBytes}
+use Rattle.rings.specs.Rectangle.{rectangle}
+use Rattle.frame_bytes.specs.Frame.{headBytes, partAt}
 use Rattle.frames.specs.Answer.{listParts}
-use Rattle.frames.specs.Part.{partAt}
 use Rattle.frames.specs.Parts.{routePartAs, partsFrom, Lists, listingOf, Few, PartsRoom}
 use Rattle.frames.proofs.Listings.{AheadParts, parts-start, parts-then, parts-one, parts-none, part-next, part-room, parts-room, listing-here, same-parts-room, parts-end, few-next}
 use borrow.Author.Needs.{needs}

@@ -7,7 +7,7 @@ use denote.Ref.{now}
 use lib.ListN.{length, take, drop}
 use borrow.Author.Needs.{needs}
 use lib.Seq.{length-take-le}
-use Rattle.clip.specs.Slice.{over}
+use Rattle.binary64.specs.Slices.{over}
 use Rattle.lines.specs.Lines.{hexLine}
 use Rattle.lines.specs.State.{endAnswer, stateOf, answerRoom}
 use Rattle.lines.proofs.Answers.{part-fits, part-over, answer-front, line-over}

@@ -5,7 +5,7 @@ use native.Mathlib.Omega.{arith}
 use denote.Ref.{now}
 use lib.ListN.{length, getD, take}
 use borrow.Author.Needs.{needs}
-use Rattle.frames.specs.Frame.{longest}
+use Rattle.frame_bytes.specs.Frame.{longest}
 use Rattle.lines.specs.Lines.{digit}
 use Rattle.lines.specs.State.{whole, Passes}
 use Rattle.lines.proofs.Running.{passes-start, passes-then, passes-pair}

@@ -1,9 +1,9 @@
 -- `reader::probe_frame_room` meets its contract. Assumes nothing.
 use mathlib.Core.Path.{sym, _∙_}
 use denote.Ref.{now}
-use Rattle.frames.specs.Frame.{readFrame}
-use Rattle.frames.specs.Room.{coordinateBytes}
-use Rattle.frames.proofs.Rooms.{refused-room}
+use Rattle.frame_bytes.specs.Frame.{readFrame}
+use Rattle.frame_bytes.specs.Room.{coordinateBytes}
+use Rattle.frame_bytes.proofs.Rooms.{refused-room}
 use borrow.Author.Needs.{needs}
 use Rattle.probe.proofs.reader.probe_frame_room.Statement.{statement}
 use Rattle.probe.proofs.reader.probe_frame_room.Tie as tie

@@ -2,7 +2,6 @@
 use mathlib.Core.Path.{sym}
 use borrow.Author.Needs.{needs}
 use native.Mathlib.Omega.{arith}
-use lib.ListN.{length}
 use lib.Seq.{length-take-le}
 use Rattle.replay.proofs.stream.fill_front.Statement.{statement}
 use Rattle.replay.proofs.stream.fill_front.Tie as tie

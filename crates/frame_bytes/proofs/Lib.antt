@@ -1,0 +1,9 @@
+pub mod Coordinates
+pub mod Measures
+pub mod PartRings
+pub mod Places
+pub mod Readings
+pub mod Rooms
+pub mod SimpleExteriors
+pub mod Walks
+pub mod Writing

@@ -1,0 +1,4 @@
+pub mod Encoding
+pub mod Frame
+pub mod Measure
+pub mod Room

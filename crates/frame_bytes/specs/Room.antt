@@ -1,0 +1,38 @@
+-- The output that a frame call asks for (document 01, "Frames", 22). Definitions only.
+use mathlib.Core.List.{List}
+use Prim.Native.Nat.{ℕ, _+_, _*_, _-_}
+use lib.Dec.{ltb}
+use lib.ListN.{length}
+use Rattle.tile.specs.declared.Coord.{Coord}
+use Rattle.rings.specs.Rings.{total, ringRoom}
+use Rattle.frame_bytes.specs.declared.reader.FrameRefusal.the-variants.{Output}
+use Rattle.frame_bytes.specs.declared.room.Passed.{Passed}
+use Rattle.frame_bytes.specs.Frame.{Reading, refused, read, refuse, andThen, Frame, readFrame}
+
+-- bytes of an answer that lists nothing, and of a coordinate in an answer
+abbrev pub leastRoom : ℕ
+leastRoom = 5
+
+abbrev pub coordinateBytes : ℕ
+coordinateBytes = 16
+
+-- "for each part, 6 + 2 × rings + 16 × its sum of B": 16 is the bytes of a coordinate
+unfoldable pub partRoom : ℕ → List (List Coord) → ℕ
+partRoom coordinate rings = 6 + 2 * length rings + coordinate * total ringRoom rings
+
+-- "for a frame, under 5 bytes plus" that for each part
+unfoldable pub room : ℕ → List (List (List Coord)) → ℕ
+room coordinate parts = leastRoom + total (partRoom coordinate) parts
+
+-- "A frame call does 11 to 18 and 22": the frame, where an output of so many bytes has the room
+unfoldable pub readCall : List ℕ → ℕ → Reading Frame
+readCall l out = andThen (readFrame l) (λ f rest. refuse (ltb out (room coordinateBytes (f .parts))) Output (read f rest))
+
+-- what the functions answer of a reading in a frame of so many bytes: the room of what was read, and where the next thing starts
+abbrev pub passedOf : {A : Type 0} → ℕ → (A → ℕ) → Reading A → Passed
+passedOf size f (refused r) = record { room = 0; next = 0 }
+passedOf size f (read a rest) = record { room = f a; next = size - length rest }
+
+abbrev pub frameRoom : ℕ → Reading Frame → ℕ
+frameRoom coordinate (refused r) = 0
+frameRoom coordinate (read f rest) = room coordinate (f .parts)

@@ -1,0 +1,65 @@
+// The bytes of an answer: counts, coordinates, rings, the header and the fixed part of a listed part, each written at a place of the output.
+ghost use mathlib.Core.Path.{_≡_};
+ghost use mathlib.Core.List.{[], _∷_, _++_};
+ghost use Prim.Native.Nat.{_+_, _*_, _≤_};
+ghost use lib.ListN.{length, take};
+ghost use lib.Seq.{sets};
+ghost use Rattle.tile.specs.Ring.{coords};
+ghost use Rattle.frame_bytes.specs.Encoding as S;
+use super::ring::COORD;
+use super::ring::COUNT;
+use binary64::bytes::write_f64;
+use binary64::bytes::write_u16;
+use tile::Coord;
+use tile::ring::coord_at;
+
+pub fn put_count(out: &mut [u8], at: usize, n: usize)
+    requires { ⌜ at + 2 ≤ length (now out) ⌝ }
+    ensures { λ _. ⌜ now (out .exit) ≡ sets (now (out .entry)) at (S.countBytes n) ⌝ }
+{
+    write_u16(out, at, n as u64);
+}
+
+fn put_coord(out: &mut [u8], at: usize, p: Coord)
+    requires { ⌜ at + 16 ≤ length (now out) ⌝ }
+    ensures { λ _. ⌜ now (out .exit) ≡ sets (now (out .entry)) at (S.coordBytes p) ⌝ }
+{
+    write_f64(out, at, p.x);
+    write_f64(out, at + 8, p.y);
+}
+
+// Writes the n coordinates at the front of a slice, their count first, and answers where the next thing is written.
+pub fn put_ring(ring: &[f64], n: usize, out: &mut [u8], at: usize) -> usize
+    requires { ⌜ (2 * n ≤ length (now ring)) × (at + 2 + 16 * n ≤ length (now out)) ⌝ }
+    ensures { λ r. ⌜ (r ≡ at + 2 + 16 * n) × (now (out .exit) ≡ sets (now (out .entry)) at (S.ringBytes S.coordBytes (coords (take (2 * n) (now (ring .entry)))))) ⌝ }
+{
+    put_count(out, at, n);
+    let first = at + COUNT;
+    let mut i = 0usize;
+    while i < n {
+        let p = coord_at(ring, i);
+        put_coord(out, first + COORD * i, p);
+        i += 1;
+    }
+    first + COORD * n
+}
+
+// The header is written when the parts behind it are known.
+pub fn put_header(out: &mut [u8], number: u8, guard: usize, parts: usize)
+    requires { ⌜ 5 ≤ length (now out) ⌝ }
+    ensures { λ _. ⌜ now (out .exit) ≡ sets (now (out .entry)) 0 (S.headerBytes number guard parts) ⌝ }
+{
+    out[0] = number;
+    put_count(out, 1, guard);
+    put_count(out, 3, parts);
+}
+
+// What each listed part has: the rings of a cut stand behind it.
+pub fn put_part(out: &mut [u8], at: usize, index: usize, number: u8, reason: u8)
+    requires { ⌜ at + 4 ≤ length (now out) ⌝ }
+    ensures { λ _. ⌜ now (out .exit) ≡ sets (now (out .entry)) at (S.countBytes index ++ (number ∷ reason ∷ [])) ⌝ }
+{
+    put_count(out, at, index);
+    out[at + 2] = number;
+    out[at + 3] = reason;
+}

@@ -1,0 +1,101 @@
+// The room that the answer to an accepted frame may take, and the refusals of a frame call, document 01's 11 to 18 and 22.
+ghost use mathlib.Core.Path.{_≡_};
+ghost use Prim.Native.Nat.{_≤_};
+ghost use lib.ListN.{length, drop};
+ghost use Rattle.rings.specs.Rings.{total, ringRoom};
+ghost use Rattle.frame_bytes.specs.Frame as S;
+ghost use Rattle.frame_bytes.specs.Room as R;
+use super::head::HEAD;
+use super::head::PART_COUNT;
+use super::reader::FrameCheck;
+use super::reader::FrameRefusal;
+use super::reader::check_frame;
+use super::ring::COORD;
+use super::ring::COUNT;
+use super::ring::closed_count;
+use super::ring::count_at;
+use sutherland_hodgman::call::room_for;
+
+// The bytes of an answer that lists nothing.
+pub const LEAST_ROOM: usize = 5;
+
+// The room of what was passed over, and where the next thing starts.
+struct Passed {
+    room: usize,
+    next: usize,
+}
+
+// The room, in coordinates, of the ring at a place, by its length closed.
+fn ring_room(frame: &[u8], at: usize) -> Passed
+    requires { ⌜ (at ≤ length (now frame)) × S.Accepted (S.readRing (drop at (now frame))) ⌝ }
+    ensures { λ r. ⌜ r ≡ R.passedOf (length (now (frame .entry))) ringRoom (S.readRing (drop at (now (frame .entry)))) ⌝ }
+{
+    let n = count_at(frame, at);
+    let coords = at + COUNT;
+    Passed {
+        room: room_for(closed_count(frame, coords, n)),
+        next: coords + COORD * n,
+    }
+}
+
+// The room, in coordinates, of so many rings from a place on.
+fn rings_room(frame: &[u8], start: usize, rings: usize) -> Passed
+    requires { ⌜ (start ≤ length (now frame)) × (rings ≤ S.mostRings) × S.Accepted (S.readMany S.readRing rings (drop start (now frame))) ⌝ }
+    ensures { λ r. ⌜ r ≡ R.passedOf (length (now (frame .entry))) (total ringRoom) (S.readMany S.readRing rings (drop start (now (frame .entry)))) ⌝ }
+{
+    let mut room = 0usize;
+    let mut at = start;
+    let mut left = rings;
+    while left > 0 {
+        let ring = ring_room(frame, at);
+        room += ring.room;
+        at = ring.next;
+        left -= 1;
+    }
+    Passed { room, next: at }
+}
+
+// The room, in bytes, of the part at a place.
+fn part_room(frame: &[u8], at: usize) -> Passed
+    requires { ⌜ (at ≤ length (now frame)) × S.Accepted (S.readPart (drop at (now frame))) ⌝ }
+    ensures { λ r. ⌜ r ≡ R.passedOf (length (now (frame .entry))) (R.partRoom R.coordinateBytes) (S.readPart (drop at (now (frame .entry)))) ⌝ }
+{
+    let rings = count_at(frame, at);
+    let cut = rings_room(frame, at + COUNT, rings);
+    Passed {
+        room: 6 + 2 * rings + COORD * cut.room,
+        next: cut.next,
+    }
+}
+
+// The room, in bytes, of an answer to the frame.
+pub fn frame_room(frame: &[u8]) -> usize
+    requires { ⌜ S.Accepted (S.readFrame (now frame)) ⌝ }
+    ensures { λ r. ⌜ r ≡ R.frameRoom R.coordinateBytes (S.readFrame (now (frame .entry))) ⌝ }
+{
+    let mut room = LEAST_ROOM;
+    let mut at = HEAD;
+    let mut left = count_at(frame, PART_COUNT);
+    while left > 0 {
+        let part = part_room(frame, at);
+        room += part.room;
+        at = part.next;
+        left -= 1;
+    }
+    room
+}
+
+// The refusals of a frame call with an output of so many bytes, in their order.
+pub fn check_call(frame: &[u8], out: usize) -> FrameCheck
+    ensures { λ r. ⌜ r ≡ S.checkOf (R.readCall (now (frame .entry)) out) ⌝ }
+{
+    match check_frame(frame) {
+        FrameCheck::Fails(refusal) => FrameCheck::Fails(refusal),
+        FrameCheck::Passes => {
+            if out < frame_room(frame) {
+                return FrameCheck::Fails(FrameRefusal::Output);
+            }
+            FrameCheck::Passes
+        }
+    }
+}

@@ -1,0 +1,46 @@
+// The issue check of an exterior that is assumed to be simple, on the bytes: it takes no array.
+ghost use mathlib.Core.Path.{_≡_};
+ghost use Prim.Native.Nat.{_+_, _*_, _≤_};
+ghost use lib.ListN.{length, drop};
+ghost use Rattle.tile.specs.Ring.{close};
+ghost use Rattle.box_pairs.specs.Issue.{repeated};
+ghost use Rattle.frame_bytes.specs.Frame as S;
+ghost use Rattle.frame_bytes.specs.Measure.{soundIfSimple};
+use super::ring::COORD;
+use super::ring::COUNT;
+use super::ring::closed_count;
+use super::ring::coord_at;
+use super::ring::count_at;
+use box_pairs::cross::is_short;
+
+// Whether two neighbours of the ring of n coordinates at a place, closed to `count`, are near each other, the last segment excepted. Each coordinate is read once.
+fn has_repeated(frame: &[u8], at: usize, n: usize, count: usize) -> bool
+    requires { ⌜ (at + 16 * n ≤ length (now frame)) × (count ≡ length (close (S.coordsOf n (drop at (now frame))))) × (4 ≤ count) ⌝ }
+    ensures { λ r. ⌜ r ≡ repeated (close (S.coordsOf n (drop at (now (frame .entry))))) ⌝ }
+{
+    let mut p = coord_at(frame, at);
+    let mut k = 0usize;
+    while k + 2 < count {
+        let q = coord_at(frame, at + COORD * (k + 1));
+        if is_short(p, q) {
+            return true;
+        }
+        p = q;
+        k += 1;
+    }
+    false
+}
+
+// Whether the exterior of the part at a place has no issue if it is assumed to be simple.
+pub fn is_sound_if_simple(frame: &[u8], at: usize) -> bool
+    requires { ⌜ (at ≤ length (now frame)) × S.Accepted (S.readPart (drop at (now frame))) ⌝ }
+    ensures { λ r. ⌜ r ≡ soundIfSimple (S.readPart (drop at (now (frame .entry)))) ⌝ }
+{
+    let n = count_at(frame, at + COUNT);
+    let coords = at + COUNT + COUNT;
+    let count = closed_count(frame, coords, n);
+    if count < 4 {
+        return false;
+    }
+    !has_repeated(frame, coords, n, count)
+}

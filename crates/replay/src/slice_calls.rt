@@ -1,0 +1,294 @@
+// Slice calls, each held to its answer and to what that answer leaves in the lent slices.
+ghost use mathlib.Core.Path.{_≡_};
+ghost use Prim.Native.Nat.{_^_, _<_, _≤_};
+ghost use lib.ListN.{length};
+use super::code::Outcome;
+use super::code::is_refusal;
+use super::code::of_slice;
+use super::code::rings_of;
+use super::lent::MARK;
+use super::lent::MOST_NUMBERS;
+use super::lent::ROOM;
+use super::lent::WHOLE_MARK;
+use super::lent::are_all;
+use super::lent::are_all_wholes;
+use super::lent::holds;
+use super::lent::holds_wholes;
+use super::lent::order_after;
+use super::lent::scratch_after;
+use super::stream::Code;
+use super::stream::Count;
+use super::stream::count_at;
+use super::stream::fill;
+use super::stream::read_code;
+use super::stream::read_count;
+use super::stream::read_numbers;
+use super::stream::read_wholes;
+use binary64::bytes::read_f64;
+use clip::polygon::Flags;
+use slices::call::polygon;
+use tile::TileBounds;
+
+// The bytes before the lengths of the rings: flags, five lengths, the bounds, the buffer, and the count of rings.
+const HEAD: usize = 68;
+
+// The most rings that are lent or expected.
+const MOST_RINGS: usize = 128;
+
+// `a` to `out_lengths` are the lengths of the slices.
+struct Head {
+    flags: Flags,
+    a: usize,
+    b: usize,
+    order: usize,
+    out: usize,
+    out_lengths: usize,
+    bounds: TileBounds,
+    buffer: f64,
+    rings: usize,
+}
+
+fn read_flags(bytes: &[u8]) -> Flags
+    requires { ⌜ length (now bytes) ≡ 68 ⌝ }
+{
+    let flags = count_at(bytes, 0);
+    Flags {
+        assume_simple: flags % 2 == 1,
+        skip_boundary_fallback: flags / 2 == 1,
+    }
+}
+
+fn read_bounds(bytes: &[u8]) -> TileBounds
+    requires { ⌜ length (now bytes) ≡ 68 ⌝ }
+{
+    let west = read_f64(bytes, 24);
+    let south = read_f64(bytes, 32);
+    let east = read_f64(bytes, 40);
+    let north = read_f64(bytes, 48);
+    TileBounds::new(west, south, east, north)
+}
+
+fn read_head(bytes: &[u8]) -> Head
+    requires { ⌜ length (now bytes) ≡ 68 ⌝ }
+{
+    Head {
+        flags: read_flags(bytes),
+        a: count_at(bytes, 4),
+        b: count_at(bytes, 8),
+        order: count_at(bytes, 12),
+        out: count_at(bytes, 16),
+        out_lengths: count_at(bytes, 20),
+        bounds: read_bounds(bytes),
+        buffer: read_f64(bytes, 56),
+        rings: count_at(bytes, 64),
+    }
+}
+
+// Whether a call has left the scratch, order and output slices as it has to. It reads them only: where they are lent to be written, each return is proved to keep all their lengths.
+fn leaves(
+    refused: bool,
+    a: &[f64],
+    b: &[f64],
+    order: &[u32],
+    out: &[f64],
+    out_lengths: &[u32],
+    expected: &[f64],
+    expected_lengths: &[u32],
+) -> bool {
+    if !are_all(a, scratch_after(refused)) {
+        return false;
+    }
+    if !are_all(b, scratch_after(refused)) {
+        return false;
+    }
+    if !are_all_wholes(order, order_after(refused)) {
+        return false;
+    }
+    if !holds(out, expected) {
+        return false;
+    }
+    holds_wholes(out_lengths, expected_lengths)
+}
+
+fn agrees(
+    code: u64,
+    head: Head,
+    coords: &[f64],
+    lengths: &[u32],
+    a: &mut [f64],
+    b: &mut [f64],
+    order: &mut [u32],
+    out: &mut [f64],
+    out_lengths: &mut [u32],
+    expected: &[f64],
+    expected_lengths: &[u32],
+) -> bool {
+    let answer = polygon(
+        head.flags,
+        head.bounds,
+        head.buffer,
+        coords,
+        lengths,
+        a,
+        b,
+        order,
+        out,
+        out_lengths,
+    );
+    if of_slice(answer) != code {
+        return false;
+    }
+    let refused = is_refusal(code);
+    leaves(
+        refused,
+        a,
+        b,
+        order,
+        out,
+        out_lengths,
+        expected,
+        expected_lengths,
+    )
+}
+
+fn call(
+    head: Head,
+    code: u64,
+    coords: &[f64],
+    lengths: &[u32],
+    expected: &[f64],
+    expected_lengths: &[u32],
+) -> Outcome {
+    let a_length = head.a;
+    let b_length = head.b;
+    let order_length = head.order;
+    let out_length = head.out;
+    let lengths_length = head.out_lengths;
+    if a_length > ROOM {
+        return Outcome::Broken;
+    }
+    if b_length > ROOM {
+        return Outcome::Broken;
+    }
+    if order_length > ROOM {
+        return Outcome::Broken;
+    }
+    if out_length > ROOM {
+        return Outcome::Broken;
+    }
+    if lengths_length > ROOM {
+        return Outcome::Broken;
+    }
+    let mut a = [MARK; ROOM];
+    let mut b = [MARK; ROOM];
+    let mut order = [WHOLE_MARK; ROOM];
+    let mut out = [MARK; ROOM];
+    let mut out_lengths = [WHOLE_MARK; ROOM];
+    if agrees(
+        code,
+        head,
+        coords,
+        lengths,
+        &mut a[..a_length],
+        &mut b[..b_length],
+        &mut order[..order_length],
+        &mut out[..out_length],
+        &mut out_lengths[..lengths_length],
+        expected,
+        expected_lengths,
+    ) {
+        return Outcome::Same(code);
+    }
+    Outcome::Differs
+}
+
+fn wide(x: u32) -> usize
+    ensures { λ r. ⌜ r < 2 ^ 32 ⌝ }
+{
+    x as usize
+}
+
+// The numbers of rings with these lengths; where they have no room, one more than that.
+fn numbers_in(lengths: &[u32]) -> usize
+    ensures { λ r. ⌜ r ≤ 4097 ⌝ }
+{
+    let mut sum = 0usize;
+    let mut i = 0usize;
+    while i < lengths.len() {
+        sum += wide(lengths[i]);
+        if sum > 2048 {
+            return ROOM + 1;
+        }
+        i += 1;
+    }
+    2 * sum
+}
+
+// From the answer on: a cut's lengths and numbers follow it.
+fn replay_answer(head: Head, coords: &[f64], lengths: &[u32]) -> Outcome {
+    let Code::Is(code) = read_code() else {
+        return Outcome::Broken;
+    };
+    let k = rings_of(code);
+    if k > MOST_RINGS {
+        return Outcome::Broken;
+    }
+    let mut expected_lengths = [0u32; MOST_RINGS];
+    if !read_wholes(k, &mut expected_lengths) {
+        return Outcome::Broken;
+    }
+    let m = numbers_in(&expected_lengths[..k]);
+    if m > ROOM {
+        return Outcome::Broken;
+    }
+    let mut expected = [0.0f64; ROOM];
+    if !read_numbers(m, &mut expected) {
+        return Outcome::Broken;
+    }
+    call(
+        head,
+        code,
+        coords,
+        lengths,
+        &expected[..m],
+        &expected_lengths[..k],
+    )
+}
+
+// From the count of numbers on.
+fn replay_numbers(head: Head, lengths: &[u32]) -> Outcome {
+    let Count::Is(n) = read_count() else {
+        return Outcome::Broken;
+    };
+    let Count::Is(stored) = read_count() else {
+        return Outcome::Broken;
+    };
+    if n > MOST_NUMBERS {
+        return Outcome::Broken;
+    }
+    let mut coords = [0.0f64; MOST_NUMBERS];
+    if !read_numbers(stored, &mut coords) {
+        return Outcome::Broken;
+    }
+    replay_answer(head, &coords[..n], lengths)
+}
+
+fn replay_with(head: Head) -> Outcome {
+    let k = head.rings;
+    if k > MOST_RINGS {
+        return Outcome::Broken;
+    }
+    let mut lengths = [0u32; MOST_RINGS];
+    if !read_wholes(k, &mut lengths) {
+        return Outcome::Broken;
+    }
+    replay_numbers(head, &lengths[..k])
+}
+
+pub fn replay_slice() -> Outcome {
+    let mut bytes = [0u8; HEAD];
+    if !fill(&mut bytes) {
+        return Outcome::Broken;
+    }
+    replay_with(read_head(&bytes))
+}

@@ -1,0 +1,4 @@
+pub mod Closing
+pub mod LentRings
+pub mod Rectangles
+pub mod Walks

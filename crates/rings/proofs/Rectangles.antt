@@ -1,0 +1,55 @@
+-- The loop over a ring's coordinates: the rectangle so far, with what is left, is that of the whole; its four numbers are no NaN once a coordinate is in. Assumes nothing.
+use mathlib.Core.Path.{_≡_, refl, _∙_, subst}
+use mathlib.Core.Bool.{true, false}
+use mathlib.Core.List.{List, [], _∷_}
+use Prim.Native.Nat.{ℕ, _+_, _*_, _<_, _≤_}
+use native.Mathlib.Numerals.{add-one}
+use native.Mathlib.Omega.{arith}
+use lib.Ieee.{Float, nan}
+use lib.ListN.{length, getD, take, drop, drop-of-length-le}
+use lib.Seq.{drop-cons}
+use Rattle.binary64.specs.Compare.{minimum, maximum}
+use Rattle.tile.specs.declared.Coord.{Coord}
+use Rattle.tile.specs.Ring.{coords, coordAt}
+use Rattle.tile.proofs.Rings.{length-front, front-at}
+use Rattle.rings.specs.declared.rectangle.Rect.{Rect}
+use Rattle.rings.specs.declared.rectangle.Rect.the-variants as R
+use Rattle.rings.specs.Rectangle.{isFiniteCoord, withCoord, withRing, Numbers}
+use Rattle.rings.proofs.Closing.{Corners, Holds, holds-new}
+
+pub ring-step : (r : Rect) (ring : List Coord) (i : ℕ) (z : Coord) → i < length ring → withRing r (drop i ring) ≡ withRing (withCoord r (getD ring i z)) (drop (i + 1) ring)
+unfolding withRing
+ring-step r ring i z h = rw (add-one, drop-cons ring i z h)
+
+pub ring-end : (r : Rect) (ring : List Coord) (i : ℕ) → length ring ≤ i → withRing r (drop i ring) ≡ r
+unfolding withRing
+ring-end r ring i h = rw (drop-of-length-le ring h)
+
+-- the first coordinate, then the rest
+pub ring-first : (r : Rect) (s : List Float) (n : ℕ) → 2 * n ≤ length s → 0 < n → withRing r (coords (take (2 * n) s)) ≡ withRing (withCoord r (coordAt s 0)) (drop 1 (coords (take (2 * n) s)))
+ring-first r s n h l =
+    let z : Coord = record { x = nan; y = nan } in
+    let m = length-front s n h in
+    ring-step r (coords (take (2 * n) s)) 0 z (omega arith) ∙ rw (front-at s n 0 z h l)
+
+pub not-finite-stays : (ring : List Coord) → withRing R.NotFinite ring ≡ R.NotFinite
+unfolding withRing withCoord
+not-finite-stays [] = refl
+not-finite-stays (p ∷ ps) = not-finite-stays ps
+
+-- ---- four numbers
+
+pub corners-numbers : (p : Coord) (w s e n : Float) → Corners p w s e n → Numbers w s e n
+corners-numbers p w s e n h = record { west = h .west .number; south = h .south .number; east = h .east .number; north = h .north .number }
+
+module _ (w s e n : Float) (p : Coord) where
+  pub box-then : isFiniteCoord p ≡ true → withCoord (R.Box w s e n) p ≡ R.Box (minimum w (p .x)) (minimum s (p .y)) (maximum e (p .x)) (maximum n (p .y))
+  unfolding withCoord
+  box-then h = rw h
+
+  pub box-stop : isFiniteCoord p ≡ false → withCoord (R.Box w s e n) p ≡ R.NotFinite
+  unfolding withCoord
+  box-stop h = rw h
+
+  pub box-numbers : isFiniteCoord p ≡ true → Numbers (minimum w (p .x)) (minimum s (p .y)) (maximum e (p .x)) (maximum n (p .y))
+  box-numbers h = corners-numbers p _ _ _ _ (subst (Holds p) (box-then h) (holds-new p (R.Box w s e n)))

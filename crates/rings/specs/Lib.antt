@@ -1,0 +1,4 @@
+pub mod Bridge
+pub mod Rectangle
+pub mod Representable
+pub mod Rings
