@@ -1,25 +1,29 @@
 -- An input that is fed in blocks of any sizes prints what the whole input prints. Assumes nothing.
 use mathlib.Core.Path.{_≡_, refl, sym, _∙_, ap}
-use mathlib.Core.List.{List, [], _++_, append-assoc}
+use mathlib.Core.List.{List, [], _∷_, _++_, append-assoc}
 use Prim.Native.Nat.{ℕ}
-use lib.ListN.{take, drop}
+use Rattle.frame_bytes.specs.Encoding.{each}
 use Rattle.lines.specs.Lines.{printed}
-use Rattle.lines.specs.State.{State, start, endOfInput, printedFrom, Prints}
-use Rattle.lines.proofs.Printed.{printed-from-start}
+use Rattle.lines.specs.State.{State, start, endOfInput, stateAfter, printedBy}
+use Rattle.lines.proofs.Printed.{printed-whole}
+use Rattle.lines.proofs.Running.{state-append, printed-append}
 
--- An input answered to its end, with what was written, one part behind the other, and the state reached. Each part is some bytes at the front of what is
--- left, and what it did not take is left.
-pub data Feedings : List ℕ → State → List ℕ → State → Type 0 where
-  none : {st : State} → Feedings [] st [] st
-  more : (rest : List ℕ) {block : List ℕ} {st st′ st″ : State} {out out′ : List ℕ} {taken written : ℕ} {others : List ℕ} → Prints block st out taken written st′ out′
-      → Feedings (drop taken block ++ rest) st′ others st″ → Feedings (block ++ rest) st (take written out′ ++ others) st″
+-- what blocks print, one behind the other, and then the end of the input
+pub blocksPrint : State → List (List ℕ) → List ℕ
+blocksPrint st [] = endOfInput st
+blocksPrint st (block ∷ others) = printedBy st block ++ blocksPrint (stateAfter st block) others
 
-printed-from : {input : List ℕ} {st st′ : State} {w : List ℕ} → Feedings input st w st′ → printedFrom st input ≡ w ++ endOfInput st′
-unfolding printedFrom
-printed-from none = refl
-printed-from (more rest {out′ = out′} {written = written} {others = others} f g) =
-    f .same rest ∙ ap (λ (l : List ℕ). take written out′ ++ l) (printed-from g) ∙ sym (append-assoc (take written out′) others _)
+abbrev whole : List (List ℕ) → List ℕ
+whole blocks = each (λ (block : List ℕ). block) blocks
 
--- all that is written, and then what the end of the input writes
-pub all-printed : {input : List ℕ} {st : State} {w : List ℕ} → Feedings input start w st → w ++ endOfInput st ≡ printed input
-all-printed {input} f = sym (sym (printed-from-start input) ∙ printed-from f)
+as-one : (blocks : List (List ℕ)) (st : State) → blocksPrint st blocks ≡ printedBy st (whole blocks) ++ endOfInput (stateAfter st (whole blocks))
+unfolding blocksPrint each printedBy stateAfter
+as-one [] st = refl
+as-one (block ∷ others) st =
+    let rest = whole others in
+    let reached = stateAfter st block in
+    ap (λ (l : List ℕ). printedBy st block ++ l) (as-one others reached) ∙ sym (append-assoc (printedBy st block) (printedBy reached rest) (endOfInput (stateAfter reached rest)))
+    ∙ sym (rw (printed-append block rest st, state-append block rest st))
+
+pub all-printed : (blocks : List (List ℕ)) → blocksPrint start blocks ≡ printed (whole blocks)
+all-printed blocks = as-one blocks start ∙ printed-whole (whole blocks)

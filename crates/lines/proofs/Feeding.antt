@@ -1,13 +1,14 @@
 -- The line step and the end of the input, case by case. Assumes nothing.
 use mathlib.Core.Path.{_≡_, refl, sym, _∙_, ap}
 use mathlib.Core.Bool.{Bool, true, false, not, cond, true≢false}
-use mathlib.Core.List.{List, [], _∷_, _++_}
+use mathlib.Core.List.{List, [], _∷_, _++_, append-nil}
 use Prim.Native.Nat.{ℕ, zero, suc, _+_, _≤_, _<_}
+use native.Mathlib.Nat.{sub-zero}
 use native.Mathlib.Numerals.{add-one}
 use native.Mathlib.Omega.{arith}
 use lib.Dec.{eqb, leb}
 use lib.ListN.{length, getD, take, drop, length-append, drop-of-length-le}
-use lib.Seq.{drop-cons, take-append-seam, drop-append-seam}
+use lib.Seq.{take-suc, drop-cons}
 use borrow.Author.Tests.{le-leb, ne-eqb, eq-eqb, eqb-true, eqb-false, leb-true}
 use Rattle.binary64.specs.Slices.{over}
 use Rattle.binary64.proofs.Booleans.{both}
@@ -15,7 +16,8 @@ use Rattle.frame_bytes.specs.Frame.{longest}
 use Rattle.lines.specs.declared.line.Line.{Line}
 use Rattle.lines.specs.declared.line.Line.the-variants as Held
 use Rattle.lines.specs.Lines.{newline}
-use Rattle.lines.specs.State.{State, whole, start, endLine, endOfInput, printedFrom, lineLength, stateOf, Passes, lineRoom, lent, Prints, Feeds, notBegun}
+use Rattle.lines.specs.State.{State, whole, start, endLine, endOfInput, stateAfter, printedBy, lineLength, stateOf, part, Passes, lineRoom, lent, Prints, Feeds, notBegun}
+use Rattle.lines.proofs.Running.{state-append, printed-append}
 
 -- ---- whether the slices have the lengths that are asked for
 
@@ -46,19 +48,31 @@ over-fits w out out′ written n o kept = omega (arith, n, kept, ap length o, le
 
 -- ---- feeding
 
-pub prints-nothing : (block : List ℕ) (st : State) (out : List ℕ) → Prints block st out 0 0 st out
-prints-nothing block st out = record { within = omega arith; same = λ rest. refl; room = omega arith; past = refl }
+pub prints-nothing : (st : State) (out : List ℕ) → Prints [] st out 0 st out
+unfolding stateAfter printedBy
+prints-nothing st out = record { state = refl; count = refl; output = refl; room = omega arith }
 
 pub feeds-nothing : (block : List ℕ) (st : State) (ready : Bool) (kept out : List ℕ) → ready ≡ false → Feeds block st ready kept out 0 0 st kept out
 feeds-nothing block st ready kept out e = record {
   line = rw e;
-  prints = prints-nothing block st out;
-  untaken = λ _. (refl, refl, refl);
+  prints = prints-nothing st out;
+  untaken = λ _. refl;
   free = refl;
 }
 
 taken-only : {A : Type 0} {ready : Bool} → ready ≡ true → ready ≡ false → A
 taken-only t f = absurd (true≢false (sym t ∙ f))
+
+-- from the front of a block
+module _ {block : List ℕ} {st st₁ : State} {at : ℕ} (p : Passes block 0 st at st₁) where
+  whole-front : part 0 at block ≡ take at block
+  whole-front = ap (λ (n : ℕ). take n block) (sub-zero at)
+
+  front-state : st₁ ≡ stateAfter st (take at block)
+  front-state = p .reached ∙ ap (stateAfter st) whole-front
+
+  front-silent : printedBy st (take at block) ≡ []
+  front-silent = sym (ap (printedBy st) whole-front) ∙ p .silent
 
 -- up to the block's end, with no newline in it
 pub feeds-block : (block : List ℕ) (st st₁ : State) (ready : Bool) (kept kept′ out : List ℕ) (at : ℕ) → ready ≡ true → Passes block 0 st at st₁ → length block ≤ at
@@ -67,7 +81,7 @@ unfolding lineLength
 feeds-block block st st₁ ready kept kept′ out at e p h free =
     let none : drop at block ≡ [] = drop-of-length-le block h in
     let all : at ≡ lineLength block = omega (arith, p .in-line, ap lineLength none) in
-    record { line = rw e all; prints = record { within = p .within; same = p .same; room = omega arith; past = refl }; untaken = taken-only e; free = free }
+    record { line = rw e all; prints = record { state = front-state p; count = rw (front-silent p); output = rw (front-silent p); room = omega arith }; untaken = taken-only e; free = free }
 
 -- up to a newline
 module _ (block : List ℕ) (at : ℕ) (h : at < length block) (e : getD block at 0 ≡ newline) where
@@ -75,30 +89,40 @@ module _ (block : List ℕ) (at : ℕ) (h : at < length block) (e : getD block a
   unfolding lineLength
   last-of-line = rw (drop-cons block at 0 h, e)
 
-  newline-read : (st : State) (rest : List ℕ) → printedFrom st (drop at block ++ rest) ≡ endLine st ++ printedFrom start (drop (at + 1) block ++ rest)
-  unfolding printedFrom
-  newline-read st rest = rw (add-one, drop-cons block at 0 h, e)
+  with-newline : take (at + 1) block ≡ take at block ++ (newline ∷ [])
+  with-newline = rw (add-one, take-suc block at 0 h, e)
+
+  line-state : (st : State) → stateAfter st (take (at + 1) block) ≡ start
+  unfolding stateAfter
+  line-state st = rw with-newline (state-append (take at block) (newline ∷ []) st)
+
+  line-printed : (st : State) → printedBy st (take at block) ≡ [] → printedBy st (take (at + 1) block) ≡ endLine (stateAfter st (take at block))
+  unfolding printedBy
+  line-printed st none = rw with-newline (printed-append (take at block) (newline ∷ []) st ∙ rw none (append-nil _))
 
 pub feeds-line : (block : List ℕ) (st st₁ : State) (ready : Bool) (kept kept′ out out′ : List ℕ) (at written : ℕ) → ready ≡ true → Passes block 0 st at st₁ → at < length block → getD block at 0 ≡ newline
     → written ≡ length (endLine st₁) → out′ ≡ over (endLine st₁) out → length out′ ≡ length out → length kept′ ≡ length kept
     → Feeds block st ready kept out (at + 1) written start kept′ out′
 feeds-line block st st₁ ready kept kept′ out out′ at written t p h e n o sized free =
-    let rest-of-out = drop (length (endLine st₁)) out in
-    let front : take written out′ ≡ endLine st₁ = rw (n, o) (take-append-seam (endLine st₁) rest-of-out) in
+    let text : printedBy st (take (at + 1) block) ≡ endLine st₁ = line-printed block at h e st (front-silent p) ∙ ap endLine (sym (front-state p)) in
     let all : at + 1 ≡ lineLength block = omega (arith, p .in-line, last-of-line block at h e) in
     record {
       line = rw t all;
-      prints = record {
-        within = omega arith;
-        same = λ rest. p .same rest ∙ newline-read block at h e st₁ rest ∙ rw front;
-        room = over-fits (endLine st₁) out out′ written n o sized;
-        past = rw (n, o) (drop-append-seam (endLine st₁) rest-of-out);
-      };
+      prints = record { state = sym (line-state block at h e st); count = rw text n; output = rw text o; room = over-fits (endLine st₁) out out′ written n o sized };
       untaken = taken-only t;
       free = free;
     }
 
--- so something is taken of every block that is not empty, and feeding what is left comes to the block's end
+-- so something is taken of every block that is not empty, and no more than it has
+line-within : (block : List ℕ) → lineLength block ≤ length block
+unfolding lineLength
+line-within [] = omega arith
+line-within (b ∷ rest) = by-test (eqb b newline) (line-within rest)
+  where
+    by-test : (t : Bool) → lineLength rest ≤ length rest → cond t 1 (suc (lineLength rest)) ≤ suc (length rest)
+    by-test true h = omega arith
+    by-test false h = omega arith
+
 some-length : (block : List ℕ) → 0 < length block → 0 < lineLength block
 unfolding lineLength
 some-length [] h = absurd (omega arith)
@@ -109,10 +133,10 @@ some-length (b ∷ rest) h = by-test (eqb b newline)
     by-test false = omega arith
 
 pub takes-some : {block : List ℕ} {st st′ : State} {kept kept′ out out′ : List ℕ} {taken written : ℕ} → Feeds block st (lent kept out) kept out taken written st′ kept′ out′
-    → length kept ≡ longest → lineRoom ≤ length out → 0 < length block → 0 < taken
+    → length kept ≡ longest → lineRoom ≤ length out → 0 < length block → (0 < taken) × (taken ≤ length block)
 takes-some {block} {kept = kept} {out = out} {taken = taken} f e r h =
     let all : taken ≡ lineLength block = f .line ∙ rw (both-lent kept out e r) in
-    omega (arith, all, some-length block h)
+    (omega (arith, all, some-length block h), omega (arith, all, line-within block))
 
 -- ---- the end of the input
 

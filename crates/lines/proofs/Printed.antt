@@ -11,7 +11,7 @@ use Rattle.frame_bytes.specs.Frame.{longest, shortest, readFrame, refusalNumber
 use Rattle.frame_bytes.specs.declared.reader.FrameRefusal.the-variants.{Size}
 use Rattle.frame_bytes.specs.Encoding.{each}
 use Rattle.lines.specs.Lines.{newline, inFront, linesOf, digit, isDigit, Decoded, notPairs, bytes, withByte, decode, hexLine, refusalBytes, frameAnswer, notPairsNumber, decodedAnswer, answerLine, printed}
-use Rattle.lines.specs.State.{State, notDigits, whole, half, long, start, takeDigit, after, endAnswer, endLine, endOfInput, printedFrom}
+use Rattle.lines.specs.State.{State, notDigits, whole, half, long, start, takeDigit, after, endAnswer, endLine, endOfInput, stateAfter, printedBy}
 
 -- a frame over the longest is answered 11
 too-long : (l : List ℕ) → longest < length l → refusalBytes (refusalNumber Size) ≡ frameAnswer l
@@ -154,16 +154,20 @@ unfolding printedLines each
 from-start [] = refl
 from-start (line ∷ others) = rw (line-answer line)
 
-by-newline : (st : State) (b : ℕ) (rest : List ℕ) (t : Bool) → eqb b newline ≡ t → ((st : State) → printedFrom st rest ≡ printedLines st (linesOf rest))
-    → printedFrom st (b ∷ rest) ≡ printedLines st (linesOf (b ∷ rest))
-unfolding printedFrom linesOf printedLines runs
-by-newline st b rest true e ih = rw (e, ih start, from-start (linesOf rest))
+-- what characters print, and then the end of the input
+abbrev toTheEnd : State → List ℕ → List ℕ
+toTheEnd st rest = printedBy st rest ++ endOfInput (stateAfter st rest)
+
+by-newline : (st : State) (b : ℕ) (rest : List ℕ) (t : Bool) → eqb b newline ≡ t → ((st : State) → toTheEnd st rest ≡ printedLines st (linesOf rest))
+    → toTheEnd st (b ∷ rest) ≡ printedLines st (linesOf (b ∷ rest))
+unfolding printedBy stateAfter linesOf printedLines runs
+by-newline st b rest true e ih = rw e (append-assoc (endLine st) (printedBy start rest) _ ∙ ap (λ (l : List ℕ). endLine st ++ l) (ih start ∙ from-start (linesOf rest)))
 by-newline st b rest false e ih = rw e (ih (after st b) ∙ one-in-front st b (linesOf rest))
 
-printed-lines : (input : List ℕ) (st : State) → printedFrom st input ≡ printedLines st (linesOf input)
-unfolding printedFrom linesOf printedLines
+printed-lines : (input : List ℕ) (st : State) → toTheEnd st input ≡ printedLines st (linesOf input)
+unfolding printedBy stateAfter linesOf printedLines
 printed-lines [] st = refl
 printed-lines (b ∷ rest) st = by-newline st b rest (eqb b newline) refl (printed-lines rest)
 
-pub printed-from-start : (input : List ℕ) → printedFrom start input ≡ printed input
-printed-from-start input = printed-lines input start ∙ from-start (linesOf input)
+pub printed-whole : (input : List ℕ) → printedBy start input ++ endOfInput (stateAfter start input) ≡ printed input
+printed-whole input = printed-lines input start ∙ from-start (linesOf input)

@@ -1,35 +1,92 @@
--- What is still to be printed, as characters of a line are read. Assumes nothing.
-use mathlib.Core.Path.{_≡_, refl, _∙_, subst}
-use mathlib.Core.List.{List, _∷_, _++_}
-use Prim.Native.Nat.{ℕ, suc, _+_, _*_, _≤_, _<_}
-use native.Mathlib.Numerals.{add-one, add-two}
+-- What is known and what is printed, as characters are read. Assumes nothing.
+use mathlib.Core.Path.{_≡_, refl, sym, _∙_, ap, subst}
+use mathlib.Core.Bool.{Bool, true, false, cond}
+use mathlib.Core.List.{List, [], _∷_, _++_, append-assoc}
+use Prim.Native.Nat.{ℕ, _+_, _*_, _-_, _≤_, _<_}
+use native.Mathlib.Numerals.{add-one}
 use native.Mathlib.Omega.{arith}
-use lib.ListN.{length, getD, take, drop, set}
-use lib.Seq.{drop-cons}
+use lib.Dec.{eqb}
+use lib.ListN.{length, getD, take, drop, set, length-drop, take-append-drop}
+use lib.Seq.{length-take-le, take-append-add, drop-cons, drop-drop}
 use borrow.Author.Tests.{lt-ltb, ne-eqb}
 use Rattle.frame_bytes.specs.Frame.{longest}
 use Rattle.lines.specs.Lines.{newline, digit}
-use Rattle.lines.specs.State.{State, whole, half, takeDigit, after, printedFrom, lineLength, Passes}
+use Rattle.lines.specs.State.{State, whole, half, start, takeDigit, after, endLine, stateAfter, printedBy, lineLength, part, Passes}
 use Rattle.lines.proofs.Kept.{byte-kept}
 
-pub read-char : (st : State) (b : ℕ) (rest : List ℕ) → (b ≡ newline → ⊥) → printedFrom st (b ∷ rest) ≡ printedFrom (after st b) rest
-unfolding printedFrom
-read-char st b rest h = rw (ne-eqb b newline h)
+-- ---- characters and more characters
+
+pub state-append : (x y : List ℕ) (st : State) → stateAfter st (x ++ y) ≡ stateAfter (stateAfter st x) y
+unfolding stateAfter
+state-append [] y st = refl
+state-append (b ∷ x) y st = by-newline (eqb b newline) (state-append x y)
+  where
+    by-newline : (t : Bool) → ((s : State) → stateAfter s (x ++ y) ≡ stateAfter (stateAfter s x) y)
+        → cond t (stateAfter start (x ++ y)) (stateAfter (after st b) (x ++ y)) ≡ stateAfter (cond t (stateAfter start x) (stateAfter (after st b) x)) y
+    by-newline true ih = ih start
+    by-newline false ih = ih (after st b)
+
+pub printed-append : (x y : List ℕ) (st : State) → printedBy st (x ++ y) ≡ printedBy st x ++ printedBy (stateAfter st x) y
+unfolding printedBy stateAfter
+printed-append [] y st = refl
+printed-append (b ∷ x) y st = by-newline (eqb b newline) (printed-append x y)
+  where
+    by-newline : (t : Bool) → ((s : State) → printedBy s (x ++ y) ≡ printedBy s x ++ printedBy (stateAfter s x) y)
+        → cond t (endLine st ++ printedBy start (x ++ y)) (printedBy (after st b) (x ++ y))
+        ≡ cond t (endLine st ++ printedBy start x) (printedBy (after st b) x) ++ printedBy (cond t (stateAfter start x) (stateAfter (after st b) x)) y
+    by-newline true ih = ap (λ (l : List ℕ). endLine st ++ l) (ih start) ∙ sym (append-assoc (endLine st) (printedBy start x) _)
+    by-newline false ih = ih (after st b)
+
+pub take-both : (w v : ℕ) (l : List ℕ) → w ≤ length l → take (w + v) l ≡ take w l ++ take v (drop w l)
+take-both w v l h =
+    let n : length (take w l) ≡ w = length-take-le w l h in
+    let e = take-append-add (take w l) (drop w l) v in
+    rw (n, take-append-drop w l) at e
+
+part-both : (block : List ℕ) (a b c : ℕ) → a ≤ b → b ≤ c → c ≤ length block → part a c block ≡ part a b block ++ part b c block
+part-both block a b c h k m =
+    let n : c - a ≡ b - a + (c - b) = omega arith in
+    let there : a + (b - a) ≡ b = omega arith in
+    let rest : drop (b - a) (drop a block) ≡ drop b block = drop-drop (b - a) a block ∙ rw there in
+    rw n (take-both (b - a) (c - b) (drop a block) (omega (arith, length-drop a block)) ∙ rw rest)
+
+-- ---- one character, no newline
+
+char-state : (st : State) (b : ℕ) → (b ≡ newline → ⊥) → stateAfter st (b ∷ []) ≡ after st b
+unfolding stateAfter
+char-state st b h = rw (ne-eqb b newline h)
+
+char-silent : (st : State) (b : ℕ) → (b ≡ newline → ⊥) → printedBy st (b ∷ []) ≡ []
+unfolding printedBy
+char-silent st b h = rw (ne-eqb b newline h)
 
 -- a newline is no digit
-pub digit-not-newline : (b : ℕ) → digit b < 16 → b ≡ newline → ⊥
+digit-not-newline : (b : ℕ) → digit b < 16 → b ≡ newline → ⊥
 unfolding digit
 digit-not-newline b h e = let z : digit newline < 16 = subst (λ (n : ℕ). digit n < 16) e h in omega (arith, z)
 
-pub read-digit : (st : State) (b : ℕ) (rest : List ℕ) → digit b < 16 → printedFrom st (b ∷ rest) ≡ printedFrom (takeDigit st (digit b)) rest
+after-digit : (st : State) (b : ℕ) → digit b < 16 → after st b ≡ takeDigit st (digit b)
 unfolding after
-read-digit st b rest h = read-char st b rest (digit-not-newline b h) ∙ rw (lt-ltb (digit b) 16 h)
+after-digit st b h = rw (lt-ltb (digit b) 16 h)
+
+-- ---- reading on within a line
 
 pub passes-start : (block : List ℕ) (from : ℕ) (st : State) → from ≤ length block → Passes block from st from st
-passes-start block from st h = record { within = h; in-line = refl; same = λ rest. refl }
+unfolding stateAfter printedBy
+passes-start block from st h =
+    let none : from - from ≡ 0 = omega arith in
+    record { forward = omega arith; within = h; in-line = refl; reached = rw none; silent = rw none }
 
 pub passes-then : {block : List ℕ} {a b c : ℕ} {x y z : State} → Passes block a x b y → Passes block b y c z → Passes block a x c z
-passes-then r s = record { within = s .within; in-line = r .in-line ∙ s .in-line; same = λ rest. r .same rest ∙ s .same rest }
+passes-then {block} {a} {b} {c} {x} {y} r s =
+    let both : part a c block ≡ part a b block ++ part b c block = part-both block a b c (r .forward) (s .forward) (s .within) in
+    record {
+      forward = omega (arith, r .forward, s .forward);
+      within = s .within;
+      in-line = r .in-line ∙ s .in-line;
+      reached = s .reached ∙ ap (λ (st : State). stateAfter st (part b c block)) (r .reached) ∙ sym (ap (stateAfter x) both ∙ state-append (part a b block) (part b c block) x);
+      silent = ap (printedBy x) both ∙ printed-append (part a b block) (part b c block) x ∙ rw (r .silent, ← r .reached, s .silent);
+    }
 
 -- a character that is no newline is not the line's last
 not-last : (block : List ℕ) (at : ℕ) → at < length block → (getD block at 0 ≡ newline → ⊥) → at + lineLength (drop at block) ≡ at + 1 + lineLength (drop (at + 1) block)
@@ -38,11 +95,16 @@ not-last block at h other = rw (add-one, drop-cons block at 0 h, ne-eqb (getD bl
 
 -- one character more
 pub passes-char : (block : List ℕ) (at : ℕ) (st : State) → at < length block → (getD block at 0 ≡ newline → ⊥) → Passes block at st (at + 1) (after st (getD block at 0))
-passes-char block at st h other = record {
-  within = omega arith;
-  in-line = not-last block at h other;
-  same = λ rest. rw (add-one, drop-cons block at 0 h) (read-char st (getD block at 0) (drop (suc at) block ++ rest) other);
-}
+passes-char block at st h other =
+    let n : at + 1 - at ≡ 1 = omega arith in
+    let one : part at (at + 1) block ≡ getD block at 0 ∷ [] = rw (n, drop-cons block at 0 h) in
+    record {
+      forward = omega arith;
+      within = omega arith;
+      in-line = not-last block at h other;
+      reached = sym (ap (stateAfter st) one ∙ char-state st (getD block at 0) other);
+      silent = ap (printedBy st) one ∙ char-silent st (getD block at 0) other;
+    }
 
 -- a pair of digits more, whose byte is kept
 pub passes-pair : (block kept : List ℕ) (at n : ℕ) → length kept ≡ longest → n < longest → at + 1 < length block → digit (getD block at 0) < 16 → digit (getD block (at + 1) 0) < 16
@@ -50,15 +112,9 @@ pub passes-pair : (block kept : List ℕ) (at n : ℕ) → length kept ≡ longe
 passes-pair block kept at n sized h inside first second =
     let a = getD block at 0 in
     let b = getD block (at + 1) 0 in
-    let here : at < length block = omega arith in
+    let st = whole (take n kept) in
+    let both = passes-then (passes-char block at st (omega arith) (digit-not-newline a first)) (passes-char block (at + 1) (after st a) inside (digit-not-newline b second)) in
     let next : at + 1 + 1 ≡ at + 2 = omega arith in
-    record {
-      within = omega arith;
-      in-line = not-last block at here (digit-not-newline a first) ∙ not-last block (at + 1) inside (digit-not-newline b second) ∙ rw next;
-      same =
-          λ rest.
-          let e : drop at block ≡ a ∷ drop (at + 1) block = drop-cons block at 0 here ∙ rw (add-one at) in
-          let f : drop (at + 1) block ≡ b ∷ drop (at + 2) block = drop-cons block (at + 1) 0 inside ∙ rw (add-one at, add-two at) in
-          rw (byte-kept kept n (digit a) (digit b) sized h, e, f)
-          (read-digit (whole (take n kept)) a (b ∷ (drop (at + 2) block ++ rest)) first ∙ read-digit (half (take n kept) (digit a)) b (drop (at + 2) block ++ rest) second);
-    }
+    let kept-byte : after (after st a) b ≡ whole (take (n + 1) (set kept n (digit a * 16 + digit b))) =
+    rw (after-digit st a first, after-digit (half (take n kept) (digit a)) b second) (sym (byte-kept kept n (digit a) (digit b) sized h)) in
+    rw (next, kept-byte) at both

@@ -1,11 +1,12 @@
--- What is known of a line of which some characters have been read, and what is still to be printed from there (document 01, "Frames": the program `ringcut`).
+-- What is known of a line of which some characters have been read, and what they print (document 01, "Frames": the program `ringcut`).
 -- Definitions only.
 use mathlib.Core.Path.{_≡_}
 use mathlib.Core.Bool.{Bool, true, false, not, _&&_, cond}
 use mathlib.Core.List.{List, [], _∷_, _++_}
-use Prim.Native.Nat.{ℕ, suc, _+_, _*_, _%_, _≤_, _<_}
+use Prim.Native.Nat.{ℕ, suc, _+_, _*_, _-_, _%_, _≤_, _<_}
 use lib.Dec.{ltb, leb, eqb}
 use lib.ListN.{length, getD, take, drop}
+use Rattle.binary64.specs.Slices.{over}
 use Rattle.frame_bytes.specs.Frame.{longest, refusalNumber}
 use Rattle.frame_bytes.specs.declared.reader.FrameRefusal.the-variants.{Size}
 use Rattle.lines.specs.declared.line.Line.{Line}
@@ -52,10 +53,17 @@ endOfInput (whole (b ∷ l)) = endLine (whole (b ∷ l))
 endOfInput (half l high) = endLine (half l high)
 endOfInput (long odd) = endLine (long odd)
 
--- what is printed from here on, where this is what follows
-unfoldable pub printedFrom : State → List ℕ → List ℕ
-printedFrom st [] = endOfInput st
-printedFrom st (b ∷ rest) = cond (eqb b newline) (endLine st ++ printedFrom start rest) (printedFrom (after st b) rest)
+-- ---- characters, one behind the other
+
+-- what is known after them; a newline begins a line
+unfoldable pub stateAfter : State → List ℕ → State
+stateAfter st [] = st
+stateAfter st (b ∷ rest) = cond (eqb b newline) (stateAfter start rest) (stateAfter (after st b) rest)
+
+-- what they print: an answer at each newline. An input prints this, and what its end prints (proofs/Blocks.antt: `printed`, in blocks of any sizes).
+unfoldable pub printedBy : State → List ℕ → List ℕ
+printedBy st [] = []
+printedBy st (b ∷ rest) = cond (eqb b newline) (endLine st ++ printedBy start rest) (printedBy (after st b) rest)
 
 -- how many characters the first line has, with its newline where that is there
 unfoldable pub lineLength : List ℕ → ℕ
@@ -70,11 +78,17 @@ stateOf (Held.Whole n) kept = whole (take n kept)
 stateOf (Held.Half n high) kept = half (take n kept) (high % 16)
 stateOf (Held.Long odd) kept = long odd
 
--- Reading on within a line, from one place of a block to another: whatever follows the block, what was to be printed is what is to be printed now.
+-- the characters of a block from one place to another
+abbrev pub part : ℕ → ℕ → List ℕ → List ℕ
+part from to block = take (to - from) (drop from block)
+
+-- Reading on within a line, from one place of a block to another: no newline lies between them.
 pub record Passes (block : List ℕ) (from : ℕ) (st : State) (to : ℕ) (st′ : State) : Type 0 where
+  pub forward : from ≤ to
   pub within : to ≤ length block
   pub in-line : from + lineLength (drop from block) ≡ to + lineLength (drop to block)
-  pub same : (rest : List ℕ) → printedFrom st (drop from block ++ rest) ≡ printedFrom st′ (drop to block ++ rest)
+  pub reached : st′ ≡ stateAfter st (part from to block)
+  pub silent : printedBy st (part from to block) ≡ []
 
 -- Taking a block's characters from a place on, to the next newline or to the block's end.
 pub record Takes (block : List ℕ) (from : ℕ) (line : Line) (kept : List ℕ) (to : ℕ) (line′ : Line) (kept′ : List ℕ) : Type 0 where
@@ -97,33 +111,27 @@ lent kept out = eqb (length kept) longest && leb lineRoom (length out)
 
 -- ---- the line step
 
--- Answering the front of a block: whatever follows the block, what was to be printed is what was written to the front of the output and what is to be printed
--- now; the rest of the output stays. So an input whose parts are answered one behind the other prints what the whole input prints (proofs/Blocks.antt).
-pub record Prints (block : List ℕ) (st : State) (out : List ℕ) (taken written : ℕ) (st′ : State) (out′ : List ℕ) : Type 0 where
-  pub within : taken ≤ length block
-  pub same : (rest : List ℕ) → printedFrom st (block ++ rest) ≡ take written out′ ++ printedFrom st′ (drop taken block ++ rest)
+-- Answering characters: what they print stands at the front of the output, and the rest of the output stays.
+pub record Prints (characters : List ℕ) (st : State) (out : List ℕ) (written : ℕ) (st′ : State) (out′ : List ℕ) : Type 0 where
+  pub state : st′ ≡ stateAfter st characters
+  pub count : written ≡ length (printedBy st characters)
+  pub output : out′ ≡ over (printedBy st characters) out
   pub room : written ≤ length out
-  pub past : drop written out′ ≡ drop written out
 
 -- Feeding a block: its first line is taken, or nothing where a lent slice has another length than `lent` asks for.
 pub record Feeds (block : List ℕ) (st : State) (ready : Bool) (kept out : List ℕ) (taken written : ℕ) (st′ : State) (kept′ out′ : List ℕ) : Type 0 where
   pub line : taken ≡ cond ready (lineLength block) 0
-  pub prints : Prints block st out taken written st′ out′
-  -- where nothing is taken, nothing is written, and the line and its bytes stay
-  pub untaken : ready ≡ false → (written ≡ 0) × (st′ ≡ st) × (kept′ ≡ kept)
-  -- otherwise the bytes of `kept` are free but for those that the new state names: only its length stays
+  pub prints : Prints (take taken block) st out written st′ out′
+  -- where nothing is taken the bytes of the line stay; otherwise those that the new state does not name are free
+  pub untaken : ready ≡ false → kept′ ≡ kept
   pub free : length kept′ ≡ length kept
 
 -- Feeding a block's lines one behind the other: to its end, or until the output has no room for one line more. Something is taken of a block that is not empty.
 pub record FeedsLines (block : List ℕ) (st : State) (out : List ℕ) (taken written : ℕ) (st′ : State) (out′ : List ℕ) : Type 0 where
-  pub prints : Prints block st out taken written st′ out′
+  pub within : taken ≤ length block
+  pub prints : Prints (take taken block) st out written st′ out′
   pub stops : taken < length block → length out < written + lineRoom
   pub some : 0 < length block → 0 < taken
-
--- Answering a block up to a place, with outputs that are written out in between: there is a text that was to be printed for it, whatever follows.
-pub record Carries (block : List ℕ) (st : State) (to : ℕ) (st′ : State) : Type 0 where
-  pub text : List ℕ
-  pub same : (rest : List ℕ) → printedFrom st (block ++ rest) ≡ text ++ printedFrom st′ (drop to block ++ rest)
 
 -- what the end of the input writes
 abbrev pub finished : Bool → State → List ℕ

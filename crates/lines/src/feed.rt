@@ -76,9 +76,9 @@ fn feed_from(
     waiting: usize,
 ) -> Fed
     requires { ⌜ (from < length (now block)) × (length (now kept) ≡ longest) × (waiting + T.lineRoom ≤ length (now out)) ⌝ }
-    ensures { λ r. ⌜ T.Prints (drop from (now (block .entry))) (T.stateOf line (now (kept .entry))) (drop waiting (now (out .entry)))
-        (r .taken) (r .written) (T.stateOf (r .line) (now (kept .exit))) (drop waiting (now (out .exit)))
-        × (take waiting (now (out .exit)) ≡ take waiting (now (out .entry))) × (0 < r .taken) ⌝ }
+    ensures { λ r. ⌜ T.Prints (take (r .taken) (drop from (now (block .entry)))) (T.stateOf line (now (kept .entry))) (drop waiting (now (out .entry)))
+        (r .written) (T.stateOf (r .line) (now (kept .exit))) (drop waiting (now (out .exit)))
+        × (take waiting (now (out .exit)) ≡ take waiting (now (out .entry))) × (0 < r .taken) × (from + r .taken ≤ length (now (block .entry))) ⌝ }
 {
     feed(&block[from..], line, kept, &mut out[waiting..])
 }

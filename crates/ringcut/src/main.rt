@@ -31,7 +31,7 @@ fn write_out(out: &[u8], waiting: usize)
 // Answers every line that ends in the block, and writes the answers out: the next read may wait for more.
 fn feed_all(block: &[u8], line: Line, kept: &mut [u8], out: &mut [u8]) -> Line
     requires { ⌜ (length (now kept) ≡ longest) × (T.lineRoom ≤ length (now out)) ⌝ }
-    ensures { λ r. ⌜ T.Carries (now (block .entry)) (T.stateOf line (now (kept .entry))) (length (now (block .entry))) (T.stateOf r (now (kept .exit))) ⌝ }
+    ensures { λ r. ⌜ T.stateOf r (now (kept .exit)) ≡ T.stateAfter (T.stateOf line (now (kept .entry))) (now (block .entry)) ⌝ }
 {
     let mut known = line;
     let mut from = 0usize;

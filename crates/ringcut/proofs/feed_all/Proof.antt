@@ -1,36 +1,37 @@
--- `feed_all` meets its contract. The invariant: there is a text that was to be printed for what is answered, whatever follows. Assumes nothing.
-use mathlib.Core.Path.{_≡_, refl, subst}
+-- `feed_all` meets its contract. The invariant: what is known is what is known after the characters so far. Assumes nothing.
+use mathlib.Core.Path.{_≡_, refl, _∙_, ap}
 use mathlib.Core.List.{List}
 use Prim.Native.Nat.{ℕ, _+_, _-_, _<_, _≤_}
 use native.Mathlib.Omega.{arith}
 use denote.Ref.{now}
 use lib.ListN.{length, take, drop, length-drop}
+use lib.Seq.{take-all}
 use borrow.Author.Needs.{needs}
 use Rattle.binary64.proofs.Fill.{tail-part}
-use Rattle.lines.specs.State.{State, stateOf, Prints, Carries}
-use Rattle.lines.proofs.Parts.{carries-start, carries-then}
+use Rattle.lines.specs.State.{State, stateOf, stateAfter, FeedsLines}
+use Rattle.lines.proofs.Parts.{state-then}
 use Rattle.ringcut.proofs.feed_all.Statement.{statement}
 use Rattle.ringcut.proofs.feed_all.Tie as tie
 
 -- what is left of the block, as it is lent
-module _ (block : List ℕ) (at : ℕ) {st₁ st₂ : State} {out out′ : List ℕ} {taken written : ℕ} where
-  part-within : at ≤ length block → Prints (take (length block - at) (drop at block)) st₁ out taken written st₂ out′ → at + taken ≤ length block
-  part-within h p = let q = rw (tail-part block at) at p in omega (arith, q .within, length-drop at block)
+module _ (block : List ℕ) (at : ℕ) {st₁ st₂ : State} {out out′ : List ℕ} {taken written : ℕ} (h : at ≤ length block) (f : FeedsLines (take (length block - at) (drop at block)) st₁ out taken written st₂ out′) where
+  part-within : at + taken ≤ length block
+  part-within = omega (arith, f .within, ap length (tail-part block at), length-drop at block)
 
-  carries-part : {st : State} → Carries block st at st₁ → Prints (take (length block - at) (drop at block)) st₁ out taken written st₂ out′ → Carries block st (at + taken) st₂
-  carries-part c p = carries-then c (rw (tail-part block at) at p)
+  part-state : (st : State) → st₁ ≡ stateAfter st (take at block) → st₂ ≡ stateAfter st (take (at + taken) block)
+  part-state st e = state-then block at taken st h e (rw (tail-part block at) at f .prints .state)
 
 abbrev Inv-loop : tie.InvT-loop
 Inv-loop block kept₀ out₀ known₀ from₀ kept out known from =
-    (length kept ≡ length kept₀) × (length out ≡ length out₀) × (from ≤ length block) × Carries block (stateOf known₀ kept₀) from (stateOf known kept)
+    (length kept ≡ length kept₀) × (length out ≡ length out₀) × (from ≤ length block) × (stateOf known kept ≡ stateAfter (stateOf known₀ kept₀) (take from block))
 
 abbrev μ-loop : tie.MeasureT-loop
 μ-loop block kept₀ out₀ known₀ from₀ kept out known from = length block - from
 
 loop-holds : tie.Need-loop-holds Inv-loop μ-loop
+unfolding stateAfter
 loop-holds c =
-    let a = c .before .before .before .args in
-    (refl, refl, omega arith, carries-start (now (a .block)) (stateOf (a .line) (now (a .kept))))
+    (refl, refl, omega arith, refl)
 
 sub-feed-lines : tie.Need-sub-feed-lines Inv-loop μ-loop
 sub-feed-lines c = search needs
@@ -51,7 +52,7 @@ add-from : tie.Need-add-from Inv-loop μ-loop
 add-from c =
     let block = now (c .before .before .before .before .before .before .before .before .before .before .before .before .before .before .before .before .args .block) in
     let l = c .before .before .before .before .before .before .before .before .before .before .before .before .loop in
-    search (needs, part-within block (l .from) (l .inv .2) (c .before .before .before .before .before .before .before .feed-lines .ensures .prints))
+    search (needs, part-within block (l .from) (l .inv .2) (c .before .before .before .before .before .before .before .feed-lines .ensures))
 
 loop-less : tie.Need-loop-less Inv-loop μ-loop
 loop-less c =
@@ -59,14 +60,14 @@ loop-less c =
     let l = c .before .before .before .before .before .before .before .before .before .before .before .before .loop in
     let f = c .before .before .before .before .before .before .before .feed-lines .ensures in
     let some : 0 < c .before .before .before .before .before .before .before .feed-lines .result .taken = f .some (search needs) in
-    search (needs, some, part-within block (l .from) (l .inv .2) (f .prints))
+    search (needs, some, part-within block (l .from) (l .inv .2) f)
 
 loop-again : tie.Need-loop-again Inv-loop μ-loop
 loop-again c =
     let block = now (c .before .before .before .before .before .before .before .before .before .before .before .before .before .before .before .before .args .block) in
     let l = c .before .before .before .before .before .before .before .before .before .before .before .before .loop in
     let f = c .before .before .before .before .before .before .before .feed-lines .ensures in
-    (search needs, search needs, part-within block (l .from) (l .inv .2) (f .prints), carries-part block (l .from) (l .inv .3) (f .prints))
+    (search needs, search needs, part-within block (l .from) (l .inv .2) f, part-state block (l .from) (l .inv .2) f _ (l .inv .3))
 
 same-length : tie.Need-same-length Inv-loop μ-loop
 same-length c = search needs
@@ -78,8 +79,7 @@ returns : tie.Need-returns Inv-loop μ-loop
 returns c =
     let a = c .before .before .before .before .before .args in
     let l = c .before .loop in
-    let all : l .from ≡ length (now (a .block)) = omega arith in
-    subst (λ (n : ℕ). Carries (now (a .block)) (stateOf (a .line) (now (a .kept))) n (stateOf (l .known) (l .kept))) all (l .inv .3)
+    l .inv .3 ∙ rw (take-all (l .from) (now (a .block)) (omega arith))
 
 pub feed-all-spec : {M : Type 1} → statement M
 feed-all-spec =

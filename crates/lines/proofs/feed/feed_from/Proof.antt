@@ -1,10 +1,11 @@
 -- `feed_from` meets its contract: the slices that it lends are as `feed` asks, so something is taken. Assumes nothing.
-use mathlib.Core.Path.{refl}
+use mathlib.Core.Path.{refl, ap}
 use Prim.Native.Nat.{_≤_}
 use native.Mathlib.Omega.{arith}
 use denote.Ref.{now}
-use lib.ListN.{length}
+use lib.ListN.{length, length-drop}
 use borrow.Author.Needs.{needs}
+use Rattle.binary64.proofs.Fill.{tail-part}
 use Rattle.lines.proofs.Feeding.{takes-some}
 use Rattle.lines.proofs.Parts.{part-prints}
 use Rattle.lines.proofs.feed.feed_from.Statement.{statement}
@@ -42,8 +43,9 @@ returns c =
     let a = c .before .before .before .before .before .before .before .before .before .before .before .args in
     let f = c .before .before .before .before .feed .ensures in
     let fits : a .waiting ≤ length (now (a .out)) = omega arith in
-    let p = part-prints (now (a .block)) (now (a .out)) _ _ (a .from) (a .waiting) fits refl (f .prints) in
-    (p .0, p .1, takes-some f (search needs) (search needs) (search needs))
+    let p = part-prints (now (a .block)) (now (a .out)) _ _ (a .from) (a .waiting) fits refl (c .before .before .before .before .feed .result .taken) (f .prints) in
+    let t = takes-some f (search needs) (search needs) (search needs) in
+    (p .0, p .1, t .0, omega (arith, t .1, ap length (tail-part (now (a .block)) (a .from)), length-drop (a .from) (now (a .block))))
 
 pub feed-from-spec : {M : Type 1} → statement M
 feed-from-spec =

@@ -1,19 +1,19 @@
--- `feed_lines` meets its contract. The invariant: what was to be printed is what waits in the output and what is to be printed now. Assumes nothing.
-use mathlib.Core.Path.{_≡_, refl, _∙_}
+-- `feed_lines` meets its contract. The invariant: what the characters so far print waits in the output. Assumes nothing.
+use mathlib.Core.Path.{_≡_, refl}
 use Prim.Native.Nat.{ℕ, zero, suc, _-_, _≤_, _<_}
 use native.Mathlib.Omega.{arith}
 use denote.Ref.{now}
-use lib.ListN.{length, length-drop}
+use lib.ListN.{length, take, length-drop}
 use borrow.Author.Needs.{needs}
 use Rattle.lines.specs.State.{stateOf, Prints}
 use Rattle.lines.proofs.Feeding.{prints-nothing}
-use Rattle.lines.proofs.Parts.{prints-then}
+use Rattle.lines.proofs.Parts.{parts-then}
 use Rattle.lines.proofs.feed.feed_lines.Statement.{statement}
 use Rattle.lines.proofs.feed.feed_lines.Tie as tie
 
 abbrev Inv-loop : tie.InvT-loop
 Inv-loop block kept₀ out₀ known₀ from₀ waiting₀ kept out known from waiting =
-    (length kept ≡ length kept₀) × (length out ≡ length out₀) × (from ≡ 0 → waiting ≡ 0) × (waiting ≤ length out₀) × Prints block (stateOf known₀ kept₀) out₀ from waiting (stateOf known kept) out
+    (length kept ≡ length kept₀) × (length out ≡ length out₀) × (from ≡ 0 → waiting ≡ 0) × (from ≤ length block) × Prints (take from block) (stateOf known₀ kept₀) out₀ waiting (stateOf known kept) out
 
 abbrev μ-loop : tie.MeasureT-loop
 μ-loop block kept₀ out₀ known₀ from₀ waiting₀ kept out known from waiting = length block - from
@@ -25,7 +25,7 @@ positive (suc n) f = omega arith
 loop-holds : tie.Need-loop-holds Inv-loop μ-loop
 loop-holds c =
     let a = c .before .before .before .args in
-    (refl, refl, λ e. e, omega arith, prints-nothing (now (a .block)) (stateOf (a .line) (now (a .kept))) (now (a .out)))
+    (refl, refl, λ e. e, omega arith, prints-nothing (stateOf (a .line) (now (a .kept))) (now (a .out)))
 
 sub-if1 : tie.Need-sub-if1 Inv-loop μ-loop
 sub-if1 c = search needs
@@ -39,7 +39,7 @@ same-length-2 c = search needs
 returns : tie.Need-returns Inv-loop μ-loop
 returns c =
     let l = c .before .before .loop in
-    record { prints = l .inv .4; stops = λ _. omega arith; some = λ _. positive (l .from) (λ e. let none = l .inv .2 e in omega (arith, none)) }
+    record { within = l .inv .3; prints = l .inv .4; stops = λ _. omega arith; some = λ _. positive (l .from) (λ e. let none = l .inv .2 e in omega (arith, none)) }
 
 feed-from-requires : tie.Need-feed-from-requires Inv-loop μ-loop
 feed-from-requires c κs = search needs
@@ -61,8 +61,8 @@ loop-again : tie.Need-loop-again Inv-loop μ-loop
 loop-again c =
     let l = c .before .before .before .before .before .before .before .before .before .before .before .loop in
     let f = c .before .before .before .before .before .before .feed-from in
-    let p = prints-then (l .inv .4) (f .ensures .0) (f .ensures .1) (l .inv .1) (f .kept .1 .1 .1 .1 .0 ∙ l .inv .1) in
-    (search needs, search needs, λ e. absurd (omega (arith, e, f .ensures .2)), p .room, p)
+    let p = parts-then _ (l .from) (f .result .taken) (l .inv .3) (l .inv .4) (f .ensures .0) (f .ensures .1) (l .inv .1) in
+    (search needs, search needs, λ e. absurd (omega (arith, e, f .ensures .2)), f .ensures .3, p)
 
 same-length-3 : tie.Need-same-length-3 Inv-loop μ-loop
 same-length-3 c = search needs
@@ -73,7 +73,7 @@ same-length-4 c = search needs
 returns-2 : tie.Need-returns-2 Inv-loop μ-loop
 returns-2 c =
     let l = c .before .loop in
-    record { prints = l .inv .4; stops = λ h. absurd (omega arith); some = λ h. omega arith }
+    record { within = l .inv .3; prints = l .inv .4; stops = λ h. absurd (omega arith); some = λ h. omega arith }
 
 pub feed-lines-spec : {M : Type 1} → statement M
 feed-lines-spec =
