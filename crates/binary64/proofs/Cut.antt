@@ -8,7 +8,9 @@ use native.Mathlib.Omega.{arith}
 use lib.Pow.{pow-mono}
 use lib.Ieee.{Float, Format, prec, emax, low, add, sub, mul, div}
 use lib.Ieee.Scale.{overflow}
-use Rattle.binary64.specs.Scaled.{mag, plus, minus, Le, Lt, interpolate}
+use Rattle.binary64.specs.Interpolation.{interpolate}
+use Rattle.binary64.specs.Scaled.{mag, plus, minus}
+use Rattle.binary64.proofs.Value.{Le, Lt}
 use Rattle.binary64.proofs.Value.{Number, distance, mag-whole, mag-parts}
 use Rattle.binary64.proofs.Rounding.{rnd, rnd-zero, rnd-mono, rnd-small, rnd-pos, Off, rnd-off}
 use Rattle.binary64.proofs.Arithmetic.{Rounded, add-rounded, sub-rounded, AtMost, Ratio, Inside, PartOf, div-ratio, mul-shrinks}

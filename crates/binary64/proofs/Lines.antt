@@ -8,7 +8,9 @@ use native.Mathlib.Nat.{le-refl, le-of-lt, lt-of-le-of-lt}
 use native.Mathlib.Omega.{arith}
 use lib.Dec.{T}
 use lib.Ieee.{Float, Format, prec}
-use Rattle.binary64.specs.Scaled.{mag, plus, minus, Le, Lt, within, interpolate}
+use Rattle.binary64.specs.Interpolation.{within, interpolate}
+use Rattle.binary64.specs.Scaled.{mag, plus, minus}
+use Rattle.binary64.proofs.Value.{Le, Lt}
 use Rattle.binary64.proofs.Value.{Number, mag-parts, Le-of-le, Lt-of-not-le}
 use Rattle.binary64.proofs.Cut.{Small, Room, Between, Range, In, widen, interpolate-in}
 

@@ -14,7 +14,7 @@ use lib.Ieee.Fits.{two, two-le-pos, round-is, round-fits}
 use lib.Ieee.Nearest.{closest}
 use lib.Ieee.Order.{drop, kept, round-mono}
 use lib.Ieee.Scale.{grid, overflow, finite, round-under}
-use Rattle.binary64.specs.Scaled.{Le}
+use Rattle.binary64.proofs.Value.{Le}
 use Rattle.binary64.proofs.Order.{above, under, finite-between}
 use Rattle.binary64.proofs.Value.{Parts, Held, held-zero, parts-of-value, Le-of-le}
 

@@ -14,8 +14,15 @@ use lib.Ieee.Exact.{HasValue}
 use lib.Ieee.Fits.{down-pos, and-l, and-r}
 use lib.Ieee.Positive.{num, den, den-pos}
 use lib.Ieee.Scale.{overflow, finite}
-use Rattle.binary64.specs.Scaled.{sign, mag, plus, minus, Le, Lt}
+use Rattle.binary64.specs.Scaled.{sign, mag, plus, minus}
 use Rattle.binary64.proofs.Order.{above, under, plusNum, minusNum, le-is-fractions}
+
+-- x ≤ y and x < y, of the whole numbers
+abbrev pub Le : Format → Float → Float → Type 0
+Le f x y = plus f x + minus f y ≤ plus f y + minus f x
+
+abbrev pub Lt : Format → Float → Float → Type 0
+Lt f x y = plus f x + minus f y < plus f y + minus f x
 
 -- a finite number of the format
 pub record Number (f : Format) (x : Float) : Type 0 where

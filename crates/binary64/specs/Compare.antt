@@ -1,4 +1,4 @@
--- Comparisons of doubles as document 01 uses them: minimum and maximum, nearness, size. Definitions only.
+-- Comparisons of doubles as document 01 uses them: minimum and maximum (its head), nearness ("Unchanged", "Overlay wanted"), size ("Overlay wanted"). Definitions only.
 -- That a number is neither NaN nor infinite is `finite` of `lib.Ieee.Scale`.
 use mathlib.Core.Bool.{Bool, false, _||_, cond}
 use Prim.Native.Nat.{_^_}
@@ -22,7 +22,7 @@ unfoldable pub tolerance : Float
 unfolding round
 tolerance = round binary64 false 1 (10 ^ 10)
 
--- "differ by less than 1e-10" (document 01, "Unchanged", "Overlay wanted"): one rounded difference
+-- "differ by less than 1e-10" (document 01, "Unchanged"), "within 1e-10 (strictly)" ("Overlay wanted"): one rounded difference
 unfoldable pub near : Float → Float → Bool
 near a b = lt (magnitude (sub binary64 a b)) tolerance
 

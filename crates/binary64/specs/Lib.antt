@@ -1,5 +1,7 @@
-pub mod Compare
 pub mod Bytes
-pub mod TotalOrder
-pub mod Slices
+pub mod Compare
+pub mod Interpolation
+pub mod Lists
 pub mod Scaled
+pub mod Slices
+pub mod TotalOrder

@@ -41,7 +41,7 @@ pub fn read_u64(b: &[u8], at: usize) -> u64
 }
 
 // Every NaN pattern gives the NaN, which is 0.0 / 0.0.
-pub fn from_bits(n: u64) -> f64
+fn from_bits(n: u64) -> f64
     ensures { λ r. ⌜ r ≡ ofBits binary64 n ⌝ }
 {
     if n % 0x8000_0000_0000_0000 > 0x7ff0_0000_0000_0000 {
@@ -85,7 +85,7 @@ fn write_u32(out: &mut [u8], at: usize, n: u64)
     write_u16(out, at + 2, n / 65536);
 }
 
-pub fn write_u64(out: &mut [u8], at: usize, n: u64)
+fn write_u64(out: &mut [u8], at: usize, n: u64)
     requires { ⌜ at + 8 ≤ length (now out) ⌝ }
     ensures { λ _. ⌜ now (out .exit) ≡ sets (now (out .entry)) at (S.bytes S.Little 8 n) ⌝ }
 {

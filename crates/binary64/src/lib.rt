@@ -1,7 +1,7 @@
 // Small functions on doubles: comparisons, bytes, total order, slices, and the crossing's free coordinate. The laws of IEEE 754 that the crates above cite are in proofs/.
 ghost use mathlib.Core.Path.{_≡_};
 ghost use lib.Ieee.{binary64};
-ghost use Rattle.binary64.specs.Scaled as S;
+ghost use Rattle.binary64.specs.Interpolation as S;
 
 pub mod bytes;
 pub mod compare;

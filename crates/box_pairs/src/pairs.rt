@@ -122,7 +122,7 @@ pub fn sweep_pairs(ring: &[f64], edges: usize, work: &mut [f64], order: &mut [u3
 }
 
 // Whether two of the first `edges` edges cross.
-pub fn any_edge_pair(ring: &[f64], edges: usize, work: &mut [f64], order: &mut [u32]) -> bool
+fn any_edge_pair(ring: &[f64], edges: usize, work: &mut [f64], order: &mut [u32]) -> bool
     requires { ⌜ IssueRoom (edges + 1) (now ring) (now work) (now order) ⌝ }
     ensures { λ r. ⌜ r ≡ S.selfIntersecting (S.front (now (ring .entry)) (edges + 1)) ⌝ }
     ensures { λ _. ⌜ Unused (edges + 1) (now (work .entry)) (now (order .entry)) (now (work .exit)) (now (order .exit)) ⌝ }

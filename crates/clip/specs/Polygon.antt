@@ -1,4 +1,4 @@
--- What becomes of one polygon at a tile, in document 01's order ("Nothing, or dropped", "Unchanged", "Cut rings", "Overlay wanted"). Definitions only.
+-- What becomes of one polygon at a tile, in document 01's order ("Nothing, or dropped", "Unchanged", "Cut rings", "Overlay wanted"), and the numbers of its answers ("Frames"). Definitions only.
 use mathlib.Core.Path.{_≡_}
 use mathlib.Core.Bool.{Bool, true, _&&_, cond}
 use mathlib.Core.List.{List, [], _∷_}
@@ -19,15 +19,15 @@ use Rattle.rings.specs.declared.bridge.Bridge.{Bridge}
 use Rattle.rings.specs.declared.bridge.Bridge.the-variants.{None, Along}
 use Rattle.rings.specs.declared.rectangle.Rect.{Rect}
 use Rattle.rings.specs.declared.rectangle.Rect.the-variants as Rects
+use Rattle.rings.specs.Bridge.{firstBridge}
+use Rattle.rings.specs.Rectangle.{rectangle, intersectsBounds, isFullyInside}
+use Rattle.rings.specs.Representable.{anyHugeRing}
+use Rattle.rings.specs.Rings.{exterior}
 use Rattle.clip.specs.declared.polygon.Flags.{Flags}
 use Rattle.clip.specs.declared.polygon.Reason.{Reason}
 use Rattle.clip.specs.declared.polygon.Reason.the-variants as Because
 use Rattle.clip.specs.declared.polygon.Route.{Route}
 use Rattle.clip.specs.declared.polygon.Route.the-variants as To
-use Rattle.rings.specs.Bridge.{firstBridge}
-use Rattle.rings.specs.Rectangle.{rectangle, intersectsBounds, isFullyInside}
-use Rattle.rings.specs.Representable.{anyHugeRing}
-use Rattle.rings.specs.Rings.{exterior}
 use Rattle.clip.specs.declared.polygon.PolygonAnswer.{PolygonAnswer}
 use Rattle.clip.specs.declared.polygon.PolygonAnswer.the-variants as Is
 

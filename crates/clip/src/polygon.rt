@@ -3,7 +3,7 @@ ghost use mathlib.Core.Path.{_≡_};
 ghost use mathlib.Core.Bool.{_&&_};
 ghost use Prim.Native.Nat.{_*_, _≤_};
 ghost use lib.ListN.{length, take};
-ghost use Rattle.tile.specs.Ring.{coords, close as closed};
+ghost use Rattle.tile.specs.Ring as T;
 ghost use Rattle.box_pairs.specs.Issue.{hasIssue, issueOf};
 ghost use Rattle.clip.specs.Polygon as S;
 use binary64::slices::copy;
@@ -40,6 +40,17 @@ pub enum Route {
     Cut(usize),
     Overlay(Reason),
 }
+
+// Document 01's numbers of what becomes of a polygon.
+pub const NOTHING: u8 = 0;
+
+pub const DROPPED: u8 = 1;
+
+pub const UNCHANGED: u8 = 2;
+
+pub const CUT: u8 = 4;
+
+pub const OVERLAY: u8 = 5;
 
 // What becomes of a polygon; of a cut, how many rings it has. Dropped means guard count 1.
 pub enum PolygonAnswer {
@@ -94,7 +105,7 @@ fn closed_issue(
     order: &mut [u32],
 ) -> Issue
     requires { ⌜ S.ExteriorRoom n (now ring) (length (now a)) (length (now b)) (length (now order)) ⌝ }
-    ensures { λ r. ⌜ r ≡ issueOf «assume_simple» (closed (coords (take (2 * n) (now (ring .entry))))) ⌝ }
+    ensures { λ r. ⌜ r ≡ issueOf «assume_simple» (T.close (T.coords (take (2 * n) (now (ring .entry))))) ⌝ }
 {
     if is_closed(ring, n) {
         return find_issue(ring, n, assume_simple, a, order);
@@ -113,7 +124,7 @@ fn skips_bridges(flags: Flags) -> bool
 
 fn bridge_unless_skipped(ring: &[f64], n: usize, flags: Flags, bounds: TileBounds) -> Bridge
     requires { ⌜ 2 * n ≤ length (now ring) ⌝ }
-    ensures { λ r. ⌜ r ≡ S.bridgeUnlessSkipped flags bounds (coords (take (2 * n) (now (ring .entry)))) ⌝ }
+    ensures { λ r. ⌜ r ≡ S.bridgeUnlessSkipped flags bounds (T.coords (take (2 * n) (now (ring .entry)))) ⌝ }
 {
     if skips_bridges(flags) {
         return Bridge::None;
@@ -124,7 +135,7 @@ fn bridge_unless_skipped(ring: &[f64], n: usize, flags: Flags, bounds: TileBound
 // What becomes of a cut exterior of n coordinates, at the front of a slice, that has this issue.
 fn judge_cut(ring: &[f64], n: usize, issue: Issue, flags: Flags, bounds: TileBounds) -> Route
     requires { ⌜ 2 * n ≤ length (now ring) ⌝ }
-    ensures { λ r. ⌜ r ≡ S.overlayIfIssue issue (Reason.Cut issue) (S.overlayIfBridge (S.bridgeUnlessSkipped flags bounds (coords (take (2 * n) (now (ring .entry))))) (Route.Cut n)) ⌝ }
+    ensures { λ r. ⌜ r ≡ S.overlayIfIssue issue (Reason.Cut issue) (S.overlayIfBridge (S.bridgeUnlessSkipped flags bounds (T.coords (take (2 * n) (now (ring .entry))))) (Route.Cut n)) ⌝ }
 {
     if has_issue(issue) {
         return Route::Overlay(Reason::Cut(issue));
@@ -147,8 +158,8 @@ fn route_cut(
     order: &mut [u32],
 ) -> Route
     requires { ⌜ S.ExteriorRoom n (now ring) (length (now a)) (length (now b)) (length (now order)) ⌝ }
-    ensures { λ r. ⌜ r ≡ S.routeCut flags bounds (closed (coords (take (2 * n) (now (ring .entry))))) ⌝ }
-    ensures { λ r. ⌜ S.CutStands bounds (closed (coords (take (2 * n) (now (ring .entry))))) r (now (b .exit)) ⌝ }
+    ensures { λ r. ⌜ r ≡ S.routeCut flags bounds (T.close (T.coords (take (2 * n) (now (ring .entry))))) ⌝ }
+    ensures { λ r. ⌜ S.CutStands bounds (T.close (T.coords (take (2 * n) (now (ring .entry))))) r (now (b .exit)) ⌝ }
 {
     let clipped = clip_ring(ring, n, bounds, a, b);
     if clipped == 0 {
@@ -171,8 +182,8 @@ pub fn route_exterior(
     order: &mut [u32],
 ) -> Route
     requires { ⌜ S.ExteriorRoom n (now ring) (length (now a)) (length (now b)) (length (now order)) ⌝ }
-    ensures { λ r. ⌜ r ≡ S.routeExterior flags rect bounds (closed (coords (take (2 * n) (now (ring .entry))))) ⌝ }
-    ensures { λ r. ⌜ S.CutStands bounds (closed (coords (take (2 * n) (now (ring .entry))))) r (now (b .exit)) ⌝ }
+    ensures { λ r. ⌜ r ≡ S.routeExterior flags rect bounds (T.close (T.coords (take (2 * n) (now (ring .entry))))) ⌝ }
+    ensures { λ r. ⌜ S.CutStands bounds (T.close (T.coords (take (2 * n) (now (ring .entry))))) r (now (b .exit)) ⌝ }
 {
     if !intersects_bounds(rect, bounds) {
         return Route::Nothing;
@@ -190,7 +201,7 @@ pub fn route_exterior(
 // Cuts a hole, to the front of b, and answers how many coordinates it has; one that is left out has none.
 pub fn clip_hole(ring: &[f64], n: usize, bounds: TileBounds, a: &mut [f64], b: &mut [f64]) -> usize
     requires { ⌜ S.RingRoom n (now ring) (length (now a)) (length (now b)) ⌝ }
-    ensures { λ r. ⌜ S.Stands (S.cutHole bounds (closed (coords (take (2 * n) (now (ring .entry)))))) r (now (b .exit)) ⌝ }
+    ensures { λ r. ⌜ S.Stands (S.cutHole bounds (T.close (T.coords (take (2 * n) (now (ring .entry)))))) r (now (b .exit)) ⌝ }
 {
     let clipped = clip_ring(ring, n, bounds, a, b);
     if clipped < 4 {

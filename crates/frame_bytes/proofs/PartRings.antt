@@ -5,7 +5,8 @@ use Prim.Native.Nat.{ℕ, _+_, _*_, _-_, _<_, _≤_}
 use lib.ListN.{length, drop}
 use Rattle.tile.specs.declared.Coord.{Coord}
 use Rattle.tile.specs.Ring.{close}
-use Rattle.frame_bytes.specs.Frame.{read, Accepted, mostRings, countOf, coordsOf, readRing, readMany, readPart, ringsIn, partAt, ringsFrom}
+use Rattle.rings.specs.Rings.{mostRings}
+use Rattle.frame_bytes.specs.Frame.{read, Accepted, countOf, coordsOf, readRing, readMany, readPart, ringsIn, partAt, ringsFrom}
 use Rattle.frame_bytes.proofs.Readings.{taken, ring-reads}
 use Rattle.frame_bytes.proofs.Places.{step, ring-at, part-at}
 

@@ -7,7 +7,8 @@ use lib.ListN.{length, drop, length-drop}
 use lib.Seq.{drop-drop}
 use Rattle.tile.specs.declared.Coord.{Coord}
 use Rattle.tile.specs.Ring.{close}
-use Rattle.frame_bytes.specs.Frame.{Reading, read, readMany, countOf, coordsOf, readRing, readPart, mostRings, mostCoordinates}
+use Rattle.rings.specs.Rings.{mostRings}
+use Rattle.frame_bytes.specs.Frame.{Reading, read, readMany, countOf, coordsOf, readRing, readPart, mostInRing}
 use Rattle.frame_bytes.proofs.Readings.{Reads, place, many-first, ring-read, part-read}
 
 -- ---- the first of many, and the others from the next place on
@@ -50,7 +51,7 @@ no-more f (suc k) l all rest h e = absurd (omega arith)
 
 pub record RingAt (frame : List ℕ) (at : ℕ) (ring : List Coord) (rest : List ℕ) : Type 0 where
   pub whole : at + 2 + 16 * countOf (drop at frame) ≤ length frame
-  pub few : countOf (drop at frame) ≤ mostCoordinates
+  pub few : countOf (drop at frame) ≤ mostInRing
   pub coordinates : ring ≡ close (coordsOf (countOf (drop at frame)) (drop (at + 2) frame))
   pub follows : rest ≡ drop (at + 2 + 16 * countOf (drop at frame)) frame
 

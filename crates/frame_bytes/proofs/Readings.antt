@@ -11,9 +11,10 @@ use borrow.Author.Tests.{ltb-false, eqb-false}
 use Rattle.binary64.proofs.Booleans.{neither}
 use Rattle.tile.specs.declared.Coord.{Coord}
 use Rattle.tile.specs.Ring.{close}
+use Rattle.rings.specs.Rings.{mostRings}
 use Rattle.frame_bytes.specs.declared.reader.FrameRefusal.{FrameRefusal}
 use Rattle.frame_bytes.specs.declared.reader.FrameRefusal.the-variants.{Size, Kind, Flags, PartCount, Truncated, RingCount, CoordinateCount, Trailing}
-use Rattle.frame_bytes.specs.Frame.{Reading, refused, read, refuse, andThen, readMany, countOf, coordsOf, readCount, readCoords, readRing, readPart, wrongRingCount, mostRings, mostCoordinates, shortest, longest, mostFlags, mostParts, headBytes, polygon, readParts, Frame, kindOf, flagsOf, partCountOf, headOf, wrongSize, wrongKind, wrongPartCount, readFrame, Accepted}
+use Rattle.frame_bytes.specs.Frame.{Reading, refused, read, refuse, andThen, readMany, countOf, coordsOf, readCount, readCoords, readRing, readPart, wrongRingCount, mostInRing, shortest, longest, mostFlags, mostParts, headBytes, polygon, readParts, Frame, kindOf, flagsOf, partCountOf, headOf, wrongSize, wrongKind, wrongPartCount, readFrame, Accepted}
 
 -- ---- one after the other
 
@@ -124,7 +125,7 @@ count-read l n rest e =
 
 pub record RingRead (l : List ℕ) (ring : List Coord) (rest : List ℕ) : Type 0 where
   pub whole : 2 + 16 * countOf l ≤ length l
-  pub few : countOf l ≤ mostCoordinates
+  pub few : countOf l ≤ mostInRing
   pub coordinates : ring ≡ close (coordsOf (countOf l) (drop 2 l))
   pub follows : rest ≡ drop (2 + 16 * countOf l) l
 
@@ -133,9 +134,9 @@ unfolding readRing readCoords
 ring-read l ring rest e =
     let p = both (readCount l) _ ring rest e in
     let c = count-read l (p .value) (p .rest) (p .first) in
-    let q = not-refused (ltb mostCoordinates (p .value)) CoordinateCount _ ring rest (p .second) in
+    let q = not-refused (ltb mostInRing (p .value)) CoordinateCount _ ring rest (p .second) in
     let s = not-refused (ltb (length (p .rest)) (16 * p .value)) Truncated _ ring rest (q .1) in
-    let few = ltb-false mostCoordinates (p .value) (q .0) in
+    let few = ltb-false mostInRing (p .value) (q .0) in
     let long = rw (c .count, c .follows) at (ltb-false (length (p .rest)) (16 * p .value) (s .0)) in
     let r = rw (c .count, c .follows) at (s .1) in
     record {

@@ -12,12 +12,12 @@ use Rattle.tile.specs.Ring.{close}
 use Rattle.sutherland_hodgman.specs.Growth as G
 use Rattle.sutherland_hodgman.specs.Growth.{B}
 use Rattle.sutherland_hodgman.proofs.Growth.{B-le}
+use Rattle.rings.specs.Rings.{total, ringRoom, mostRings}
 use Rattle.frame_bytes.specs.declared.reader.FrameRefusal.{FrameRefusal}
 use Rattle.frame_bytes.specs.declared.reader.FrameRefusal.the-variants.{Output}
 use Rattle.frame_bytes.specs.declared.reader.FrameCheck.the-variants.{Fails}
 use Rattle.frame_bytes.specs.declared.room.Passed.{Passed}
-use Rattle.frame_bytes.specs.Frame.{Reading, refused, read, refuse, andThen, checkOf, readMany, countOf, coordsOf, readRing, readPart, Frame, readFrame, headBytes, partCountOf, mostParts, mostRings, mostCoordinates, Accepted}
-use Rattle.rings.specs.Rings.{total, ringRoom}
+use Rattle.frame_bytes.specs.Frame.{Reading, refused, read, refuse, andThen, checkOf, readMany, countOf, coordsOf, readRing, readPart, Frame, readFrame, headBytes, partCountOf, mostParts, mostInRing, Accepted}
 use Rattle.frame_bytes.specs.Room.{partRoom, room, coordinateBytes, leastRoom, passedOf, frameRoom, readCall}
 use Rattle.frame_bytes.proofs.Coordinates.{close-grows}
 use Rattle.frame_bytes.proofs.Places.{step, ring-at, part-at}
@@ -86,7 +86,7 @@ module _ {A : Type 0} (f : List ℕ → Reading A) (g : A → ℕ) (frame : List
 
 -- ---- a ring
 
-pub closed-few : (n : ℕ) (l : List ℕ) → n ≤ mostCoordinates → length (close (coordsOf n l)) ≤ G.mostCoordinates
+pub closed-few : (n : ℕ) (l : List ℕ) → n ≤ mostInRing → length (close (coordsOf n l)) ≤ G.mostCoordinates
 closed-few n l h = omega (arith, close-grows n l)
 
 -- more than the room of any ring, in coordinates, and of any part, in bytes
@@ -105,7 +105,7 @@ module _ (frame : List ℕ) (at : ℕ) (h : at ≤ length frame) (a : Accepted (
   pub ring-fits : at + 2 + 16 * countOf (drop at frame) ≤ length frame
   ring-fits = let t = taken (readRing (drop at frame)) a in ring-at frame at (t .value) (t .rest) h (t .is) .whole
 
-  pub ring-few : countOf (drop at frame) ≤ mostCoordinates
+  pub ring-few : countOf (drop at frame) ≤ mostInRing
   ring-few = let t = taken (readRing (drop at frame)) a in ring-at frame at (t .value) (t .rest) h (t .is) .few
 
   pub ring-passed : passedOf (length frame) ringRoom (readRing (drop at frame))

@@ -8,6 +8,7 @@ use lib.Dec.{ltb}
 use lib.ListN.{length, drop, length-drop}
 use lib.Seq.{drop-drop}
 use borrow.Author.Tests.{ltb-false, lt-ltb, le-ltb}
+use Rattle.binary64.proofs.Booleans.{neither}
 use Rattle.tile.specs.declared.Coord.{Coord}
 use Rattle.tile.specs.Ring.{close}
 use Rattle.frame_bytes.specs.declared.head.Head.{Head}
@@ -17,9 +18,8 @@ use Rattle.frame_bytes.specs.declared.reader.FrameCheck.{FrameCheck}
 use Rattle.frame_bytes.specs.declared.reader.FrameCheck.the-variants.{Fails, Passes}
 use Rattle.frame_bytes.specs.declared.reader.Walk.{Walk}
 use Rattle.frame_bytes.specs.declared.reader.Walk.the-variants.{Stops, Reaches}
-use Rattle.frame_bytes.specs.Frame.{Reading, refused, read, refuse, andThen, readMany, countOf, coordsOf, readCount, readCoords, readRing, readPart, wrongRingCount, mostCoordinates, readParts, Frame, checkOf, walkOf, headBytes, shortest, longest, mostFlags, kindOf, flagsOf, partCountOf, headOf, wrongSize, wrongKind, wrongPartCount, readFrame}
+use Rattle.frame_bytes.specs.Frame.{Reading, refused, read, refuse, andThen, readMany, countOf, coordsOf, readCount, readCoords, readRing, readPart, wrongRingCount, mostInRing, readParts, Frame, checkOf, walkOf, headBytes, shortest, longest, mostFlags, kindOf, flagsOf, partCountOf, headOf, wrongSize, wrongKind, wrongPartCount, readFrame}
 use Rattle.frame_bytes.proofs.Readings.{Reads, place}
-use Rattle.binary64.proofs.Booleans.{neither}
 
 -- ---- at the front
 
@@ -36,21 +36,21 @@ module _ (l : List ℕ) where
   unfolding readRing
   ring-without-count h = rw (no-count h)
 
-  pub ring-too-long : 2 ≤ length l → mostCoordinates < countOf l → readRing l ≡ refused CoordinateCount
+  pub ring-too-long : 2 ≤ length l → mostInRing < countOf l → readRing l ≡ refused CoordinateCount
   unfolding readRing
-  ring-too-long h m = rw (a-count h, lt-ltb mostCoordinates (countOf l) m)
+  ring-too-long h m = rw (a-count h, lt-ltb mostInRing (countOf l) m)
 
-  pub ring-truncated : 2 ≤ length l → countOf l ≤ mostCoordinates → length l < 2 + 16 * countOf l → readRing l ≡ refused Truncated
+  pub ring-truncated : 2 ≤ length l → countOf l ≤ mostInRing → length l < 2 + 16 * countOf l → readRing l ≡ refused Truncated
   unfolding readRing readCoords
   ring-truncated h m s =
       let t : length (drop 2 l) < 16 * countOf l = omega (arith, length-drop 2 l) in
-      rw (a-count h, le-ltb mostCoordinates (countOf l) m, lt-ltb (length (drop 2 l)) (16 * countOf l) t)
+      rw (a-count h, le-ltb mostInRing (countOf l) m, lt-ltb (length (drop 2 l)) (16 * countOf l) t)
 
-  pub ring-whole : countOf l ≤ mostCoordinates → 2 + 16 * countOf l ≤ length l → readRing l ≡ read (close (coordsOf (countOf l) (drop 2 l))) (drop (2 + 16 * countOf l) l)
+  pub ring-whole : countOf l ≤ mostInRing → 2 + 16 * countOf l ≤ length l → readRing l ≡ read (close (coordsOf (countOf l) (drop 2 l))) (drop (2 + 16 * countOf l) l)
   unfolding readRing readCoords
   ring-whole m s =
       let t : 16 * countOf l ≤ length (drop 2 l) = omega (arith, length-drop 2 l) in
-      rw (a-count (omega arith), le-ltb mostCoordinates (countOf l) m, le-ltb (length (drop 2 l)) (16 * countOf l) t, drop-drop (16 * countOf l) 2 l)
+      rw (a-count (omega arith), le-ltb mostInRing (countOf l) m, le-ltb (length (drop 2 l)) (16 * countOf l) t, drop-drop (16 * countOf l) 2 l)
 
   pub part-without-count : length l < 2 → readPart l ≡ refused Truncated
   unfolding readPart

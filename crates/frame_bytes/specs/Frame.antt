@@ -11,6 +11,7 @@ use Rattle.tile.specs.declared.Coord.{Coord}
 use Rattle.tile.specs.declared.TileBounds.{TileBounds}
 use Rattle.tile.specs.Bounds.{newOf}
 use Rattle.tile.specs.Ring.{close}
+use Rattle.rings.specs.Rings.{mostRings}
 use Rattle.frame_bytes.specs.declared.head.Head.{Head}
 use Rattle.frame_bytes.specs.declared.reader.FrameRefusal.{FrameRefusal}
 use Rattle.frame_bytes.specs.declared.reader.FrameRefusal.the-variants.{Size, Kind, Flags, PartCount, Truncated, RingCount, CoordinateCount, Trailing, Output}
@@ -39,11 +40,8 @@ mostFlags = 3
 abbrev pub mostParts : ℕ
 mostParts = 256
 
-abbrev pub mostRings : ℕ
-mostRings = 64
-
-abbrev pub mostCoordinates : ℕ
-mostCoordinates = 4096
+abbrev pub mostInRing : ℕ
+mostInRing = 4096
 
 -- bytes of what stands before the parts
 abbrev pub headBytes : ℕ
@@ -109,7 +107,7 @@ readCoords n l = refuse (ltb (length l) (16 * n)) Truncated (read (close (coords
 
 -- "each ring: coordinate count, 2 bytes, then x and y"; "17 when a coordinate count read there is over 4,096"
 unfoldable pub readRing : List ℕ → Reading (List Coord)
-readRing l = andThen (readCount l) (λ n rest. refuse (ltb mostCoordinates n) CoordinateCount (readCoords n rest))
+readRing l = andThen (readCount l) (λ n rest. refuse (ltb mostInRing n) CoordinateCount (readCoords n rest))
 
 abbrev pub wrongRingCount : ℕ → Bool
 wrongRingCount k = eqb k 0 || ltb mostRings k

@@ -5,6 +5,7 @@ ghost use Prim.Native.Nat.{_+_, _*_, _≤_};
 ghost use lib.ListN.{length, take};
 ghost use lib.Seq.{sets};
 ghost use Rattle.tile.specs.Ring.{coords};
+ghost use Rattle.frame_bytes.specs.Room.{leastRoom};
 ghost use Rattle.frame_bytes.specs.Encoding as S;
 use super::ring::COORD;
 use super::ring::COUNT;
@@ -12,6 +13,9 @@ use binary64::bytes::write_f64;
 use binary64::bytes::write_u16;
 use tile::Coord;
 use tile::ring::coord_at;
+
+// The bytes of a listed part before the rings of a cut.
+pub const PART: usize = 4;
 
 pub fn put_count(out: &mut [u8], at: usize, n: usize)
     requires { ⌜ at + 2 ≤ length (now out) ⌝ }
@@ -46,7 +50,7 @@ pub fn put_ring(ring: &[f64], n: usize, out: &mut [u8], at: usize) -> usize
 
 // The header is written when the parts behind it are known.
 pub fn put_header(out: &mut [u8], number: u8, guard: usize, parts: usize)
-    requires { ⌜ 5 ≤ length (now out) ⌝ }
+    requires { ⌜ leastRoom ≤ length (now out) ⌝ }
     ensures { λ _. ⌜ now (out .exit) ≡ sets (now (out .entry)) 0 (S.headerBytes number guard parts) ⌝ }
 {
     out[0] = number;

@@ -8,8 +8,10 @@ use super::head::PART_COUNT;
 use super::ring::COORD;
 use super::ring::COUNT;
 use super::ring::count_at;
+use rings::lent::MOST_RINGS;
 
-const SHORTEST: usize = 44;
+// A frame is at least its head.
+const SHORTEST: usize = HEAD;
 
 pub const LONGEST: usize = 5120;
 
@@ -21,9 +23,7 @@ const MOST_FLAGS: u8 = 3;
 
 const MOST_PARTS: usize = 256;
 
-const MOST_RINGS: usize = 64;
-
-const MOST_COORDINATES: usize = 4096;
+const MOST_IN_RING: usize = 4096;
 
 // Why a frame call is refused: document 01's 11 to 18, and 22.
 pub enum FrameRefusal {
@@ -104,7 +104,7 @@ fn pass_ring(frame: &[u8], at: usize) -> Walk
         return Walk::Stops(FrameRefusal::Truncated);
     }
     let n = count_at(frame, at);
-    if n > MOST_COORDINATES {
+    if n > MOST_IN_RING {
         return Walk::Stops(FrameRefusal::CoordinateCount);
     }
     if left - COUNT < COORD * n {

@@ -2,9 +2,10 @@
 ghost use mathlib.Core.Path.{_≡_};
 ghost use Prim.Native.Nat.{_≤_};
 ghost use lib.ListN.{length, drop};
-ghost use Rattle.rings.specs.Rings.{total, ringRoom};
+ghost use Rattle.rings.specs.Rings.{total, ringRoom, mostRings};
 ghost use Rattle.frame_bytes.specs.Frame as S;
 ghost use Rattle.frame_bytes.specs.Room as R;
+use super::encode::PART;
 use super::head::HEAD;
 use super::head::PART_COUNT;
 use super::reader::FrameCheck;
@@ -18,6 +19,9 @@ use sutherland_hodgman::call::room_for;
 
 // The bytes of an answer that lists nothing.
 pub const LEAST_ROOM: usize = 5;
+
+// The bytes of a part that is cut, before its rings: those of every listed part, and the ring count.
+const CUT_PART: usize = PART + COUNT;
 
 // The room of what was passed over, and where the next thing starts.
 struct Passed {
@@ -40,7 +44,7 @@ fn ring_room(frame: &[u8], at: usize) -> Passed
 
 // The room, in coordinates, of so many rings from a place on.
 fn rings_room(frame: &[u8], start: usize, rings: usize) -> Passed
-    requires { ⌜ (start ≤ length (now frame)) × (rings ≤ S.mostRings) × S.Accepted (S.readMany S.readRing rings (drop start (now frame))) ⌝ }
+    requires { ⌜ (start ≤ length (now frame)) × (rings ≤ mostRings) × S.Accepted (S.readMany S.readRing rings (drop start (now frame))) ⌝ }
     ensures { λ r. ⌜ r ≡ R.passedOf (length (now (frame .entry))) (total ringRoom) (S.readMany S.readRing rings (drop start (now (frame .entry)))) ⌝ }
 {
     let mut room = 0usize;
@@ -63,7 +67,7 @@ fn part_room(frame: &[u8], at: usize) -> Passed
     let rings = count_at(frame, at);
     let cut = rings_room(frame, at + COUNT, rings);
     Passed {
-        room: 6 + 2 * rings + COORD * cut.room,
+        room: CUT_PART + COUNT * rings + COORD * cut.room,
         next: cut.next,
     }
 }

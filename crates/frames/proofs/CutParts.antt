@@ -12,22 +12,22 @@ use Rattle.tile.specs.declared.TileBounds.{TileBounds}
 use Rattle.tile.specs.Ring.{coords, flat, close}
 use Rattle.tile.proofs.Rings.{coords-flat}
 use Rattle.sutherland_hodgman.specs.Growth.{B}
-use Rattle.clip.specs.Polygon.{unlessNone, cutExterior, cutHoles, cutRings, cut, overlay, reasonNumber, Stands, ExteriorRoom}
-use Rattle.rings.specs.Rings.{exterior, largest, total}
-use Rattle.clip.specs.declared.polygon.Reason.{Reason}
+use Rattle.rings.specs.Rings.{exterior, largest, total, mostRings}
 use Rattle.rings.specs.Representable.{anyHugeRing}
-use Rattle.clip.proofs.Cuts.{B-mono, cut-fits-room, cut-rings}
 use Rattle.rings.proofs.LentRings.{larger-least}
-use Rattle.frames.specs.declared.part.Written.{Written}
-use Rattle.frame_bytes.specs.Frame.{Reading, refused, read, mostRings, countOf, coordsOf, ringsIn, partAt}
+use Rattle.clip.specs.Polygon.{unlessNone, cutExterior, cutHoles, cutRings, cut, overlay, reasonNumber, Stands, ExteriorRoom}
+use Rattle.clip.specs.declared.polygon.Reason.{Reason}
+use Rattle.clip.proofs.Cuts.{B-mono, cut-fits-room, cut-rings}
+use Rattle.frame_bytes.specs.Frame.{Reading, refused, read, countOf, coordsOf, ringsIn, partAt}
 use Rattle.frame_bytes.specs.Room.{partRoom}
 use Rattle.frame_bytes.specs.Encoding.{each, countBytes, coordBytes, ringBytes}
-use Rattle.frames.specs.Output.{partBytes}
-use Rattle.frames.specs.Part.{writtenPart, PutRings, Working, RingsRoom, PartRoom, CutRoom}
 use Rattle.frame_bytes.specs.Measure.{hugeOf}
 use Rattle.frame_bytes.proofs.Coordinates.{decoded}
 use Rattle.frame_bytes.proofs.Writing.{sets-before, length-count}
 use Rattle.frame_bytes.proofs.PartRings.{part-rings, exteriorAt, holesAt, first-ring, part-here}
+use Rattle.frames.specs.declared.part.Written.{Written}
+use Rattle.frames.specs.Output.{partBytes}
+use Rattle.frames.specs.Part.{writtenPart, PutRings, Working, RingsRoom, PartRoom, CutRoom}
 use Rattle.frames.proofs.Cutting.{working-later, working-ring, unless-append, unless-bytes, unless-count, put-then, ring-read-in}
 
 -- ---- room

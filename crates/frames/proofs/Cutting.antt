@@ -7,23 +7,23 @@ use lib.Ieee.{Float}
 use lib.ListN.{length, take, drop, length-append}
 use lib.Seq.{sets, length-sets}
 use Rattle.binary64.proofs.Fill.{sets-append}
+use Rattle.binary64.proofs.Booleans.{both}
 use Rattle.tile.specs.declared.Coord.{Coord}
 use Rattle.tile.specs.declared.TileBounds.{TileBounds}
 use Rattle.tile.specs.Ring.{coords, flat, closed, close}
 use Rattle.tile.proofs.Rings.{coords-flat, length-close}
 use Rattle.sutherland_hodgman.specs.Growth.{B}
-use Rattle.clip.specs.Polygon.{cutHole, unlessNone, cutHoles, RingRoom, Stands}
 use Rattle.rings.specs.Rings.{largest, allClosed, total, ringRoom}
-use Rattle.binary64.proofs.Booleans.{both}
-use Rattle.clip.proofs.Cuts.{B-mono, hole-fits-room}
 use Rattle.rings.proofs.LentRings.{larger-least}
-use Rattle.frames.specs.declared.part.Written.{Written}
+use Rattle.clip.specs.Polygon.{cutHole, unlessNone, cutHoles, RingRoom, Stands}
+use Rattle.clip.proofs.Cuts.{B-mono, hole-fits-room}
 use Rattle.frame_bytes.specs.Frame.{countOf, coordsOf, readMany, ringsFrom}
 use Rattle.frame_bytes.specs.Encoding.{each, coordBytes, ringBytes}
-use Rattle.frames.specs.Part.{PutRings, Working, RingsRoom}
 use Rattle.frame_bytes.proofs.Coordinates.{length-coordsOf, decoded}
 use Rattle.frame_bytes.proofs.Writing.{length-ring}
 use Rattle.frame_bytes.proofs.PartRings.{NextRing, next-ring}
+use Rattle.frames.specs.declared.part.Written.{Written}
+use Rattle.frames.specs.Part.{PutRings, Working, RingsRoom}
 
 -- ---- the working slices
 

@@ -7,37 +7,37 @@ use native.Mathlib.Omega.{arith}
 use borrow.Author.Tests.{eqb-true, ne-eqb, not-true, not-false}
 use lib.Dec.{eqb}
 use lib.ListN.{length, drop, length-append}
+use Rattle.binary64.proofs.Booleans.{both, neither}
+use Rattle.binary64.proofs.Fill.{whole-over}
 use Rattle.tile.specs.declared.Coord.{Coord}
 use Rattle.tile.specs.declared.TileBounds.{TileBounds}
 use Rattle.box_pairs.specs.Issue.{issueOf, hasIssue}
 use Rattle.sutherland_hodgman.specs.Growth.{B}
-use Rattle.clip.specs.declared.polygon.Flags.{Flags}
 use Rattle.rings.specs.declared.rectangle.Rect.{Rect}
 use Rattle.rings.specs.declared.rectangle.Rect.the-variants as Rects
 use Rattle.rings.specs.Rectangle.{rectangle, withRings, intersectsBounds, isFullyInside, withParts}
+use Rattle.rings.specs.Rings.{total, exterior}
+use Rattle.clip.specs.declared.polygon.Flags.{Flags}
 use Rattle.clip.specs.Polygon as P
-use Rattle.binary64.proofs.Booleans.{both, neither}
-use Rattle.binary64.proofs.Fill.{whole-over}
 use Rattle.frame_bytes.specs.declared.head.Head.{Head}
 use Rattle.frame_bytes.specs.declared.reader.FrameRefusal.{FrameRefusal}
 use Rattle.frame_bytes.specs.declared.reader.FrameCheck.the-variants.{Fails}
-use Rattle.frames.specs.declared.entry.FrameAnswer.the-variants.{Refused, Answered}
-use Rattle.frame_bytes.specs.Frame.{Reading, refused, read, checkOf, Accepted, polygon, multipolygon, longest, mostParts, mostCoordinates, headBytes, readPart, Frame, kindOf, partCountOf, wrongKind, wrongPartCount, headOf, readFrame, partAt}
+use Rattle.frame_bytes.specs.Frame.{Reading, refused, read, checkOf, Accepted, polygon, multipolygon, longest, mostParts, mostInRing, headBytes, readPart, Frame, kindOf, partCountOf, wrongKind, wrongPartCount, headOf, readFrame, partAt}
 use Rattle.frame_bytes.specs.Room.{leastRoom, coordinateBytes, partRoom, room, frameRoom, readCall}
-use Rattle.rings.specs.Rings.{total, exterior}
-use Rattle.frames.specs.Answer.{Part, Answer, Nothing, Unchanged, ofPolygon, routePart, listedBefore, listParts, ofParts, ifBox, ofMultipolygon, flagsIn, boundsIn, onlyPart, answerTo}
 use Rattle.frame_bytes.specs.Encoding.{each, coordBytes, headerBytes}
-use Rattle.frames.specs.Output.{partBytes, answerBytes, frameBytes, outputAfter, callOutput}
 use Rattle.frame_bytes.specs.Measure.{frameRect, soundIfSimple}
-use Rattle.frames.specs.Part.{PartRoom}
-use Rattle.frames.specs.Parts.{partsIn, partsFrom, ofListing, Answers}
-use Rattle.frames.specs.Entry.{answerOfReading, callAnswer, partsOf, answerRead, answerMeasured, unchangedAtOnce, PartsReady, Answerable, Cuttable}
 use Rattle.frame_bytes.proofs.Readings.{taken, many-length, frame-read}
 use Rattle.frame_bytes.proofs.Rooms.{mostPart, parts-le, frame-head, frame-few, frame-parts, call-read}
 use Rattle.frame_bytes.proofs.Writing.{length-header}
+use Rattle.frame_bytes.proofs.SimpleExteriors.{sound-part}
+use Rattle.frames.specs.declared.entry.FrameAnswer.the-variants.{Refused, Answered}
+use Rattle.frames.specs.Answer.{Part, Answer, Nothing, Unchanged, ofPolygon, routePart, listedBefore, listParts, ofParts, ifBox, ofMultipolygon, flagsIn, boundsIn, onlyPart, answerTo}
+use Rattle.frames.specs.Output.{partBytes, answerBytes, frameBytes, outputAfter, callOutput}
+use Rattle.frames.specs.Part.{PartRoom}
+use Rattle.frames.specs.Parts.{partsIn, partsFrom, ofListing, Answers}
+use Rattle.frames.specs.Entry.{answerOfReading, callAnswer, partsOf, answerRead, answerMeasured, unchangedAtOnce, PartsReady, Answerable, Cuttable}
 use Rattle.frames.proofs.Cutting.{each-append}
 use Rattle.frames.proofs.Listings.{routed-as, listed-append, routed-fits, listed-fits, NextPart, next-part, part-next, part-room}
-use Rattle.frame_bytes.proofs.SimpleExteriors.{sound-part}
 use Rattle.frames.proofs.Sizes.{parts-fit}
 
 -- ---- what an accepted frame holds
@@ -87,7 +87,7 @@ holds frame a = let t = taken (readFrame frame) a in go (t .value) (t .rest) (t 
 
 -- slices with room for a ring of m coordinates are enough for a frame that is no longer than one such ring takes
 pub ready : (frame : List ℕ) (head : Head) (m ring a b order out : ℕ) → Cuttable frame head out → length frame ≤ 47 + 16 * m
-    → m ≤ mostCoordinates + 1 → 2 * m ≤ ring → 2 * B m ≤ a → 2 * B m ≤ b → B m ≤ order → PartsReady frame head ring a b order out
+    → m ≤ mostInRing + 1 → 2 * m ≤ ring → 2 * B m ≤ a → 2 * B m ≤ b → B m ≤ order → PartsReady frame head ring a b order out
 ready frame head m ring a b order out c small hm hring ha hb horder =
     let y = c .answerable in
     let x = y .accepted in

@@ -8,32 +8,33 @@ use borrow.Author.Tests.{eq-eqb, ne-eqb}
 use lib.Dec.{eqb}
 use lib.ListN.{length, drop, length-append, length-drop}
 use lib.Seq.{sets}
+use Rattle.binary64.specs.Lists.{Every}
 use Rattle.binary64.proofs.Fill.{sets-append}
 use Rattle.tile.specs.declared.Coord.{Coord}
 use Rattle.tile.specs.declared.TileBounds.{TileBounds}
-use Rattle.clip.specs.declared.polygon.Flags.{Flags}
 use Rattle.rings.specs.declared.rectangle.Rect.{Rect}
 use Rattle.rings.specs.declared.rectangle.Rect.the-variants as Rects
-use Rattle.clip.specs.declared.polygon.Route.{Route}
-use Rattle.clip.specs.declared.polygon.Route.the-variants as To
 use Rattle.rings.specs.Rectangle.{rectangle, intersectsBounds, isFullyInside}
 use Rattle.rings.specs.Representable.{anyHugeRing}
+use Rattle.rings.specs.Rings.{total, ringRoom, exterior}
+use Rattle.clip.specs.declared.polygon.Flags.{Flags}
+use Rattle.clip.specs.declared.polygon.Route.{Route}
+use Rattle.clip.specs.declared.polygon.Route.the-variants as To
 use Rattle.clip.specs.Polygon as P
 use Rattle.clip.specs.Polygon.{answerOf, guardCount}
 use Rattle.clip.proofs.Cuts.{cut-fits-room, hole-fits-room}
-use Rattle.frames.specs.declared.parts.Listing as L
 use Rattle.frame_bytes.specs.Frame.{Reading, read, Accepted, mostParts, readPart, readMany, ringsIn, partAt}
-use Rattle.rings.specs.Rings.{total, ringRoom, exterior}
 use Rattle.frame_bytes.specs.Room.{partRoom}
-use Rattle.frames.specs.Answer.{Part, Answer, Nothing, Dropped, Unchanged, Listed, listedBefore, Listing, addPart, listParts, ofParts, ofPolygon, routePart}
 use Rattle.frame_bytes.specs.Encoding.{each, countBytes, coordBytes, headerBytes, ringBytes}
-use Rattle.frames.specs.Output.{partBytes, answerBytes}
 use Rattle.frame_bytes.specs.Measure.{measuredOf}
-use Rattle.frames.specs.Part.{writtenPart, partAnswer, PartRoom}
-use Rattle.frames.specs.Parts.{routePartAs, partsIn, partsFrom, unchangedBytes, withPart, Lists, listingOf, finishedHeader, finishedLength, polygonHeader, polygonLength, Answers, Few, Workable, AllParts, PartsRoom}
 use Rattle.frame_bytes.proofs.Readings.{taken, part-reads}
 use Rattle.frame_bytes.proofs.Places.{step}
 use Rattle.frame_bytes.proofs.Writing.{sets-before, length-count, length-header, length-ring}
+use Rattle.frames.specs.declared.parts.Listing as L
+use Rattle.frames.specs.Answer.{Part, Answer, Nothing, Dropped, Unchanged, Listed, listedBefore, Listing, addPart, listParts, ofParts, ofPolygon, routePart}
+use Rattle.frames.specs.Output.{partBytes, answerBytes}
+use Rattle.frames.specs.Part.{writtenPart, partAnswer, PartRoom}
+use Rattle.frames.specs.Parts.{routePartAs, partsIn, partsFrom, unchangedBytes, withPart, Lists, listingOf, finishedHeader, finishedLength, polygonHeader, polygonLength, Answers, Few, Workable, PartsRoom}
 use Rattle.frames.proofs.Cutting.{unless-append, unless-bytes, each-append}
 use Rattle.frames.proofs.CutParts.{overlay-length, part-bytes}
 
@@ -199,8 +200,8 @@ module _ (flags : Flags) (bounds : TileBounds) (frame : List ℕ) (at k ring a b
   output-here : to + total (partRoom 16) (partAt frame at ∷ partsFrom frame (nextPlace frame at) (k - 1)) ≤ out
   output-here = rw (part-next .here) at (room .output)
 
-  workable-here : Workable ring a b order (partAt frame at) × AllParts (Workable ring a b order) (partsFrom frame (nextPlace frame at) (k - 1))
-  workable-here = subst (AllParts (Workable ring a b order)) (part-next .here) (room .workable)
+  workable-here : Workable ring a b order (partAt frame at) × Every (Workable ring a b order) (partsFrom frame (nextPlace frame at) (k - 1))
+  workable-here = subst (Every (Workable ring a b order)) (part-next .here) (room .workable)
 
   pub part-room : PartRoom frame at ring a b order out to
   unfolding total

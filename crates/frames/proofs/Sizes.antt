@@ -6,6 +6,7 @@ use Prim.Native.Nat.{ℕ, zero, suc, _+_, _*_, _-_, _≤_}
 use native.Mathlib.Omega.{arith}
 use lib.Dec.{ltb}
 use lib.ListN.{length, drop}
+use Rattle.binary64.specs.Lists.{Every}
 use Rattle.tile.specs.declared.Coord.{Coord}
 use Rattle.tile.specs.Ring.{close}
 use Rattle.sutherland_hodgman.specs.Growth.{B}
@@ -15,10 +16,10 @@ use Rattle.rings.specs.Rectangle.{withRing, withRings, withParts}
 use Rattle.rings.specs.Rings.{larger, largest, allClosed}
 use Rattle.rings.proofs.Closing.{stays-rings, ring-closed}
 use Rattle.clip.proofs.Cuts.{B-mono}
-use Rattle.frame_bytes.specs.Frame.{Accepted, mostCoordinates, countOf, coordsOf, readRing, readMany, readPart, ringsFrom, partAt}
-use Rattle.frames.specs.Parts.{AllParts, Workable, partsFrom}
+use Rattle.frame_bytes.specs.Frame.{Accepted, mostInRing, countOf, coordsOf, readRing, readMany, readPart, ringsFrom, partAt}
 use Rattle.frame_bytes.proofs.Coordinates.{close-grows}
 use Rattle.frame_bytes.proofs.PartRings.{next-ring, part-rings}
+use Rattle.frames.specs.Parts.{Workable, partsFrom}
 use Rattle.frames.proofs.Listings.{nextPlace, next-part}
 
 larger-most : (m a b : ℕ) → a ≤ m → b ≤ m → larger a b ≤ m
@@ -57,7 +58,7 @@ module _ (frame : List ℕ) (m : ℕ) (small : length frame ≤ 47 + 16 * m) whe
       })
 
   -- working slices of these lengths have room for a ring of m coordinates
-  module _ (ring a b order : ℕ) (hm : m ≤ mostCoordinates + 1) (hring : 2 * m ≤ ring) (ha : 2 * B m ≤ a) (hb : 2 * B m ≤ b) (horder : B m ≤ order) where
+  module _ (ring a b order : ℕ) (hm : m ≤ mostInRing + 1) (hring : 2 * m ≤ ring) (ha : 2 * B m ≤ a) (hb : 2 * B m ≤ b) (horder : B m ≤ order) where
     workable : (rings : List (List Coord)) → Rings rings → Workable ring a b order rings
     workable rings r =
         let l = B-mono (largest length rings) m (r .short) in
@@ -66,7 +67,7 @@ module _ (frame : List ℕ) (m : ℕ) (small : length frame ≤ 47 + 16 * m) whe
           positions = omega (arith, l);
         }
 
-    pub parts-fit : (k at : ℕ) (r : Rect) → 44 ≤ at → at ≤ length frame → Accepted (readMany readPart k (drop at frame)) → (withParts r (partsFrom frame at k) ≡ Rects.NotFinite → ⊥) → AllParts (Workable ring a b order) (partsFrom frame at k)
+    pub parts-fit : (k at : ℕ) (r : Rect) → 44 ≤ at → at ≤ length frame → Accepted (readMany readPart k (drop at frame)) → (withParts r (partsFrom frame at k) ≡ Rects.NotFinite → ⊥) → Every (Workable ring a b order) (partsFrom frame at k)
     unfolding readMany withParts
     parts-fit zero at r h w x q = tt
     parts-fit (suc k) at r h w x q =
@@ -79,4 +80,4 @@ module _ (frame : List ℕ) (m : ℕ) (small : length frame ≤ 47 + 16 * m) whe
         let rs = part-rings frame at w (n .accepted) in
         let finite : withRings r (ringsFrom frame (at + 2) (countOf (drop at frame))) ≡ Rects.NotFinite → ⊥ = λ z. q′ (rw (rs .same, z) (stays-parts (partsFrom frame to k))) in
         let first = subst Rings (sym (rs .same)) (rings-fit (countOf (drop at frame)) (at + 2) r (omega arith) (rs .whole) (rs .accepted) finite) in
-        subst (AllParts (Workable ring a b order)) (sym here) (workable (partAt frame at) first, later)
+        subst (Every (Workable ring a b order)) (sym here) (workable (partAt frame at) first, later)

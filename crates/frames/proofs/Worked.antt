@@ -6,7 +6,7 @@ use lib.IntN.{pos}
 use lib.Ieee.{Float, nan, binary64, ofInt, ofBits, toBits, round, isNan, lt, le, eq, add, sub, mul, div}
 use Rattle.binary64.specs.Bytes.{Little, doubleBytes, fromLow, toLow}
 use Rattle.binary64.specs.Compare.{minimum, maximum, magnitude, tolerance, near, limit, huge}
-use Rattle.binary64.specs.Scaled.{interpolate}
+use Rattle.binary64.specs.Interpolation.{interpolate}
 use Rattle.tile.specs.declared.Coord.{Coord}
 use Rattle.tile.specs.Bounds.{newOf}
 use Rattle.tile.specs.Ring.{same, last, closed, close}
@@ -21,8 +21,8 @@ use Rattle.rings.specs.Representable.{hugeCoord, anyHuge, anyHugeRing}
 use Rattle.clip.specs.Polygon.{bridgeUnlessSkipped, routeCut, routeExterior, cutHole, cutHoles, cutRings, overlayOrDropped, routeRect, route}
 use Rattle.frame_bytes.specs.declared.reader.FrameRefusal.{FrameRefusal}
 use Rattle.frame_bytes.specs.Frame.{polygon, multipolygon, Reading, refused, read, Frame, readMany, countOf, coordsOf, readCount, readCoords, readRing, readPart, readParts, readFrame}
-use Rattle.frames.specs.Answer.{routePart, listParts, ofMultipolygon, answerTo}
 use Rattle.frame_bytes.specs.Encoding.{each, countBytes, coordBytes, ringBytes}
+use Rattle.frames.specs.Answer.{routePart, listParts, ofMultipolygon, answerTo}
 use Rattle.frames.specs.Output.{partBytes, answerBytes, frameBytes}
 
 -- ---- coordinates

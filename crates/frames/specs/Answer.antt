@@ -1,4 +1,4 @@
--- What a frame call answers, as a value (document 01, "Multipolygons"; for a polygon, "Nothing, or dropped" to "Overlay wanted"; the numbers, "Frames"). Definitions only.
+-- What a frame call answers, as a value (document 01, "Multipolygons"; for a polygon, "Nothing, or dropped" to "Overlay wanted"). Definitions only.
 use mathlib.Core.Bool.{cond}
 use mathlib.Core.List.{List, [], _∷_}
 use Prim.Native.Nat.{ℕ, suc, _+_}
@@ -6,10 +6,10 @@ use lib.Dec.{eqb}
 use Rattle.tile.specs.declared.Coord.{Coord}
 use Rattle.tile.specs.declared.TileBounds.{TileBounds}
 use Rattle.tile.specs.Bounds.{buffered}
-use Rattle.clip.specs.declared.polygon.Flags.{Flags}
 use Rattle.rings.specs.declared.rectangle.Rect.{Rect}
 use Rattle.rings.specs.declared.rectangle.Rect.the-variants as Rects
 use Rattle.rings.specs.Rectangle.{rectangle, intersectsBounds, isFullyInside, withParts}
+use Rattle.clip.specs.declared.polygon.Flags.{Flags}
 use Rattle.clip.specs.Polygon as P
 use Rattle.clip.specs.Polygon.{answerOf, guardCount}
 use Rattle.frame_bytes.specs.declared.head.Head.{Head}
@@ -38,9 +38,12 @@ ofPolygon (P.overlay reason) = Listed 0 (record { index = 0; outcome = P.overlay
 
 -- ---- a multipolygon
 
--- "Otherwise part by part: no coordinate or apart, left out; inside, unchanged with no issue check; else as a polygon."
+-- "Otherwise part by part: no coordinate or apart, left out; inside, unchanged with no issue check; else as a polygon": of a part's rectangle, and of what becomes of it as a polygon
+abbrev pub ofPart : Rect → TileBounds → P.Routed → P.Routed
+ofPart rect b as-polygon = cond (intersectsBounds rect b) (cond (isFullyInside rect b) P.unchanged as-polygon) P.nothing
+
 unfoldable pub routePart : Flags → TileBounds → List (List Coord) → P.Routed
-routePart flags b rings = cond (intersectsBounds (rectangle rings) b) (cond (isFullyInside (rectangle rings) b) P.unchanged (P.route flags b rings)) P.nothing
+routePart flags b rings = ofPart (rectangle rings) b (P.route flags b rings)
 
 -- the guard count and the listed parts
 pub record Listing : Type 0 where

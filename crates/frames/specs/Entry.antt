@@ -15,13 +15,13 @@ use Rattle.rings.specs.Rectangle.{isFullyInside}
 use Rattle.rings.specs.Rings.{exterior}
 use Rattle.clip.specs.Polygon.{routeMeasured}
 use Rattle.frame_bytes.specs.declared.head.Head.{Head}
-use Rattle.frames.specs.declared.entry.FrameAnswer.{FrameAnswer}
-use Rattle.frames.specs.declared.entry.FrameAnswer.the-variants.{Refused, Answered}
 use Rattle.frame_bytes.specs.Frame.{Reading, refused, read, Accepted, polygon, multipolygon, mostParts, headBytes, refusalNumber, Frame, headOf, readFrame}
 use Rattle.frame_bytes.specs.Room.{leastRoom, coordinateBytes, frameRoom, readCall}
+use Rattle.frame_bytes.specs.Measure.{frameRect}
+use Rattle.frames.specs.declared.entry.FrameAnswer.{FrameAnswer}
+use Rattle.frames.specs.declared.entry.FrameAnswer.the-variants.{Refused, Answered}
 use Rattle.frames.specs.Answer.{Answer, Nothing, ofPolygon, listParts, flagsIn, onlyPart, answerTo}
 use Rattle.frames.specs.Output.{frameBytes}
-use Rattle.frame_bytes.specs.Measure.{frameRect}
 use Rattle.frames.specs.Parts.{ofListing, PartsRoom}
 
 -- ---- what is answered

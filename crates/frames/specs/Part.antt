@@ -9,15 +9,15 @@ use lib.Seq.{sets}
 use Rattle.tile.specs.declared.Coord.{Coord}
 use Rattle.tile.specs.declared.TileBounds.{TileBounds}
 use Rattle.sutherland_hodgman.specs.Growth.{B}
+use Rattle.rings.specs.Rings.{largest, allClosed, total, ringRoom, exterior}
 use Rattle.clip.specs.declared.polygon.Route.{Route}
 use Rattle.clip.specs.Polygon as P
-use Rattle.rings.specs.Rings.{largest, allClosed, total, ringRoom, exterior}
+use Rattle.frame_bytes.specs.Frame.{Accepted, mostInRing, readRing, readMany, readPart, ringsFrom, partAt}
+use Rattle.frame_bytes.specs.Room.{coordinateBytes, partRoom}
+use Rattle.frame_bytes.specs.Encoding.{each, coordBytes, ringBytes}
 use Rattle.frames.specs.declared.part.PartAnswer.{PartAnswer}
 use Rattle.frames.specs.declared.part.PartAnswer.the-variants as Is
 use Rattle.frames.specs.declared.part.Written.{Written}
-use Rattle.frame_bytes.specs.Frame.{Accepted, mostCoordinates, readRing, readMany, readPart, ringsFrom, partAt}
-use Rattle.frame_bytes.specs.Room.{coordinateBytes, partRoom}
-use Rattle.frame_bytes.specs.Encoding.{each, coordBytes, ringBytes}
 use Rattle.frames.specs.Output.{partBytes}
 
 -- ---- what is answered and written
@@ -48,7 +48,7 @@ pub record PutRings (rings : List (List Coord)) (at : Written) (out : List ℕ) 
 
 -- the working slices have room for each of the rings: one for the ring as it is read, and two for cutting it; closing closes them, as no first coordinate holds a NaN
 pub record Working (rings : List (List Coord)) (ring a b : ℕ) : Type 0 where
-  pub small : largest length rings ≤ mostCoordinates + 1
+  pub small : largest length rings ≤ mostInRing + 1
   pub closes : allClosed rings ≡ true
   pub lent : 2 * largest length rings ≤ ring
   pub first : 2 * B (largest length rings) ≤ a

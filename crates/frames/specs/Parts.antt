@@ -1,33 +1,33 @@
 -- The parts of a frame, one after the other (document 01, "Multipolygons" and "Frames"): what the functions ask for and leave. Definitions only.
 use mathlib.Core.Path.{_≡_}
 use mathlib.Core.Bool.{cond}
-use mathlib.Core.List.{List, [], _∷_}
+use mathlib.Core.List.{List, []}
 use Prim.Native.Nat.{ℕ, _+_, _≤_}
 use lib.Dec.{eqb}
 use lib.ListN.{length, drop}
 use lib.Seq.{sets}
+use Rattle.binary64.specs.Lists.{Every}
 use Rattle.tile.specs.declared.Coord.{Coord}
 use Rattle.tile.specs.declared.TileBounds.{TileBounds}
 use Rattle.sutherland_hodgman.specs.Growth.{B}
-use Rattle.clip.specs.declared.polygon.Flags.{Flags}
 use Rattle.rings.specs.declared.rectangle.Rect.{Rect}
-use Rattle.rings.specs.Rectangle.{intersectsBounds, isFullyInside}
-use Rattle.clip.specs.Polygon as P
 use Rattle.rings.specs.Rings.{largest, total}
+use Rattle.clip.specs.declared.polygon.Flags.{Flags}
+use Rattle.clip.specs.Polygon as P
 use Rattle.clip.specs.Polygon.{answerOf, guardCount}
+use Rattle.frame_bytes.specs.Frame.{Reading, refused, read, Accepted, mostParts, readPart, readMany}
+use Rattle.frame_bytes.specs.Room.{leastRoom, coordinateBytes, partRoom}
+use Rattle.frame_bytes.specs.Encoding.{each, coordBytes, headerBytes}
 use Rattle.frames.specs.declared.part.PartAnswer.{PartAnswer}
 use Rattle.frames.specs.declared.part.PartAnswer.the-variants as Is
 use Rattle.frames.specs.declared.parts.Listing as L
-use Rattle.frame_bytes.specs.Frame.{Reading, refused, read, Accepted, mostParts, readPart, readMany}
-use Rattle.frame_bytes.specs.Room.{coordinateBytes, partRoom}
-use Rattle.frames.specs.Answer.{Answer, listedBefore, Listing, ofParts}
-use Rattle.frame_bytes.specs.Encoding.{each, coordBytes, headerBytes}
-use Rattle.frames.specs.Output.{partBytes, answerBytes}
+use Rattle.frames.specs.Answer.{Answer, Nothing, Dropped, Unchanged, Listed, ofPart, listedBefore, Listing, ofParts}
+use Rattle.frames.specs.Output.{wholeNumber, partBytes, answerBytes}
 use Rattle.frames.specs.Part.{Working}
 
 -- what becomes of a part of a multipolygon that is measured as rect
 unfoldable pub routePartAs : Flags → Rect → TileBounds → List (List Coord) → P.Routed
-routePartAs flags rect b rings = cond (intersectsBounds rect b) (cond (isFullyInside rect b) P.unchanged (P.routeMeasured flags rect b rings)) P.nothing
+routePartAs flags rect b rings = ofPart rect b (P.routeMeasured flags rect b rings)
 
 -- the parts that are read; of a refusal, none
 abbrev pub partsIn : Reading (List (List (List Coord))) → List (List (List Coord))
@@ -39,7 +39,7 @@ partsFrom frame at k = partsIn (readMany readPart k (drop at frame))
 
 -- ---- what is listed
 
--- what is still to be written of a part then: an unchanged one
+-- what is still to be written of a part that has this answer: of an unchanged one all of it, of the others nothing
 abbrev pub unchangedBytes : ℕ → PartAnswer → List ℕ
 unchangedBytes i Is.Nothing = []
 unchangedBytes i Is.Dropped = []
@@ -66,22 +66,22 @@ listingOf i to = record { guard = guardCount (answerOf to); parts = listedBefore
 
 -- the header and the length of an answer of which so much is listed
 abbrev pub finishedHeader : L.Listing → List ℕ
-finishedHeader l = cond (eqb (l .parts) 0) (headerBytes 0 (l .guard) 0) (headerBytes 3 (l .guard) (l .parts))
+finishedHeader l = cond (eqb (l .parts) 0) (headerBytes (wholeNumber (Nothing (l .guard))) (l .guard) 0) (headerBytes (wholeNumber (Listed (l .guard) [])) (l .guard) (l .parts))
 
 abbrev pub finishedLength : L.Listing → ℕ
-finishedLength l = cond (eqb (l .parts) 0) 5 (l .next)
+finishedLength l = cond (eqb (l .parts) 0) leastRoom (l .next)
 
 -- of a polygon, by its only part
 abbrev pub polygonHeader : PartAnswer → List ℕ
-polygonHeader Is.Nothing = headerBytes 0 0 0
-polygonHeader Is.Dropped = headerBytes 1 1 0
-polygonHeader Is.Unchanged = headerBytes 2 0 0
-polygonHeader (Is.Listed next) = headerBytes 3 0 1
+polygonHeader Is.Nothing = headerBytes (wholeNumber (Nothing 0)) 0 0
+polygonHeader Is.Dropped = headerBytes (wholeNumber Dropped) 1 0
+polygonHeader Is.Unchanged = headerBytes (wholeNumber Unchanged) 0 0
+polygonHeader (Is.Listed next) = headerBytes (wholeNumber (Listed 0 [])) 0 1
 
 abbrev pub polygonLength : PartAnswer → ℕ
-polygonLength Is.Nothing = 5
-polygonLength Is.Dropped = 5
-polygonLength Is.Unchanged = 5
+polygonLength Is.Nothing = leastRoom
+polygonLength Is.Dropped = leastRoom
+polygonLength Is.Unchanged = leastRoom
 polygonLength (Is.Listed next) = next
 
 abbrev pub ofListing : Listing → Answer
@@ -105,13 +105,9 @@ pub record Workable (ring a b order : ℕ) (rings : List (List Coord)) : Type 0 
   pub working : Working rings ring a b
   pub positions : B (largest length rings) ≤ order
 
-abbrev pub AllParts : (List (List Coord) → Type 0) → List (List (List Coord)) → Type 0
-AllParts Q [] = Unit {0}
-AllParts Q (part ∷ parts) = Q part × AllParts Q parts
-
 -- so many parts are there from a place on, can be cut, and have room in the output at a place
 pub record PartsRoom (frame : List ℕ) (at k ring a b order out to : ℕ) : Type 0 where
   pub within : at ≤ length frame
   pub accepted : Accepted (readMany readPart k (drop at frame))
-  pub workable : AllParts (Workable ring a b order) (partsFrom frame at k)
+  pub workable : Every (Workable ring a b order) (partsFrom frame at k)
   pub output : to + total (partRoom coordinateBytes) (partsFrom frame at k) ≤ out

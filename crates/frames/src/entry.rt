@@ -4,12 +4,15 @@ ghost use Prim.Native.Nat.{_≤_};
 ghost use lib.ListN.{length};
 ghost use Rattle.frame_bytes.specs.Frame as F;
 ghost use Rattle.frame_bytes.specs.Room as R;
-ghost use Rattle.frames.specs.Output as O;
 ghost use Rattle.frame_bytes.specs.Measure as M;
+ghost use Rattle.frames.specs.Output as O;
 ghost use Rattle.frames.specs.Parts as S;
 ghost use Rattle.frames.specs.Entry as Y;
 use super::parts::answer_in;
 use super::parts::put_alone;
+use clip::polygon::DROPPED;
+use clip::polygon::NOTHING;
+use clip::polygon::UNCHANGED;
 use frame_bytes::head::HEAD;
 use frame_bytes::head::Head;
 use frame_bytes::head::read_head;
@@ -159,10 +162,10 @@ fn answer_measured(frame: &[u8], head: Head, rect: Rect, out: &mut [u8]) -> usiz
 {
     let bounds = head.bounds.buffered(head.buffer);
     if !intersects_bounds(rect, bounds) {
-        return put_alone(out, 0, 0);
+        return put_alone(out, NOTHING, 0);
     }
     if is_unchanged_at_once(frame, head, rect, bounds) {
-        return put_alone(out, 2, 0);
+        return put_alone(out, UNCHANGED, 0);
     }
     answer_sized(frame, head, rect, bounds, out)
 }
@@ -174,8 +177,8 @@ fn answer(frame: &[u8], out: &mut [u8]) -> usize
 {
     let head = read_head(frame);
     match whole_rect(frame) {
-        Rect::Nothing => put_alone(out, 0, 0),
-        Rect::NotFinite => put_alone(out, 1, 1),
+        Rect::Nothing => put_alone(out, NOTHING, 0),
+        Rect::NotFinite => put_alone(out, DROPPED, 1),
         Rect::Box(w, s, e, n) => {
             let rect = Rect::Box(w, s, e, n);
             answer_measured(frame, head, rect, out)
@@ -183,6 +186,7 @@ fn answer(frame: &[u8], out: &mut [u8]) -> usize
     }
 }
 
+// A refusal leaves the output as it was; an answer stands at its front, and what lies past it stays.
 pub fn frame(frame: &[u8], out: &mut [u8]) -> FrameAnswer
     ensures { λ r. ⌜ r ≡ Y.callAnswer (now (frame .entry)) (now (out .entry)) ⌝ }
     ensures { λ _. ⌜ now (out .exit) ≡ O.callOutput (now (frame .entry)) (now (out .entry)) ⌝ }

@@ -5,15 +5,19 @@ ghost use Prim.Native.Nat.{_+_, _*_, _≤_};
 ghost use lib.ListN.{length, take, drop};
 ghost use lib.Seq.{sets};
 ghost use Rattle.tile.specs.Ring.{coords};
+ghost use Rattle.rings.specs.Rings.{mostRings};
 ghost use Rattle.clip.specs.Polygon as P;
 ghost use Rattle.frame_bytes.specs.Frame as F;
 ghost use Rattle.frames.specs.Part as S;
+use clip::polygon::CUT;
 use clip::polygon::Flags;
+use clip::polygon::OVERLAY;
 use clip::polygon::Reason;
 use clip::polygon::Route;
 use clip::polygon::clip_hole;
 use clip::polygon::reason_number;
 use clip::polygon::route_exterior;
+use frame_bytes::encode::PART;
 use frame_bytes::encode::put_count;
 use frame_bytes::encode::put_part;
 use frame_bytes::encode::put_ring;
@@ -25,9 +29,6 @@ use frame_bytes::ring::decode_ring;
 use rings::rectangle::Rect;
 use tile::TileBounds;
 
-// The bytes of a listed part before the rings of a cut.
-pub const PART: usize = 4;
-
 // What becomes of a part; a listed one is written, and the next stands at the given place of the output.
 pub enum PartAnswer {
     Nothing,
@@ -37,14 +38,14 @@ pub enum PartAnswer {
 }
 
 // How far the rings of a part are written: how many, and where the next stands in the output.
-pub struct Written {
-    pub rings: usize,
-    pub next: usize,
+struct Written {
+    rings: usize,
+    next: usize,
 }
 
 // Writes the cut ring of n coordinates at the front of a slice; one without coordinates is left out.
 fn put_cut_ring(ring: &[f64], n: usize, out: &mut [u8], at: Written) -> Written
-    requires { ⌜ (2 * n ≤ length (now ring)) × (at .next + 2 + 16 * n ≤ length (now out)) × (at .rings ≤ F.mostRings) ⌝ }
+    requires { ⌜ (2 * n ≤ length (now ring)) × (at .next + 2 + 16 * n ≤ length (now out)) × (at .rings ≤ mostRings) ⌝ }
     ensures { λ r. ⌜ S.PutRings (P.unlessNone (coords (take (2 * n) (now (ring .entry)))) []) at (now (out .entry)) r (now (out .exit)) ⌝ }
 {
     if n == 0 {
@@ -69,7 +70,7 @@ fn put_holes(
     out: &mut [u8],
     exterior: Written,
 ) -> Written
-    requires { ⌜ S.RingsRoom (now frame) start holes (length (now ring)) (length (now a)) (length (now b)) (length (now out)) exterior × (exterior .rings + holes ≤ F.mostRings) ⌝ }
+    requires { ⌜ S.RingsRoom (now frame) start holes (length (now ring)) (length (now a)) (length (now b)) (length (now out)) exterior × (exterior .rings + holes ≤ mostRings) ⌝ }
     ensures { λ r. ⌜ S.PutRings (P.cutHoles bounds (F.ringsFrom (now (frame .entry)) start holes)) exterior (now (out .entry)) r (now (out .exit)) ⌝ }
 {
     let mut written = exterior;
@@ -112,7 +113,7 @@ fn put_cut(
     let exterior = put_cut_ring(b, m, out, first);
     let holes = at + COUNT + COUNT + COORD * n;
     let all = put_holes(frame, holes, rings - 1, bounds, ring, a, b, out, exterior);
-    put_part(out, to, index, 4, 0);
+    put_part(out, to, index, CUT, 0);
     put_count(out, to + PART, all.rings);
     all.next
 }
@@ -133,7 +134,7 @@ fn overlay_or_dropped(
     if part_has_huge(frame, at) {
         return PartAnswer::Dropped;
     }
-    put_part(out, to, index, 5, reason_number(reason));
+    put_part(out, to, index, OVERLAY, reason_number(reason));
     PartAnswer::Listed(to + PART)
 }
 

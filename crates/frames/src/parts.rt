@@ -4,15 +4,19 @@ ghost use Prim.Native.Nat.{_+_, _≤_};
 ghost use lib.ListN.{length};
 ghost use lib.Seq.{sets};
 ghost use Rattle.frame_bytes.specs.Frame as F;
-ghost use Rattle.frames.specs.Answer as Answers;
+ghost use Rattle.frame_bytes.specs.Room as R;
 ghost use Rattle.frame_bytes.specs.Encoding as E;
+ghost use Rattle.frames.specs.Answer as Answers;
 ghost use Rattle.frames.specs.Part as Q;
 ghost use Rattle.frames.specs.Parts as S;
 ghost use Rattle.frames.specs.Entry as Y;
-use super::part::PART;
 use super::part::PartAnswer;
 use super::part::route_part;
+use clip::polygon::DROPPED;
 use clip::polygon::Flags;
+use clip::polygon::NOTHING;
+use clip::polygon::UNCHANGED;
+use frame_bytes::encode::PART;
 use frame_bytes::encode::put_header;
 use frame_bytes::encode::put_part;
 use frame_bytes::head::HEAD;
@@ -25,11 +29,14 @@ use rings::rectangle::intersects_bounds;
 use rings::rectangle::is_fully_inside;
 use tile::TileBounds;
 
+// Document 01's number of a whole that is listed; those of a polygon stand for the others.
+const LISTED: u8 = 3;
+
 // What is listed so far: the guard count, how many parts, and where the next stands in the output.
-pub struct Listing {
-    pub guard: usize,
-    pub parts: usize,
-    pub next: usize,
+struct Listing {
+    guard: usize,
+    parts: usize,
+    next: usize,
 }
 
 // The listing with one more part; one that is unchanged is still to be written.
@@ -46,7 +53,7 @@ fn list_part(answer: PartAnswer, index: usize, out: &mut [u8], before: Listing) 
         },
         PartAnswer::Unchanged => {
             let at = before.next;
-            put_part(out, at, index, 2, 0);
+            put_part(out, at, index, UNCHANGED, 0);
             Listing {
                 guard: before.guard,
                 parts: before.parts + 1,
@@ -115,8 +122,8 @@ fn list_parts(
     order: &mut [u32],
     out: &mut [u8],
 ) -> Listing
-    requires { ⌜ S.PartsRoom (now frame) F.headBytes parts (length (now ring)) (length (now a)) (length (now b)) (length (now order)) (length (now out)) 5 × (parts ≤ F.mostParts) ⌝ }
-    ensures { λ r. ⌜ S.Lists (Answers.listParts flags bounds 0 (S.partsFrom (now (frame .entry)) F.headBytes parts)) (record { guard = 0; parts = 0; next = 5 }) (now (out .entry)) r (now (out .exit)) ⌝ }
+    requires { ⌜ S.PartsRoom (now frame) F.headBytes parts (length (now ring)) (length (now a)) (length (now b)) (length (now order)) (length (now out)) R.leastRoom × (parts ≤ F.mostParts) ⌝ }
+    ensures { λ r. ⌜ S.Lists (Answers.listParts flags bounds 0 (S.partsFrom (now (frame .entry)) F.headBytes parts)) (record { guard = 0; parts = 0; next = R.leastRoom }) (now (out .entry)) r (now (out .exit)) ⌝ }
 {
     let mut listing = Listing {
         guard: 0,
@@ -150,21 +157,21 @@ fn list_parts(
 
 // Writes the header before what is listed, and answers how many bytes the answer has.
 fn finish(listing: Listing, out: &mut [u8]) -> usize
-    requires { ⌜ 5 ≤ length (now out) ⌝ }
+    requires { ⌜ R.leastRoom ≤ length (now out) ⌝ }
     ensures { λ r. ⌜ (r ≡ S.finishedLength listing) × (now (out .exit) ≡ sets (now (out .entry)) 0 (S.finishedHeader listing)) ⌝ }
 {
     if listing.parts == 0 {
-        put_header(out, 0, listing.guard, 0);
+        put_header(out, NOTHING, listing.guard, 0);
         return LEAST_ROOM;
     }
-    put_header(out, 3, listing.guard, listing.parts);
+    put_header(out, LISTED, listing.guard, listing.parts);
     listing.next
 }
 
 // Writes an answer that lists nothing.
 pub fn put_alone(out: &mut [u8], number: u8, guard: usize) -> usize
-    requires { ⌜ 5 ≤ length (now out) ⌝ }
-    ensures { λ r. ⌜ (r ≡ 5) × (now (out .exit) ≡ sets (now (out .entry)) 0 (E.headerBytes number guard 0)) ⌝ }
+    requires { ⌜ R.leastRoom ≤ length (now out) ⌝ }
+    ensures { λ r. ⌜ (r ≡ R.leastRoom) × (now (out .exit) ≡ sets (now (out .entry)) 0 (E.headerBytes number guard 0)) ⌝ }
 {
     put_header(out, number, guard, 0);
     LEAST_ROOM
@@ -172,15 +179,15 @@ pub fn put_alone(out: &mut [u8], number: u8, guard: usize) -> usize
 
 // Writes the header of a polygon's answer, by its only part, before what is listed, and answers how many bytes the answer has.
 fn finish_polygon(answer: PartAnswer, out: &mut [u8]) -> usize
-    requires { ⌜ 5 ≤ length (now out) ⌝ }
+    requires { ⌜ R.leastRoom ≤ length (now out) ⌝ }
     ensures { λ r. ⌜ (r ≡ S.polygonLength answer) × (now (out .exit) ≡ sets (now (out .entry)) 0 (S.polygonHeader answer)) ⌝ }
 {
     match answer {
-        PartAnswer::Nothing => put_alone(out, 0, 0),
-        PartAnswer::Dropped => put_alone(out, 1, 1),
-        PartAnswer::Unchanged => put_alone(out, 2, 0),
+        PartAnswer::Nothing => put_alone(out, NOTHING, 0),
+        PartAnswer::Dropped => put_alone(out, DROPPED, 1),
+        PartAnswer::Unchanged => put_alone(out, UNCHANGED, 0),
         PartAnswer::Listed(next) => {
-            put_header(out, 3, 0, 1);
+            put_header(out, LISTED, 0, 1);
             next
         }
     }

@@ -1,4 +1,4 @@
--- The answer to a frame has at most ten times the frame's bytes: so an output of ten times the longest frame is never too short. Assumes nothing.
+-- The answer to an accepted frame has at most ten times the frame's bytes: so an output of ten times the longest frame is never too short. Assumes nothing.
 use mathlib.Core.Path.{_≡_, refl, ap}
 use mathlib.Core.List.{List, [], _∷_}
 use Prim.Native.Nat.{ℕ, zero, suc, _+_, _*_, _≤_}
@@ -9,9 +9,9 @@ use Rattle.tile.specs.declared.Coord.{Coord}
 use Rattle.tile.specs.Ring.{close}
 use Rattle.sutherland_hodgman.specs.Growth.{halfGrowth, fourHalfGrowths, B}
 use Rattle.sutherland_hodgman.proofs.Growth.{halfGrowth-le}
+use Rattle.rings.specs.Rings.{total, ringRoom}
 use Rattle.frame_bytes.specs.Frame.{longest, headBytes, Reading, refused, read, Frame, countOf, coordsOf, readMany, readRing, readPart, readFrame}
 use Rattle.frame_bytes.specs.Room.{coordinateBytes, partRoom, room, readCall}
-use Rattle.rings.specs.Rings.{total, ringRoom}
 use Rattle.frame_bytes.proofs.Coordinates.{close-grows}
 use Rattle.frame_bytes.proofs.Places.{no-more}
 use Rattle.frame_bytes.proofs.Readings.{many-first, ring-read, part-read, frame-read}

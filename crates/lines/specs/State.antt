@@ -11,7 +11,7 @@ use Rattle.frame_bytes.specs.Frame.{longest, refusalNumber}
 use Rattle.frame_bytes.specs.declared.reader.FrameRefusal.the-variants.{Size}
 use Rattle.lines.specs.declared.line.Line.{Line}
 use Rattle.lines.specs.declared.line.Line.the-variants as Held
-use Rattle.lines.specs.Lines.{newline, digit, isDigit, hexLine, refusalBytes, frameAnswer, notPairsNumber}
+use Rattle.lines.specs.Lines.{newline, digit, isDigit, hexLine, refusalBytes, frameAnswer, notPairsNumber, printed}
 
 -- The bytes that its pairs of digits stand for, and the value of a digit that still wants its second. Of a line of more bytes than the longest frame it is
 -- enough to know whether a digit wants its second; of one with another character, nothing.
@@ -78,6 +78,10 @@ stateOf (Held.Whole n) kept = whole (take n kept)
 stateOf (Held.Half n high) kept = half (take n kept) (high % 16)
 stateOf (Held.Long odd) kept = long odd
 
+-- An input may begin here: what its characters print, and then its end, is what is to be printed for it.
+abbrev pub Begins : Line → Type 0
+Begins line = (kept input : List ℕ) → printedBy (stateOf line kept) input ++ endOfInput (stateAfter (stateOf line kept) input) ≡ printed input
+
 -- the characters of a block from one place to another
 abbrev pub part : ℕ → ℕ → List ℕ → List ℕ
 part from to block = take (to - from) (drop from block)
@@ -97,7 +101,7 @@ pub record Takes (block : List ℕ) (from : ℕ) (line : Line) (kept : List ℕ)
 
 -- ---- the lent slices
 
--- bytes for an answer: no answer is longer than ten times its frame
+-- bytes for an answer: that to an accepted frame is at most ten times as long as the frame, and a refusal has five
 abbrev pub answerRoom : ℕ
 answerRoom = 10 * longest
 
@@ -122,16 +126,18 @@ pub record Prints (characters : List ℕ) (st : State) (out : List ℕ) (written
 pub record Feeds (block : List ℕ) (st : State) (ready : Bool) (kept out : List ℕ) (taken written : ℕ) (st′ : State) (kept′ out′ : List ℕ) : Type 0 where
   pub line : taken ≡ cond ready (lineLength block) 0
   pub prints : Prints (take taken block) st out written st′ out′
-  -- where nothing is taken the bytes of the line stay; otherwise those that the new state does not name are free
+  -- where the slices are not as asked the bytes of the line stay; otherwise those that the new state does not name are free
   pub untaken : ready ≡ false → kept′ ≡ kept
   pub free : length kept′ ≡ length kept
 
--- Feeding a block's lines one behind the other: to its end, or until the output has no room for one line more. Something is taken of a block that is not empty.
-pub record FeedsLines (block : List ℕ) (st : State) (out : List ℕ) (taken written : ℕ) (st′ : State) (out′ : List ℕ) : Type 0 where
+-- Feeding a block's lines one behind the other: to its end, or until the output has no room for one line more; how many lines that are is left free. Something is taken of a block that is not empty.
+pub record FeedsLines (block : List ℕ) (st : State) (kept out : List ℕ) (taken written : ℕ) (st′ : State) (kept′ out′ : List ℕ) : Type 0 where
   pub within : taken ≤ length block
   pub prints : Prints (take taken block) st out written st′ out′
   pub stops : taken < length block → length out < written + lineRoom
   pub some : 0 < length block → 0 < taken
+  -- the bytes of `kept` are free but for those that the new state names
+  pub free : length kept′ ≡ length kept
 
 -- what the end of the input writes
 abbrev pub finished : Bool → State → List ℕ

@@ -4,6 +4,7 @@ ghost use Prim.Native.Nat.{_≤_};
 ghost use lib.ListN.{length};
 ghost use Rattle.binary64.specs.Slices.{over};
 ghost use Rattle.frame_bytes.specs.Frame.{longest};
+ghost use Rattle.frame_bytes.specs.Room.{leastRoom};
 ghost use Rattle.lines.specs.Lines as S;
 ghost use Rattle.lines.specs.State as T;
 use super::digits::to_line;
@@ -13,6 +14,7 @@ use frame_bytes::reader::LONGEST;
 use frame_bytes::reader::refusal_number;
 use frames::entry::FrameAnswer;
 use frames::entry::frame;
+use frames::parts::put_alone;
 
 // Document 01's refusal 10.
 const NOT_PAIRS: u8 = 10;
@@ -22,17 +24,12 @@ const ANSWER_ROOM: usize = 10 * LONGEST;
 
 pub const LINE_ROOM: usize = 2 * ANSWER_ROOM + 1;
 
-// Writes a refusal's five bytes.
+// Writes a refusal's bytes: its number stands where an answer that lists nothing has its own.
 fn refuse(out: &mut [u8], number: u8) -> usize
-    requires { ⌜ 5 ≤ length (now out) ⌝ }
+    requires { ⌜ leastRoom ≤ length (now out) ⌝ }
     ensures { λ r. ⌜ (r ≡ length (S.refusalBytes number)) × (now (out .exit) ≡ over (S.refusalBytes number) (now (out .entry))) ⌝ }
 {
-    out[0] = number;
-    out[1] = 0;
-    out[2] = 0;
-    out[3] = 0;
-    out[4] = 0;
-    5
+    put_alone(out, number, 0)
 }
 
 fn answer_frame(bytes: &[u8], out: &mut [u8]) -> usize

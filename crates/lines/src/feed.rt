@@ -18,9 +18,10 @@ pub struct Fed {
     pub written: usize,
 }
 
-// The state in which an input begins.
+// What is known of a line before an input is read.
 pub fn start() -> Line
     ensures { λ r. ⌜ r ≡ Line.Whole 0 ⌝ }
+    ensures { λ r. ⌜ T.Begins r ⌝ }
 {
     Line::Whole(0)
 }
@@ -86,8 +87,8 @@ fn feed_from(
 // Answers every line that ends in the block, as long as the output has room for one more: a write for each would cost more than the answer.
 pub fn feed_lines(block: &[u8], line: Line, kept: &mut [u8], out: &mut [u8]) -> Fed
     requires { ⌜ (length (now kept) ≡ longest) × (T.lineRoom ≤ length (now out)) ⌝ }
-    ensures { λ r. ⌜ T.FeedsLines (now (block .entry)) (T.stateOf line (now (kept .entry))) (now (out .entry))
-        (r .taken) (r .written) (T.stateOf (r .line) (now (kept .exit))) (now (out .exit)) ⌝ }
+    ensures { λ r. ⌜ T.FeedsLines (now (block .entry)) (T.stateOf line (now (kept .entry))) (now (kept .entry)) (now (out .entry))
+        (r .taken) (r .written) (T.stateOf (r .line) (now (kept .exit))) (now (kept .exit)) (now (out .exit)) ⌝ }
 {
     let mut known = line;
     let mut from = 0usize;

@@ -99,7 +99,7 @@ pub extern "C" fn probe_buffered(b: &[f64], buffer: f64, out: &mut [f64])
     store(out, bounds_at(b).buffered(buffer));
 }
 
-// The ring call without its clearing of the scratch slices, to be timed by itself; 0 where the call would be refused.
+// The ring call without its clearing of the scratch slices, to be timed by itself. Of a call that would be refused nothing is promised.
 #[no_mangle]
 pub extern "C" fn probe_clip_lent(
     ring: &[f64],

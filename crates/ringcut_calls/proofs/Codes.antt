@@ -16,8 +16,8 @@ use Rattle.sutherland_hodgman.specs.Growth.{mostCoordinates}
 use Rattle.sutherland_hodgman.specs.Call.{code}
 use Rattle.frame_bytes.specs.declared.reader.FrameRefusal.{FrameRefusal}
 use Rattle.frame_bytes.specs.declared.reader.FrameRefusal.the-variants as Frames
-use Rattle.frames.specs.declared.entry.FrameAnswer.the-variants.{Answered}
 use Rattle.frame_bytes.specs.Frame.{refusalNumber}
+use Rattle.frames.specs.declared.entry.FrameAnswer.the-variants.{Answered}
 use Rattle.frames.specs.Entry.{callAnswer}
 use Rattle.frames.proofs.Entries.{answered-few}
 

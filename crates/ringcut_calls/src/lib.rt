@@ -8,8 +8,13 @@ ghost use Rattle.slices.specs.Slice as P;
 ghost use Rattle.frames.specs.Output as E;
 ghost use Rattle.frames.specs.Entry as F;
 ghost use Rattle.ringcut_calls.specs.Flags.{isSet, flagsOf};
+use clip::polygon::CUT;
+use clip::polygon::DROPPED;
 use clip::polygon::Flags;
+use clip::polygon::NOTHING;
+use clip::polygon::OVERLAY;
 use clip::polygon::PolygonAnswer;
+use clip::polygon::UNCHANGED;
 use clip::polygon::reason_number;
 use frame_bytes::reader::refusal_number;
 use frames::entry::FrameAnswer;
@@ -60,11 +65,11 @@ fn answer_code(answer: PolygonAnswer) -> usize
     ensures { λ r. ⌜ r ≡ P.answerCode answer ⌝ }
 {
     match answer {
-        PolygonAnswer::Nothing => 0,
-        PolygonAnswer::Dropped => 1,
-        PolygonAnswer::Unchanged => 2,
-        PolygonAnswer::Cut(rings) => 4 + 65536 * rings,
-        PolygonAnswer::Overlay(reason) => 5 + 256 * reason_number(reason) as usize,
+        PolygonAnswer::Nothing => NOTHING as usize,
+        PolygonAnswer::Dropped => DROPPED as usize,
+        PolygonAnswer::Unchanged => UNCHANGED as usize,
+        PolygonAnswer::Cut(rings) => CUT as usize + 65536 * rings,
+        PolygonAnswer::Overlay(reason) => OVERLAY as usize + 256 * reason_number(reason) as usize,
     }
 }
 

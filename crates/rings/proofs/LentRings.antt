@@ -17,8 +17,8 @@ use Rattle.sutherland_hodgman.proofs.Growth.{B-le}
 use Rattle.rings.specs.declared.rectangle.Rect.{Rect}
 use Rattle.rings.specs.Rectangle.{withRing, withRings}
 use Rattle.rings.specs.Representable.{anyHuge, anyHugeRing}
-use Rattle.rings.proofs.Closing.{rect-close, huge-close}
 use Rattle.rings.specs.Rings.{sum, closedRings, total, larger, largest, ringRoom, Lent}
+use Rattle.rings.proofs.Closing.{rect-close, huge-close}
 
 -- the numbers of the rings that are left are there
 pub record Left (lengths : List ℕ) (s : List Float) (k at : ℕ) : Type 0 where

@@ -1,4 +1,4 @@
--- The rectangle of all rings of a polygon, and where it lies (document 01, "Nothing, or dropped" and "Unchanged"). Definitions only.
+-- The rectangle of all rings of a polygon, and where it lies (document 01, "Nothing, or dropped" and "Unchanged"; of all parts, "Multipolygons"). Definitions only.
 use mathlib.Core.Path.{_≡_}
 use mathlib.Core.Bool.{Bool, true, false, _&&_}
 use mathlib.Core.List.{List, [], _∷_}

@@ -10,7 +10,7 @@ use Rattle.tile.specs.declared.Coord.{Coord}
 use Rattle.tile.specs.Ring.{coords, closed, close}
 use Rattle.sutherland_hodgman.specs.Growth.{B, mostCoordinates}
 
--- "over 64 rings" (refusal 19)
+-- "over 64 rings" (refusals 16 and 19)
 abbrev pub mostRings : ℕ
 mostRings = 64
 
@@ -40,7 +40,7 @@ unfoldable pub largest : (List Coord → ℕ) → List (List Coord) → ℕ
 largest f [] = 0
 largest f (r ∷ rs) = larger (f r) (largest f rs)
 
--- the room of a ring, in coordinates
+-- the room of a ring, in coordinates: "Ring lengths are taken after closing in B"
 abbrev pub ringRoom : List Coord → ℕ
 ringRoom r = B (length r)
 

@@ -11,6 +11,9 @@ use super::representable::has_huge;
 use sutherland_hodgman::call::room_for;
 use tile::ring::closed_count;
 
+// The most rings that a polygon may have.
+pub const MOST_RINGS: usize = 64;
+
 // The largest room of a ring, and the room of all, in coordinates.
 pub struct Room {
     pub largest: usize,

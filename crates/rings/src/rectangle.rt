@@ -1,4 +1,4 @@
-// The rectangle of all rings of a polygon, and where it lies: the source's `polygon_rect_all_rings`, `intersects_bounds` and `is_fully_inside`.
+// The rectangle of all rings of a polygon, and where it lies: the source's `intersects_bounds` and `is_fully_inside`, and a step of its `polygon_rect_all_rings`.
 ghost use mathlib.Core.Path.{_≡_};
 ghost use mathlib.Core.Bool.{false};
 ghost use Prim.Native.Nat.{_*_, _≤_};

@@ -14,20 +14,20 @@ use Rattle.sutherland_hodgman.specs.declared.call.Check.{Check}
 use Rattle.sutherland_hodgman.specs.declared.call.Check.the-variants.{Fails, Passes}
 use Rattle.rings.specs.declared.rectangle.Rect.{Rect}
 use Rattle.rings.specs.declared.rectangle.Rect.the-variants as Rects
+use Rattle.rings.specs.Rectangle.{rectangle}
+use Rattle.rings.specs.Representable.{anyHugeRing}
+use Rattle.rings.specs.Rings.{exterior, mostRings, closedRings}
+use Rattle.rings.proofs.LentRings.{length-closed}
 use Rattle.clip.specs.declared.polygon.Flags.{Flags}
 use Rattle.clip.specs.declared.polygon.Reason.{Reason}
 use Rattle.clip.specs.declared.polygon.Reason.the-variants as Because
 use Rattle.clip.specs.declared.polygon.Route.{Route}
 use Rattle.clip.specs.declared.polygon.Route.the-variants as To
 use Rattle.clip.specs.declared.polygon.PolygonAnswer.{PolygonAnswer}
-use Rattle.slices.specs.declared.call.SliceAnswer.the-variants.{Answered}
-use Rattle.rings.specs.Rectangle.{rectangle}
-use Rattle.rings.specs.Representable.{anyHugeRing}
 use Rattle.clip.specs.Polygon.{cutHole, unlessNone, cutHoles, cutRings, Routed, dropped, overlay, overlayOrDropped, routed, routeExterior, routeRect, route, reasonNumber, answerOf}
-use Rattle.rings.specs.Rings.{exterior, mostRings, closedRings}
+use Rattle.slices.specs.declared.call.SliceAnswer.the-variants.{Answered}
 use Rattle.slices.specs.Slice.{checked, answered, routeLent, answerCode}
 use Rattle.slices.proofs.Checks.{passes-fit, fitting}
-use Rattle.rings.proofs.LentRings.{length-closed}
 
 unless-most : (c : List Coord) (l : List (List Coord)) → length (unlessNone c l) ≤ suc (length l)
 unless-most [] l = omega arith

@@ -2,25 +2,31 @@
 use mathlib.Core.Path.{_≡_, refl}
 use mathlib.Core.Bool.{Bool, true, false, not, cond, _&&_, _||_}
 use mathlib.Core.List.{List}
-use Prim.Native.Nat.{ℕ, _*_, _<_}
+use Prim.Native.Nat.{ℕ, _*_, _<_, _≤_}
 use native.Mathlib.Omega.{arith}
 use lib.Dec.{ltb, leb, eqb}
 use lib.Ieee.{Float}
 use lib.ListN.{length}
 use borrow.Author.Tests.{ltb-true, ltb-false, leb-true, eqb-true, not-false}
+use Rattle.binary64.proofs.Booleans.{neither, both}
 use Rattle.tile.specs.declared.Coord.{Coord}
 use Rattle.sutherland_hodgman.specs.declared.call.Refusal.the-variants.{Lengths, Coordinates, Scratch, Output}
 use Rattle.sutherland_hodgman.specs.declared.call.Check.the-variants.{Passes}
 use Rattle.sutherland_hodgman.specs.Growth.{mostCoordinates}
 use Rattle.sutherland_hodgman.specs.Call.{refuse}
 use Rattle.sutherland_hodgman.proofs.Calls.{not-refused}
-use Rattle.binary64.proofs.Booleans.{neither, both}
-use Rattle.clip.specs.declared.polygon.Reason.{Reason}
-use Rattle.clip.specs.Polygon.{dropped, overlay, overlayOrDropped}
 use Rattle.rings.specs.Representable.{anyHugeRing}
 use Rattle.rings.specs.Rings.{mostRings, sum, closedRings, total, largest, ringRoom, allClosed, Lent}
-use Rattle.slices.specs.Slice.{lengthsFit, checkedRoom, checked, numbersOf, lengthsOf, Filled, Clippable}
 use Rattle.rings.proofs.LentRings.{length-closed}
+use Rattle.clip.specs.declared.polygon.Reason.{Reason}
+use Rattle.clip.specs.Polygon.{dropped, overlay, overlayOrDropped}
+use Rattle.slices.specs.Slice.{lengthsFit, checkedRoom, checked, numbersOf, lengthsOf, Filled, RingsRoom, nonePlaced}
+
+-- a polygon with room for its rings, whose exterior takes positions besides
+pub record Clippable (lengths : List ℕ) (coords : List Float) (a b order out outLengths : ℕ) : Type 0 where
+  pub rings : RingsRoom lengths coords a b out outLengths nonePlaced
+  pub some : 0 < length lengths
+  pub positions : largest ringRoom (closedRings lengths coords) ≤ order
 
 module _ (ns : List ℕ) (s : List Float) (h : lengthsFit (length s) ns ≡ true) where
   tests : (ltb 0 (length ns) ≡ true) × (leb (length ns) mostRings ≡ true) × (eqb (2 * sum ns) (length s) ≡ true)

@@ -18,15 +18,15 @@ use Rattle.sutherland_hodgman.specs.declared.call.Check.{Check}
 use Rattle.sutherland_hodgman.specs.declared.call.Check.the-variants.{Fails, Passes}
 use Rattle.sutherland_hodgman.specs.Growth.{mostCoordinates}
 use Rattle.sutherland_hodgman.specs.Call.{number, refuse}
+use Rattle.rings.specs.Rings.{exterior, mostRings, sum, closedRings, total, largest, ringRoom, allClosed, Measurable}
 use Rattle.clip.specs.declared.polygon.Flags.{Flags}
 use Rattle.clip.specs.declared.polygon.Route.{Route}
 use Rattle.clip.specs.declared.polygon.PolygonAnswer.{PolygonAnswer}
 use Rattle.clip.specs.declared.polygon.PolygonAnswer.the-variants as Is
+use Rattle.clip.specs.Polygon.{Routed, nothing, dropped, unchanged, cut, overlay, cutExterior, route, Stands, CutStands, answerOf, answerNumber, answerReason}
 use Rattle.slices.specs.declared.call.Placed.{Placed}
 use Rattle.slices.specs.declared.call.SliceAnswer.{SliceAnswer}
 use Rattle.slices.specs.declared.call.SliceAnswer.the-variants.{Refused, Answered}
-use Rattle.clip.specs.Polygon.{Routed, nothing, dropped, unchanged, cut, overlay, cutExterior, route, Stands, CutStands, answerOf, answerNumber, answerReason}
-use Rattle.rings.specs.Rings.{exterior, mostRings, sum, closedRings, total, largest, ringRoom, allClosed, Measurable}
 
 -- ---- refusals
 
@@ -166,9 +166,3 @@ pub record RouteRoom (route : Route) (bounds : TileBounds) (lengths : List ℕ) 
   pub rings : RingsRoom lengths coords a (length b) out outLengths nonePlaced
   pub some : 0 < length lengths
   pub stands : CutStands bounds (exterior (closedRings lengths coords)) route b
-
--- a polygon with room for its rings, whose exterior takes positions besides
-pub record Clippable (lengths : List ℕ) (coords : List Float) (a b order out outLengths : ℕ) : Type 0 where
-  pub rings : RingsRoom lengths coords a b out outLengths nonePlaced
-  pub some : 0 < length lengths
-  pub positions : largest ringRoom (closedRings lengths coords) ≤ order

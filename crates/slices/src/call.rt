@@ -2,8 +2,8 @@
 ghost use mathlib.Core.Path.{_≡_};
 ghost use Prim.Native.Nat.{_*_};
 ghost use lib.ListN.{length, take, replicate};
-ghost use Rattle.clip.specs.Polygon as P;
 ghost use Rattle.rings.specs.Rings as R;
+ghost use Rattle.clip.specs.Polygon as P;
 ghost use Rattle.slices.specs.Slice as S;
 use binary64::slices::clear;
 use binary64::slices::copy;
@@ -13,6 +13,7 @@ use clip::polygon::Reason;
 use clip::polygon::Route;
 use clip::polygon::clip_hole;
 use clip::polygon::route_exterior;
+use rings::lent::MOST_RINGS;
 use rings::lent::closed_sum;
 use rings::lent::has_huge_ring;
 use rings::lent::lent_count;
@@ -24,8 +25,6 @@ use sutherland_hodgman::call::MOST_COORDINATES;
 use sutherland_hodgman::call::Refusal;
 use tile::TileBounds;
 
-pub const MOST_RINGS: usize = 64;
-
 // The answer of a slice call.
 pub enum SliceAnswer {
     Refused(Refusal),
@@ -33,9 +32,9 @@ pub enum SliceAnswer {
 }
 
 // How much of the output is written: rings, and their numbers.
-pub struct Placed {
-    pub rings: usize,
-    pub numbers: usize,
+struct Placed {
+    rings: usize,
+    numbers: usize,
 }
 
 // Refusal 19: no ring, too many, or lengths that don't fit the numbers lent.
@@ -84,7 +83,7 @@ fn check_room(
 }
 
 // The refusals of a slice call, in their order.
-pub fn check_polygon(
+fn check_polygon(
     coords: &[f64],
     lengths: &[u32],
     a: usize,
@@ -221,7 +220,7 @@ fn answer_route(
 }
 
 // What becomes of a polygon that the checks pass; the bounds are buffered. The scratch and order slices are left open.
-pub fn clip_polygon(
+fn clip_polygon(
     flags: Flags,
     bounds: TileBounds,
     coords: &[f64],

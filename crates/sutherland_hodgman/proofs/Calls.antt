@@ -26,10 +26,10 @@ use Rattle.sutherland_hodgman.specs.Clip.{clipRing}
 use Rattle.sutherland_hodgman.specs.Promise.{Promise}
 use Rattle.sutherland_hodgman.specs.Cutter.{Cut}
 use Rattle.sutherland_hodgman.specs.Walk.{threePasses, Stands, Topped}
+use Rattle.sutherland_hodgman.specs.Call.{refuse, checked, answered, ringAnswer, Done, ClippedTo, scratchAfter}
 use Rattle.sutherland_hodgman.proofs.Growth.{clipRing-grows}
 use Rattle.sutherland_hodgman.proofs.Promises.{HeldBounds, held-front}
 use Rattle.sutherland_hodgman.proofs.LastPass.{topped-cut, topped-written}
-use Rattle.sutherland_hodgman.specs.Call.{refuse, checked, answered, ringAnswer, Done, ClippedTo, scratchAfter}
 
 -- ---- what passes the checks has room
 

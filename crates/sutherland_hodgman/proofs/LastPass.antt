@@ -9,6 +9,7 @@ use lib.Ieee.{Float}
 use lib.ListN.{length, take, drop, length-append}
 use lib.Seq.{length-take-le, take-at, drop-append-add, drop-drop}
 use borrow.Author.Tests.{le-leb}
+use Rattle.binary64.specs.Lists.{Every}
 use Rattle.tile.specs.declared.Coord.{Coord}
 use Rattle.tile.specs.declared.TileBounds.{TileBounds}
 use Rattle.tile.specs.declared.Edge.{Edge}
@@ -19,7 +20,6 @@ use Rattle.sutherland_hodgman.specs.Lines.{inside, crossing}
 use Rattle.sutherland_hodgman.specs.Clip.{step, steps, leaveOff, around, pass, passes, finish, clipRing}
 use Rattle.sutherland_hodgman.specs.Walk.{threePasses, Stands, Topped}
 use Rattle.sutherland_hodgman.specs.Growth.{halfGrowth}
-use Rattle.sutherland_hodgman.specs.Promise.{Every}
 use Rattle.sutherland_hodgman.specs.Cutter.{Cut}
 use Rattle.sutherland_hodgman.proofs.Growth.{pass-grows}
 use Rattle.sutherland_hodgman.proofs.Promises.{HeldBounds, HeldCoord, promise}

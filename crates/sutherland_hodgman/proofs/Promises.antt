@@ -12,7 +12,9 @@ use lib.Dec.{T, leb, leb→le, lit≤, lit<}
 use lib.ListN.{length, getD, take}
 use lib.Ieee.{Float, nan, fin, binary64, fits, le}
 use lib.Ieee.Fits.{and-l, and-r}
-use Rattle.binary64.specs.Scaled.{mag, plus, minus, interpolate}
+use Rattle.binary64.specs.Interpolation.{interpolate}
+use Rattle.binary64.specs.Scaled.{mag, plus, minus}
+use Rattle.binary64.specs.Lists.{Every}
 use Rattle.binary64.proofs.Order.{le-self-of-le, finite-between}
 use Rattle.binary64.proofs.Value.{Number, Le-of-le}
 use Rattle.binary64.proofs.Cut.{Range, In, widen}
@@ -25,7 +27,7 @@ use Rattle.tile.specs.Ring.{coords, closed, close}
 use Rattle.tile.proofs.Rings.{coords-take, count-closed, count-open}
 use Rattle.sutherland_hodgman.specs.Lines.{fixed, free, place, bound, isLow, inside, crossing}
 use Rattle.sutherland_hodgman.specs.Clip.{pass, passes, finish, clipRing}
-use Rattle.sutherland_hodgman.specs.Promise.{Every, LatitudeInBounds, atMost256, CoordAtMost256, LongitudeNearBounds, Promise}
+use Rattle.sutherland_hodgman.specs.Promise.{LatitudeInBounds, atMost256, CoordAtMost256, LongitudeNearBounds, Promise}
 use Rattle.sutherland_hodgman.proofs.Growth.{clipRing-grows}
 use Rattle.sutherland_hodgman.proofs.Turns.{Turns, every-take, every-finish, every-map, every-both, every-of-all, passed}
 

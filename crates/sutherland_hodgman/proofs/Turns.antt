@@ -5,13 +5,13 @@ use mathlib.Core.List.{List, [], _∷_, _++_}
 use Prim.Native.Nat.{ℕ, zero, suc, _-_}
 use lib.Dec.{T, leb}
 use lib.ListN.{length, take}
+use Rattle.binary64.specs.Lists.{Every}
 use Rattle.tile.specs.declared.Coord.{Coord}
 use Rattle.tile.specs.declared.TileBounds.{TileBounds}
 use Rattle.tile.specs.declared.Edge.{Edge}
 use Rattle.tile.specs.Ring.{last, closed, close}
 use Rattle.sutherland_hodgman.specs.Lines.{inside, crossing}
 use Rattle.sutherland_hodgman.specs.Clip.{step, steps, leaveOff, around, pass, finish}
-use Rattle.sutherland_hodgman.specs.Promise.{Every}
 
 -- where the ends of an edge satisfy P, what the line keeps and where it crosses satisfy Q
 pub record Turns (P Q : Coord → Type 0) (l : Edge) (b : TileBounds) : Type 0 where

@@ -1,4 +1,4 @@
--- The contract of the ring cutter: the room that it asks for, and what it leaves. Definitions only.
+-- The contract of the ring cutter (document 01, "Cut rings"): the room that it asks for, and what it leaves. Definitions only.
 use mathlib.Core.Path.{_≡_}
 use mathlib.Core.List.{List}
 use Prim.Native.Nat.{ℕ, _*_, _≤_}

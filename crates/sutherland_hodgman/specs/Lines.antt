@@ -1,7 +1,7 @@
 -- The four lines that a ring is cut at (document 01, "Cut rings"), the line as a parameter. Definitions only.
 use mathlib.Core.Bool.{Bool, true, false}
 use lib.Ieee.{Float, binary64}
-use Rattle.binary64.specs.Scaled.{within, interpolate}
+use Rattle.binary64.specs.Interpolation.{within, interpolate}
 use Rattle.tile.specs.declared.Coord.{Coord}
 use Rattle.tile.specs.declared.TileBounds.{TileBounds}
 use Rattle.tile.specs.declared.Edge.{Edge}

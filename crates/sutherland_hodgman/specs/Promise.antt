@@ -2,7 +2,7 @@
 use mathlib.Core.Logic.{_⊎_}
 use mathlib.Core.Path.{_≡_}
 use mathlib.Core.Bool.{Bool, true, false, _&&_}
-use mathlib.Core.List.{List, [], _∷_}
+use mathlib.Core.List.{List}
 use Prim.Native.Nat.{ℕ, suc, _^_, _≤_}
 use lib.Dec.{T}
 use lib.IntN.{pos}
@@ -10,13 +10,10 @@ use lib.Ieee.{Float, fin, binary64, le}
 use lib.Ieee.Scale.{finite}
 use lib.ListN.{length}
 use Rattle.binary64.specs.Scaled.{LessAtMost}
+use Rattle.binary64.specs.Lists.{Every}
 use Rattle.tile.specs.declared.Coord.{Coord}
 use Rattle.tile.specs.declared.TileBounds.{TileBounds}
 use Rattle.sutherland_hodgman.specs.Growth.{fourHalfGrowths}
-
-abbrev pub Every : (Coord → Type 0) → List Coord → Type 0
-Every P [] = Unit {0}
-Every P (p ∷ r) = P p × Every P r
 
 -- the latitude lies from south to north
 abbrev pub LatitudeInBounds : TileBounds → Coord → Type 0

@@ -1,4 +1,4 @@
--- How far a cut is: the steps that are left where a pass stands, what it means to go on from one stand to another, and what stands before and after the last pass. Definitions only.
+-- How far a cut is (document 01, "Cut rings"): the steps that are left where a pass stands, what it means to go on from one stand to another, and what stands before and after the last pass. Definitions only.
 use mathlib.Core.Path.{_≡_}
 use mathlib.Core.Bool.{Bool}
 use mathlib.Core.List.{List}

@@ -21,7 +21,7 @@ use tile::ring::put;
 pub mod call;
 
 // Whether a vertex is in by one edge: on the edge counts as in, and NaN is out.
-pub fn is_inside(coord: Coord, edge: Edge, bounds: TileBounds) -> bool
+fn is_inside(coord: Coord, edge: Edge, bounds: TileBounds) -> bool
     ensures { λ r. ⌜ r ≡ L.inside edge bounds coord ⌝ }
 {
     match edge {
@@ -33,7 +33,7 @@ pub fn is_inside(coord: Coord, edge: Edge, bounds: TileBounds) -> bool
 }
 
 // Where the line of an edge crosses the segment from a to b, one end of which is in and the other out; between other ends a coordinate that means nothing.
-pub fn intersect(a: Coord, b: Coord, edge: Edge, bounds: TileBounds) -> Coord
+fn intersect(a: Coord, b: Coord, edge: Edge, bounds: TileBounds) -> Coord
     ensures { λ r. ⌜ r ≡ L.crossing edge bounds a b ⌝ }
 {
     match edge {

@@ -1,6 +1,6 @@
 -- `binary64::interpolate` is the definition, by computation. Assumes nothing.
 use mathlib.Core.Path.{refl}
-use Rattle.binary64.specs.Scaled as S
+use Rattle.binary64.specs.Interpolation as S
 use Rattle.binary64.proofs.interpolate.Statement.{statement}
 use Rattle.binary64.proofs.interpolate.Tie as tie
 

@@ -1,7 +1,7 @@
 -- `find_issue` meets its contract: each return is a case of `issueOf`. Assumes nothing.
 use mathlib.Core.Path.{refl, sym, _∙_}
-use Rattle.box_pairs.proofs.Issues.{issue-short, issue-repeated, issue-simple, issue-crossing, issue-sound}
 use borrow.Author.Needs.{needs}
+use Rattle.box_pairs.proofs.Issues.{issue-short, issue-repeated, issue-simple, issue-crossing, issue-sound}
 use Rattle.box_pairs.proofs.find_issue.Statement.{statement}
 use Rattle.box_pairs.proofs.find_issue.Tie as tie
 

@@ -3,12 +3,12 @@ use mathlib.Core.Path.{_≡_, refl, sym, _∙_}
 use Prim.Native.Nat.{_+_, _-_, _≤_}
 use native.Mathlib.Omega.{arith}
 use lib.ListN.{drop}
+use borrow.Author.Needs.{needs}
 use Rattle.tile.specs.Ring.{coordAt}
 use Rattle.box_pairs.specs.Cross.{short}
 use Rattle.box_pairs.specs.Pairs.{front}
 use Rattle.box_pairs.specs.Issue.{repeated}
 use Rattle.box_pairs.proofs.Issues.{repeated-next, repeated-end}
-use borrow.Author.Needs.{needs}
 use Rattle.box_pairs.proofs.has_repeated.Statement.{statement}
 use Rattle.box_pairs.proofs.has_repeated.Tie as tie
 

@@ -1,10 +1,10 @@
 -- `probe_expand` meets its contract, by those of the functions that it calls. Assumes nothing.
 use mathlib.Core.Path.{_∙_, ap, ap₂}
 use denote.Ref.{now}
+use borrow.Author.Needs.{needs}
 use Rattle.tile.specs.declared.TileBounds.{TileBounds}
 use Rattle.tile.specs.Bounds.{expand}
 use Rattle.probe.specs.Numbers.{stored}
-use borrow.Author.Needs.{needs}
 use Rattle.probe.proofs.probe_expand.Statement.{statement}
 use Rattle.probe.proofs.probe_expand.Tie as tie
 

@@ -14,7 +14,7 @@ use Rattle.ringcut.proofs.feed_all.Statement.{statement}
 use Rattle.ringcut.proofs.feed_all.Tie as tie
 
 -- what is left of the block, as it is lent
-module _ (block : List ℕ) (at : ℕ) {st₁ st₂ : State} {out out′ : List ℕ} {taken written : ℕ} (h : at ≤ length block) (f : FeedsLines (take (length block - at) (drop at block)) st₁ out taken written st₂ out′) where
+module _ (block : List ℕ) (at : ℕ) {st₁ st₂ : State} {kept kept′ out out′ : List ℕ} {taken written : ℕ} (h : at ≤ length block) (f : FeedsLines (take (length block - at) (drop at block)) st₁ kept out taken written st₂ kept′ out′) where
   part-within : at + taken ≤ length block
   part-within = omega (arith, f .within, ap length (tail-part block at), length-drop at block)
 

@@ -7,14 +7,26 @@ use Rattle.ringcut_calls.proofs.answer_code.Tie as tie
 enum-told : tie.Need-enum-told
 enum-told c = search needs
 
+cast-result : tie.Need-cast-result
+cast-result c = search needs
+
 enum-told-2 : tie.Need-enum-told-2
 enum-told-2 c = search needs
+
+cast-result-2 : tie.Need-cast-result-2
+cast-result-2 c = search needs
 
 enum-told-3 : tie.Need-enum-told-3
 enum-told-3 c = search needs
 
+cast-result-3 : tie.Need-cast-result-3
+cast-result-3 c = search needs
+
 enum-known-answer : tie.Need-enum-known-answer
 enum-known-answer c = search needs
+
+cast-result-4 : tie.Need-cast-result-4
+cast-result-4 c = search needs
 
 mul-result : tie.Need-mul-result
 mul-result c = let b = rw (c .before .answer .given .1) at (c .before .before .before .pre) in omega arith
@@ -25,11 +37,14 @@ add-result c = let b = rw (c .before .answer .given .1) at (c .before .before .b
 enum-known-answer-2 : tie.Need-enum-known-answer-2
 enum-known-answer-2 c = search needs
 
+cast-result-5 : tie.Need-cast-result-5
+cast-result-5 c = search needs
+
 reason-number-requires : tie.Need-reason-number-requires
 reason-number-requires c κs = search needs
 
-cast-result : tie.Need-cast-result
-cast-result c = search needs
+cast-result-6 : tie.Need-cast-result-6
+cast-result-6 c = search needs
 
 mul-result-2 : tie.Need-mul-result-2
 mul-result-2 c = let b = rw (c .before .before .answer2 .given .1) at (c .before .before .before .before .pre) in omega (arith, c .reason-number .ensures)
@@ -57,14 +72,19 @@ answer-code-spec =
     tie.close
     (tie.spec
     enum-told
+    cast-result
     enum-told-2
+    cast-result-2
     enum-told-3
+    cast-result-3
     enum-known-answer
+    cast-result-4
     mul-result
     add-result
     enum-known-answer-2
+    cast-result-5
     reason-number-requires
-    cast-result
+    cast-result-6
     mul-result-2
     add-result-2
     returns

@@ -2,9 +2,9 @@
 use mathlib.Core.Path.{sym, _∙_, ap}
 use denote.Ref.{now}
 use mir.Facts.{toZ-ofZ}
+use borrow.Author.Needs.{needs}
 use Rattle.frames.specs.Entry.{code}
 use Rattle.ringcut_calls.proofs.Codes.{negated, bytes-fit}
-use borrow.Author.Needs.{needs}
 use Rattle.ringcut_calls.proofs.ringcut_frame.Statement.{statement}
 use Rattle.ringcut_calls.proofs.ringcut_frame.Tie as tie
 

@@ -5,10 +5,10 @@ use lib.IntN.{pos}
 use mir.Syntax.{w64}
 use mir.Val.{SFits}
 use mir.Facts.{toZ-ofZ}
+use borrow.Author.Needs.{needs, sfits-of}
 use Rattle.slices.specs.Slice as P
 use Rattle.slices.proofs.Answers.{answer-below}
 use Rattle.ringcut_calls.proofs.Codes.{refusal-fits}
-use borrow.Author.Needs.{needs, sfits-of}
 use Rattle.ringcut_calls.proofs.ringcut_polygon.Statement.{statement}
 use Rattle.ringcut_calls.proofs.ringcut_polygon.Tie as tie
 

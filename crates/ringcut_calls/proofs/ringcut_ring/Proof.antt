@@ -3,10 +3,10 @@ use mathlib.Core.Path.{sym, _∙_, ap}
 use mir.Syntax.{w64}
 use mir.Val.{SFits}
 use mir.Facts.{toZ-ofZ}
+use borrow.Author.Needs.{needs}
 use Rattle.sutherland_hodgman.specs.Call as S
 use Rattle.sutherland_hodgman.proofs.Calls.{answer-few}
 use Rattle.ringcut_calls.proofs.Codes.{count-fits, refusal-fits}
-use borrow.Author.Needs.{needs}
 use Rattle.ringcut_calls.proofs.ringcut_ring.Statement.{statement}
 use Rattle.ringcut_calls.proofs.ringcut_ring.Tie as tie
 

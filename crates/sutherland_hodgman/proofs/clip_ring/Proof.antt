@@ -3,12 +3,12 @@ use Prim.Native.Nat.{_*_}
 use native.Mathlib.Omega.{arith}
 use denote.Ref.{now}
 use lib.ListN.{take}
+use borrow.Author.Needs.{needs}
 use Rattle.tile.specs.Ring.{coords}
 use Rattle.tile.proofs.Rings.{length-front}
 use Rattle.sutherland_hodgman.proofs.Promises.{HeldBounds, held-front}
 use Rattle.sutherland_hodgman.proofs.Stages.{stage-three, stage-last}
 use Rattle.sutherland_hodgman.proofs.LastPass.{topped-cut}
-use borrow.Author.Needs.{needs}
 use Rattle.sutherland_hodgman.proofs.clip_ring.Statement.{statement}
 use Rattle.sutherland_hodgman.proofs.clip_ring.Tie as tie
 

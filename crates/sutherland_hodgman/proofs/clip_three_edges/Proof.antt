@@ -1,10 +1,10 @@
 -- `clip_three_edges` meets its contract: three stages. Assumes nothing.
 use native.Mathlib.Omega.{arith}
 use denote.Ref.{now}
+use borrow.Author.Needs.{needs}
 use Rattle.tile.specs.declared.Edge.the-variants.{Left, Right, Bottom}
 use Rattle.sutherland_hodgman.specs.Walk.{threePasses}
 use Rattle.sutherland_hodgman.proofs.Stages.{stage-start, stage-next, stage-room}
-use borrow.Author.Needs.{needs}
 use Rattle.sutherland_hodgman.proofs.clip_three_edges.Statement.{statement}
 use Rattle.sutherland_hodgman.proofs.clip_three_edges.Tie as tie
 

@@ -3,10 +3,10 @@ use Prim.Native.Nat.{_*_}
 use native.Mathlib.Omega.{arith}
 use denote.Ref.{now}
 use lib.ListN.{take}
+use borrow.Author.Needs.{needs}
 use Rattle.tile.specs.Ring.{coords}
 use Rattle.tile.proofs.Rings.{length-front}
 use Rattle.sutherland_hodgman.proofs.LastPass.{topped, top-room}
-use borrow.Author.Needs.{needs}
 use Rattle.sutherland_hodgman.proofs.clip_top.Statement.{statement}
 use Rattle.sutherland_hodgman.proofs.clip_top.Tie as tie
 

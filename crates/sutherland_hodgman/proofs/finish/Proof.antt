@@ -1,7 +1,7 @@
 -- `finish` meets its contract. Assumes nothing.
 use denote.Ref.{now}
-use Rattle.sutherland_hodgman.proofs.LeavingOff.{finish-few, finish-close}
 use borrow.Author.Needs.{needs}
+use Rattle.sutherland_hodgman.proofs.LeavingOff.{finish-few, finish-close}
 use Rattle.sutherland_hodgman.proofs.finish.Statement.{statement}
 use Rattle.sutherland_hodgman.proofs.finish.Tie as tie
 

@@ -2,8 +2,8 @@
 use mathlib.Core.Path.{sym, _∙_}
 use native.Mathlib.Nat.{le-refl}
 use denote.Ref.{now}
-use Rattle.sutherland_hodgman.proofs.LeavingOff.{left-few, left-closed, left-open}
 use borrow.Author.Needs.{needs}
+use Rattle.sutherland_hodgman.proofs.LeavingOff.{left-few, left-closed, left-open}
 use Rattle.sutherland_hodgman.proofs.left_off.Statement.{statement}
 use Rattle.sutherland_hodgman.proofs.left_off.Tie as tie
 

@@ -1,8 +1,8 @@
 -- `bytes::from_bits` meets its contract: above the infinity's pattern, without the sign, lie the NaN's. Assumes nothing.
 use mathlib.Core.Path.{sym}
 use lib.Ieee.{div, ofBits}
-use Rattle.binary64.proofs.Patterns.{nan-pattern, no-nan-pattern}
 use borrow.Author.Needs.{needs}
+use Rattle.binary64.proofs.Patterns.{nan-pattern, no-nan-pattern}
 use Rattle.binary64.proofs.bytes.from_bits.Statement.{statement}
 use Rattle.binary64.proofs.bytes.from_bits.Tie as tie
 

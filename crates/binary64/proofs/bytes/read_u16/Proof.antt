@@ -1,8 +1,8 @@
 -- `bytes::read_u16` meets its contract. Assumes nothing.
 use native.Mathlib.Omega.{arith}
 use denote.Ref.{now}
-use Rattle.binary64.proofs.Widths.{fromLow-two}
 use borrow.Author.Needs.{needs}
+use Rattle.binary64.proofs.Widths.{fromLow-two}
 use Rattle.binary64.proofs.bytes.read_u16.Statement.{statement}
 use Rattle.binary64.proofs.bytes.read_u16.Tie as tie
 

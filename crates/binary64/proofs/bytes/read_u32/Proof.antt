@@ -1,8 +1,8 @@
 -- `bytes::read_u32` meets its contract: four bytes are two and two. Assumes nothing.
 use native.Mathlib.Omega.{arith}
 use denote.Ref.{now}
-use Rattle.binary64.proofs.Widths.{fromLow-joined}
 use borrow.Author.Needs.{needs}
+use Rattle.binary64.proofs.Widths.{fromLow-joined}
 use Rattle.binary64.proofs.bytes.read_u32.Statement.{statement}
 use Rattle.binary64.proofs.bytes.read_u32.Tie as tie
 

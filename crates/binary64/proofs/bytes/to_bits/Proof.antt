@@ -3,8 +3,8 @@ use mathlib.Core.Path.{sym, ap, subst}
 use lib.Dec.{T}
 use lib.Ieee.{Float, binary64, toBits}
 use lib.Ieee.Compare.{differs-from-itself}
-use Rattle.binary64.proofs.Patterns.{no-nan}
 use borrow.Author.Needs.{needs}
+use Rattle.binary64.proofs.Patterns.{no-nan}
 use Rattle.binary64.proofs.bytes.to_bits.Statement.{statement}
 use Rattle.binary64.proofs.bytes.to_bits.Tie as tie
 

@@ -2,8 +2,8 @@
 use native.Mathlib.Numerals.{add-one}
 use native.Mathlib.Omega.{arith}
 use lib.ListN.{length-set}
-use Rattle.binary64.specs.Bytes.{toLow}
 use borrow.Author.Needs.{needs}
+use Rattle.binary64.specs.Bytes.{toLow}
 use Rattle.binary64.proofs.bytes.write_u16.Statement.{statement}
 use Rattle.binary64.proofs.bytes.write_u16.Tie as tie
 

@@ -1,7 +1,7 @@
 -- `bytes::write_u32` meets its contract: 4 bytes are 2 and 2. Assumes nothing.
 use denote.Ref.{now}
-use Rattle.binary64.proofs.Widths.{written-joined}
 use borrow.Author.Needs.{needs}
+use Rattle.binary64.proofs.Widths.{written-joined}
 use Rattle.binary64.proofs.bytes.write_u32.Statement.{statement}
 use Rattle.binary64.proofs.bytes.write_u32.Tie as tie
 

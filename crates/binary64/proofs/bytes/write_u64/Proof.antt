@@ -1,7 +1,7 @@
 -- `bytes::write_u64` meets its contract: 8 bytes are 4 and 4. Assumes nothing.
 use denote.Ref.{now}
-use Rattle.binary64.proofs.Widths.{written-joined}
 use borrow.Author.Needs.{needs}
+use Rattle.binary64.proofs.Widths.{written-joined}
 use Rattle.binary64.proofs.bytes.write_u64.Statement.{statement}
 use Rattle.binary64.proofs.bytes.write_u64.Tie as tie
 

@@ -1,9 +1,9 @@
 -- `cross::crosses` meets its contract: each way out by its law. Assumes nothing.
 use mathlib.Core.Path.{_≡_, sym, _∙_}
 use mathlib.Core.Bool.{true}
+use borrow.Author.Needs.{needs}
 use Rattle.box_pairs.specs.Cross.{intersectProperly}
 use Rattle.box_pairs.proofs.Crossing.{apart-x, apart-y, not-properly, cross-properly}
-use borrow.Author.Needs.{needs}
 use Rattle.box_pairs.proofs.cross.crosses.Statement.{statement}
 use Rattle.box_pairs.proofs.cross.crosses.Tie as tie
 

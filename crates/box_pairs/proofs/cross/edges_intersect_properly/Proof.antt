@@ -1,6 +1,6 @@
 -- `cross::edges_intersect_properly` meets its contract. Assumes nothing.
-use Rattle.box_pairs.specs.Cross.{intersectProperly}
 use borrow.Author.Needs.{needs}
+use Rattle.box_pairs.specs.Cross.{intersectProperly}
 use Rattle.box_pairs.proofs.cross.edges_intersect_properly.Statement.{statement}
 use Rattle.box_pairs.proofs.cross.edges_intersect_properly.Tie as tie
 

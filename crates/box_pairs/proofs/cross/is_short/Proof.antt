@@ -1,6 +1,6 @@
 -- `cross::is_short` meets its contract. Assumes nothing.
-use Rattle.box_pairs.specs.Cross.{short}
 use borrow.Author.Needs.{needs}
+use Rattle.box_pairs.specs.Cross.{short}
 use Rattle.box_pairs.proofs.cross.is_short.Statement.{statement}
 use Rattle.box_pairs.proofs.cross.is_short.Tie as tie
 

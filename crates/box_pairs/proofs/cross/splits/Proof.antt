@@ -1,6 +1,6 @@
 -- `cross::splits` meets its contract. Assumes nothing.
-use Rattle.box_pairs.specs.Cross.{splits}
 use borrow.Author.Needs.{needs}
+use Rattle.box_pairs.specs.Cross.{splits}
 use Rattle.box_pairs.proofs.cross.splits.Statement.{statement}
 use Rattle.box_pairs.proofs.cross.splits.Tie as tie
 

@@ -1,7 +1,7 @@
 -- `pairs::has_self_intersecting_edges` meets its contract. Assumes nothing.
 use mathlib.Core.Path.{refl, sym}
-use Rattle.box_pairs.proofs.Edges.{crossing-none, by-edges}
 use borrow.Author.Needs.{needs}
+use Rattle.box_pairs.proofs.Edges.{crossing-none, by-edges}
 use Rattle.box_pairs.proofs.pairs.has_self_intersecting_edges.Statement.{statement}
 use Rattle.box_pairs.proofs.pairs.has_self_intersecting_edges.Tie as tie
 

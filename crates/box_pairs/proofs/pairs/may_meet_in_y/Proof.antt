@@ -1,8 +1,8 @@
 -- `pairs::may_meet_in_y` meets its contract. Assumes nothing.
 use mathlib.Core.Path.{ap, _∙_}
 use mathlib.Core.Bool.{not}
-use Rattle.box_pairs.specs.Pairs.{mayMeetInY}
 use borrow.Author.Needs.{needs}
+use Rattle.box_pairs.specs.Pairs.{mayMeetInY}
 use Rattle.box_pairs.proofs.pairs.may_meet_in_y.Statement.{statement}
 use Rattle.box_pairs.proofs.pairs.may_meet_in_y.Tie as tie
 

@@ -2,9 +2,9 @@
 use mathlib.Core.Path.{_∙_}
 use Prim.Native.Nat.{_+_, _-_}
 use native.Mathlib.Omega.{arith}
+use borrow.Author.Needs.{needs}
 use Rattle.box_pairs.specs.Pairs.{front}
 use Rattle.box_pairs.proofs.Edges.{Noting, note-start, note-step, note-end, low-front}
-use borrow.Author.Needs.{needs}
 use Rattle.box_pairs.proofs.pairs.note_lows.Statement.{statement}
 use Rattle.box_pairs.proofs.pairs.note_lows.Tie as tie
 

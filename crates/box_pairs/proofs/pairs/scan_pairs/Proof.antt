@@ -4,10 +4,10 @@ use mathlib.Core.Logic.{⊎-elim}
 use mathlib.Core.Bool.{false}
 use Prim.Native.Nat.{_+_, _-_}
 use native.Mathlib.Omega.{arith}
+use borrow.Author.Needs.{needs}
 use Rattle.box_pairs.specs.Pairs.{front, edgesCross}
 use Rattle.box_pairs.proofs.Sweep.{Inner, Outer, outer-start, inner-start, inner-next, outer-next, scan-done, pair-here}
 use Rattle.box_pairs.proofs.Edges.{crossing-front, edges-front, never-meet}
-use borrow.Author.Needs.{needs}
 use Rattle.box_pairs.proofs.pairs.scan_pairs.Statement.{statement}
 use Rattle.box_pairs.proofs.pairs.scan_pairs.Tie as tie
 

@@ -1,9 +1,9 @@
 -- `pairs::sweep_pairs` meets its contract. Assumes nothing.
 use native.Mathlib.Omega.{arith}
 use Prim.Native.Nat.{_+_}
+use borrow.Author.Needs.{needs}
 use Rattle.box_pairs.specs.Pairs.{front}
 use Rattle.box_pairs.proofs.Edges.{noted-swept, noted-unused}
-use borrow.Author.Needs.{needs}
 use Rattle.box_pairs.proofs.pairs.sweep_pairs.Statement.{statement}
 use Rattle.box_pairs.proofs.pairs.sweep_pairs.Tie as tie
 

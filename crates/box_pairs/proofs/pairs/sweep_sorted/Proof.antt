@@ -7,12 +7,12 @@ use Prim.Native.Nat.{ℕ, _+_, _-_, _<_}
 use native.Mathlib.Omega.{arith}
 use lib.Ieee.{nan, lt}
 use lib.ListN.{getD}
+use borrow.Author.Needs.{needs}
 use Rattle.binary64.specs.TotalOrder.{key}
 use Rattle.tile.specs.declared.Coord.{Coord}
 use Rattle.box_pairs.specs.Pairs.{front, edgesCross, edgesAt, lowX}
 use Rattle.box_pairs.proofs.Sweep.{Inner, Outer, Clear, atSlots, Sweeps, outer-start, inner-start, inner-next, outer-next, sweep-hit, sweep-stop, sweep-done}
 use Rattle.box_pairs.proofs.Edges.{crossing-front, edges-front, never-meet, high-front, stops, edge-sweeps}
-use borrow.Author.Needs.{needs}
 use Rattle.box_pairs.proofs.pairs.sweep_sorted.Statement.{statement}
 use Rattle.box_pairs.proofs.pairs.sweep_sorted.Tie as tie
 

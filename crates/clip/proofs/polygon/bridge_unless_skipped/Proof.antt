@@ -1,6 +1,6 @@
 -- `bridge_unless_skipped` meets its contract: the two cases of the definition. Assumes nothing.
-use Rattle.clip.specs.Polygon.{bridgeUnlessSkipped}
 use borrow.Author.Needs.{needs}
+use Rattle.clip.specs.Polygon.{bridgeUnlessSkipped}
 use Rattle.clip.proofs.polygon.bridge_unless_skipped.Statement.{statement}
 use Rattle.clip.proofs.polygon.bridge_unless_skipped.Tie as tie
 

@@ -3,10 +3,10 @@ use native.Mathlib.Omega.{arith}
 use denote.Ref.{now}
 use mathlib.Core.Path.{refl}
 use borrow.Author.Tests.{lt-ltb, le-ltb}
+use borrow.Author.Needs.{needs}
 use Rattle.tile.specs.Ring.{flat}
 use Rattle.clip.specs.Polygon.{cutHole}
 use Rattle.clip.proofs.Cuts.{cutter-room, cut-count, cut-fits, closed-written, written-stands}
-use borrow.Author.Needs.{needs}
 use Rattle.clip.proofs.polygon.clip_hole.Statement.{statement}
 use Rattle.clip.proofs.polygon.clip_hole.Tie as tie
 

@@ -4,10 +4,10 @@ use denote.Ref.{now}
 use Prim.Native.Nat.{_*_}
 use mathlib.Core.Path.{_≡_, _∙_, sym}
 use lib.ListN.{length, take}
+use borrow.Author.Needs.{needs}
 use Rattle.tile.specs.Ring.{coords, close}
 use Rattle.tile.proofs.Rings.{close-closed, count-open, length-front}
 use Rattle.clip.proofs.Cuts.{le-B, lent-count, written-front, copied-front}
-use borrow.Author.Needs.{needs}
 use Rattle.clip.proofs.polygon.closed_issue.Statement.{statement}
 use Rattle.clip.proofs.polygon.closed_issue.Tie as tie
 

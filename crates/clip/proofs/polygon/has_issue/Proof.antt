@@ -1,6 +1,6 @@
 -- `has_issue` meets its contract: each case is one of the definition. Assumes nothing.
-use Rattle.box_pairs.specs.Issue.{hasIssue}
 use borrow.Author.Needs.{needs}
+use Rattle.box_pairs.specs.Issue.{hasIssue}
 use Rattle.clip.proofs.polygon.has_issue.Statement.{statement}
 use Rattle.clip.proofs.polygon.has_issue.Tie as tie
 

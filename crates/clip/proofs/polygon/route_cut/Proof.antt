@@ -4,11 +4,11 @@ use denote.Ref.{now}
 use mathlib.Core.Path.{_≡_}
 use Prim.Native.Nat.{ℕ, _*_, _<_}
 use lib.ListN.{take}
+use borrow.Author.Needs.{needs}
 use Rattle.tile.specs.Ring.{coords, close}
 use Rattle.sutherland_hodgman.proofs.Growth.{B-le}
 use Rattle.clip.specs.Polygon.{routeCut}
 use Rattle.clip.proofs.Cuts.{cutter-room, cut-count, cut-fits, closed-written, closed-fits, closed-some, written-stands, written-front, judged-route, judged-stands}
-use borrow.Author.Needs.{needs}
 use Rattle.clip.proofs.polygon.route_cut.Statement.{statement}
 use Rattle.clip.proofs.polygon.route_cut.Tie as tie
 

@@ -1,8 +1,8 @@
 -- `route_exterior` meets its contract: each return is a case of `routeExterior`. Assumes nothing.
-use Rattle.clip.specs.Polygon.{routeExterior}
 use native.Mathlib.Omega.{arith}
 use borrow.Author.Tests.{not-true, not-false}
 use borrow.Author.Needs.{needs}
+use Rattle.clip.specs.Polygon.{routeExterior}
 use Rattle.clip.proofs.polygon.route_exterior.Statement.{statement}
 use Rattle.clip.proofs.polygon.route_exterior.Tie as tie
 

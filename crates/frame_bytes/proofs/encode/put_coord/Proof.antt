@@ -1,7 +1,7 @@
 -- `put_coord` meets its contract. Assumes nothing.
 use denote.Ref.{now}
-use Rattle.frame_bytes.proofs.Writing.{coord-put}
 use borrow.Author.Needs.{needs}
+use Rattle.frame_bytes.proofs.Writing.{coord-put}
 use Rattle.frame_bytes.proofs.encode.put_coord.Statement.{statement}
 use Rattle.frame_bytes.proofs.encode.put_coord.Tie as tie
 

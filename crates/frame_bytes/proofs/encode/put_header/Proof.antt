@@ -2,8 +2,8 @@
 use native.Mathlib.Omega.{arith}
 use denote.Ref.{now}
 use lib.ListN.{length-set}
-use Rattle.frame_bytes.proofs.Writing.{header-put}
 use borrow.Author.Needs.{needs}
+use Rattle.frame_bytes.proofs.Writing.{header-put}
 use Rattle.frame_bytes.proofs.encode.put_header.Statement.{statement}
 use Rattle.frame_bytes.proofs.encode.put_header.Tie as tie
 

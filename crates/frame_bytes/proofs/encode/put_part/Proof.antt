@@ -2,8 +2,8 @@
 use native.Mathlib.Omega.{arith}
 use denote.Ref.{now}
 use lib.ListN.{length-set}
-use Rattle.frame_bytes.proofs.Writing.{part-put}
 use borrow.Author.Needs.{needs}
+use Rattle.frame_bytes.proofs.Writing.{part-put}
 use Rattle.frame_bytes.proofs.encode.put_part.Statement.{statement}
 use Rattle.frame_bytes.proofs.encode.put_part.Tie as tie
 

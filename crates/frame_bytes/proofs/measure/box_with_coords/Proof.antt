@@ -6,6 +6,7 @@ use native.Mathlib.Omega.{arith}
 use borrow.Author.Tests.{not-true, not-false}
 use denote.Ref.{now}
 use lib.ListN.{drop}
+use borrow.Author.Needs.{needs}
 use Rattle.rings.specs.declared.rectangle.Rect.{Rect}
 use Rattle.rings.specs.declared.rectangle.Rect.the-variants as Rects
 use Rattle.rings.specs.Rectangle.{isFiniteCoord, withCoord, withRing, Numbers}
@@ -13,7 +14,6 @@ use Rattle.rings.proofs.Rectangles.{not-finite-stays, box-then, box-stop, box-n
 use Rattle.frame_bytes.specs.Frame.{coordOf, coordsOf}
 use Rattle.frame_bytes.proofs.Coordinates.{left, left-none}
 use Rattle.frame_bytes.proofs.Measures.{rect-one, rect-all}
-use borrow.Author.Needs.{needs}
 use Rattle.frame_bytes.proofs.measure.box_with_coords.Statement.{statement}
 use Rattle.frame_bytes.proofs.measure.box_with_coords.Tie as tie
 

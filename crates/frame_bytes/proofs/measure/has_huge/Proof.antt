@@ -3,11 +3,11 @@ use mathlib.Core.Path.{_≡_, sym, _∙_, ap}
 use Prim.Native.Nat.{_-_, _≤_}
 use denote.Ref.{now}
 use lib.ListN.{drop}
+use borrow.Author.Needs.{needs}
 use Rattle.rings.specs.Representable.{hugeCoord, anyHuge}
 use Rattle.frame_bytes.specs.Frame.{coordsOf}
 use Rattle.frame_bytes.proofs.Coordinates.{left, left-none}
 use Rattle.frame_bytes.proofs.Measures.{huge-one, huge-all}
-use borrow.Author.Needs.{needs}
 use Rattle.frame_bytes.proofs.measure.has_huge.Statement.{statement}
 use Rattle.frame_bytes.proofs.measure.has_huge.Tie as tie
 

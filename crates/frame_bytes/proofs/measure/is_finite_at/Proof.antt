@@ -1,7 +1,7 @@
 -- `is_finite_at` meets its contract. Assumes nothing.
 use mathlib.Core.Path.{_∙_, ap}
-use Rattle.rings.specs.Rectangle.{isFiniteCoord}
 use borrow.Author.Needs.{needs}
+use Rattle.rings.specs.Rectangle.{isFiniteCoord}
 use Rattle.frame_bytes.proofs.measure.is_finite_at.Statement.{statement}
 use Rattle.frame_bytes.proofs.measure.is_finite_at.Tie as tie
 

@@ -5,11 +5,11 @@ use Prim.Native.Nat.{_+_}
 use native.Mathlib.Omega.{arith}
 use denote.Ref.{now}
 use lib.ListN.{drop}
+use borrow.Author.Needs.{needs}
 use Rattle.rings.specs.Representable.{anyHuge}
 use Rattle.frame_bytes.specs.Frame.{countOf, coordsOf}
 use Rattle.frame_bytes.proofs.Rooms.{part-fits}
 use Rattle.frame_bytes.proofs.Measures.{HugeLeft, huge-start, huge-next, huge-end}
-use borrow.Author.Needs.{needs}
 use Rattle.frame_bytes.proofs.measure.part_has_huge.Statement.{statement}
 use Rattle.frame_bytes.proofs.measure.part_has_huge.Tie as tie
 

@@ -1,9 +1,9 @@
 -- `part_rect` meets its contract. The invariant: the rectangle so far, with the rings that are left, is that of the part. Assumes nothing.
 use native.Mathlib.Omega.{arith}
 use denote.Ref.{now}
+use borrow.Author.Needs.{needs}
 use Rattle.frame_bytes.proofs.Rooms.{part-fits}
 use Rattle.frame_bytes.proofs.Measures.{RectLeft, rect-start, rect-next, rect-end}
-use borrow.Author.Needs.{needs}
 use Rattle.frame_bytes.proofs.measure.part_rect.Statement.{statement}
 use Rattle.frame_bytes.proofs.measure.part_rect.Tie as tie
 

@@ -1,9 +1,9 @@
 -- `whole_rect` meets its contract. The invariant: the rectangle so far, with the parts that are left, is that of the frame. Assumes nothing.
 use native.Mathlib.Omega.{arith}
 use denote.Ref.{now}
+use borrow.Author.Needs.{needs}
 use Rattle.frame_bytes.proofs.Rooms.{frame-head}
 use Rattle.frame_bytes.proofs.Measures.{PartsLeft, parts-start, parts-here, parts-next, parts-end}
-use borrow.Author.Needs.{needs}
 use Rattle.frame_bytes.proofs.measure.whole_rect.Statement.{statement}
 use Rattle.frame_bytes.proofs.measure.whole_rect.Tie as tie
 

@@ -4,13 +4,13 @@ use Prim.Native.Nat.{_+_, _-_}
 use native.Mathlib.Omega.{arith}
 use denote.Ref.{now}
 use lib.ListN.{drop}
+use borrow.Author.Needs.{needs}
 use Rattle.rings.specs.declared.rectangle.Rect.{Rect}
 use Rattle.rings.specs.Rectangle.{withCoord, withRing}
 use Rattle.rings.proofs.Closing.{Holds, holds-new}
 use Rattle.rings.proofs.Rectangles.{not-finite-stays, corners-numbers}
 use Rattle.frame_bytes.specs.Frame.{coordsOf}
 use Rattle.frame_bytes.proofs.Measures.{rect-first, rect-none}
-use borrow.Author.Needs.{needs}
 use Rattle.frame_bytes.proofs.measure.with_coords.Statement.{statement}
 use Rattle.frame_bytes.proofs.measure.with_coords.Tie as tie
 

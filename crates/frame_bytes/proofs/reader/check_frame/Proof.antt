@@ -5,9 +5,9 @@ use native.Mathlib.Omega.{arith}
 use denote.Ref.{now}
 use lib.ListN.{length}
 use borrow.Author.Tests.{lt-ltb, le-ltb}
+use borrow.Author.Needs.{needs}
 use Rattle.frame_bytes.specs.Frame.{mostFlags, kindOf, flagsOf, partCountOf, wrongPartCount, readFrame}
 use Rattle.frame_bytes.proofs.Walks.{head-fits, check-parts}
-use borrow.Author.Needs.{needs}
 use Rattle.frame_bytes.proofs.reader.check_frame.Statement.{statement}
 use Rattle.frame_bytes.proofs.reader.check_frame.Tie as tie
 

@@ -3,9 +3,9 @@ use native.Mathlib.Omega.{arith}
 use denote.Ref.{now}
 use borrow.Author.Tests.{lt-ltb, le-ltb}
 use lib.ListN.{length, drop}
+use borrow.Author.Needs.{needs}
 use Rattle.frame_bytes.specs.Frame.{headBytes}
 use Rattle.frame_bytes.proofs.Walks.{parts-ended}
-use borrow.Author.Needs.{needs}
 use Rattle.frame_bytes.proofs.reader.check_parts.Statement.{statement}
 use Rattle.frame_bytes.proofs.reader.check_parts.Tie as tie
 

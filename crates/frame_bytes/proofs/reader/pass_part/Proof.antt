@@ -5,9 +5,9 @@ use native.Mathlib.Omega.{arith}
 use denote.Ref.{now}
 use lib.ListN.{drop, length-drop}
 use lib.Seq.{drop-drop}
+use borrow.Author.Needs.{needs}
 use Rattle.frame_bytes.specs.Frame.{wrongRingCount, countOf}
 use Rattle.frame_bytes.proofs.Walks.{part-without-count, part-refused, part-whole}
-use borrow.Author.Needs.{needs}
 use Rattle.frame_bytes.proofs.reader.pass_part.Statement.{statement}
 use Rattle.frame_bytes.proofs.reader.pass_part.Tie as tie
 

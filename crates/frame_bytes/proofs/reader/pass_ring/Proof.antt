@@ -3,11 +3,11 @@ use mathlib.Core.Path.{ap}
 use Prim.Native.Nat.{_+_, _*_, _-_, _≤_}
 use native.Mathlib.Omega.{arith}
 use denote.Ref.{now}
-use Rattle.frame_bytes.specs.declared.reader.Walk.the-variants.{Reaches}
 use lib.ListN.{length, drop, length-drop}
+use borrow.Author.Needs.{needs}
+use Rattle.frame_bytes.specs.declared.reader.Walk.the-variants.{Reaches}
 use Rattle.frame_bytes.specs.Frame.{countOf}
 use Rattle.frame_bytes.proofs.Walks.{ring-without-count, ring-too-long, ring-truncated, ring-whole}
-use borrow.Author.Needs.{needs}
 use Rattle.frame_bytes.proofs.reader.pass_ring.Statement.{statement}
 use Rattle.frame_bytes.proofs.reader.pass_ring.Tie as tie
 

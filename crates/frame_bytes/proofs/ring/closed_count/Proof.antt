@@ -3,10 +3,10 @@ use mathlib.Core.Path.{sym, _∙_, ap}
 use Prim.Native.Nat.{ℕ, _+_}
 use denote.Ref.{now}
 use lib.ListN.{drop}
+use borrow.Author.Needs.{needs}
 use Rattle.tile.proofs.Rings.{count-closed, count-open}
 use Rattle.frame_bytes.specs.Frame.{coordsOf}
 use Rattle.frame_bytes.proofs.Coordinates.{length-coordsOf}
-use borrow.Author.Needs.{needs}
 use Rattle.frame_bytes.proofs.ring.closed_count.Statement.{statement}
 use Rattle.frame_bytes.proofs.ring.closed_count.Tie as tie
 

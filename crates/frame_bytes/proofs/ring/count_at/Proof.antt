@@ -1,6 +1,6 @@
 -- `count_at` meets its contract. Assumes nothing.
-use Rattle.frame_bytes.specs.Frame.{countOf}
 use borrow.Author.Needs.{needs}
+use Rattle.frame_bytes.specs.Frame.{countOf}
 use Rattle.frame_bytes.proofs.ring.count_at.Statement.{statement}
 use Rattle.frame_bytes.proofs.ring.count_at.Tie as tie
 

@@ -4,10 +4,10 @@ use Prim.Native.Nat.{_+_, _*_, _-_, _≤_}
 use denote.Ref.{now}
 use lib.ListN.{length, drop}
 use lib.Seq.{sets}
+use borrow.Author.Needs.{needs}
 use Rattle.tile.specs.Ring.{flat}
 use Rattle.frame_bytes.specs.Frame.{coordsOf}
 use Rattle.frame_bytes.proofs.Coordinates.{left, none-written, one-written, all-written}
-use borrow.Author.Needs.{needs}
 use Rattle.frame_bytes.proofs.ring.decode_ring.Statement.{statement}
 use Rattle.frame_bytes.proofs.ring.decode_ring.Tie as tie
 

@@ -2,10 +2,10 @@
 use mathlib.Core.Path.{_∙_, ap₂}
 use native.Mathlib.Omega.{arith}
 use denote.Ref.{now}
+use borrow.Author.Needs.{needs}
 use Rattle.tile.specs.Ring.{same, closed}
 use Rattle.frame_bytes.specs.Frame.{coordsOf}
 use Rattle.frame_bytes.proofs.Coordinates.{closed-coordsOf}
-use borrow.Author.Needs.{needs}
 use Rattle.frame_bytes.proofs.ring.is_closed.Statement.{statement}
 use Rattle.frame_bytes.proofs.ring.is_closed.Tie as tie
 

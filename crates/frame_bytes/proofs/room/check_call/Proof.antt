@@ -3,9 +3,9 @@ use mathlib.Core.Path.{sym, _∙_}
 use native.Mathlib.Omega.{arith}
 use denote.Ref.{now}
 use borrow.Author.Tests.{lt-ltb, le-ltb}
+use borrow.Author.Needs.{needs}
 use Rattle.frame_bytes.specs.Frame.{Accepted, readFrame}
 use Rattle.frame_bytes.proofs.Rooms.{call-refused, call-room}
-use borrow.Author.Needs.{needs}
 use Rattle.frame_bytes.proofs.room.check_call.Statement.{statement}
 use Rattle.frame_bytes.proofs.room.check_call.Tie as tie
 

@@ -3,9 +3,10 @@ use Prim.Native.Nat.{_+_, _*_, _≤_}
 use native.Mathlib.Omega.{arith}
 use denote.Ref.{now}
 use lib.ListN.{length, drop}
-use Rattle.frame_bytes.specs.Frame.{mostRings, countOf}
-use Rattle.frame_bytes.proofs.Rooms.{part-fits, part-few, part-rings, part-passed, mostRing, rings-le}
 use borrow.Author.Needs.{needs}
+use Rattle.rings.specs.Rings.{mostRings}
+use Rattle.frame_bytes.specs.Frame.{countOf}
+use Rattle.frame_bytes.proofs.Rooms.{part-fits, part-few, part-rings, part-passed, mostRing, rings-le}
 use Rattle.frame_bytes.proofs.room.part_room.Statement.{statement}
 use Rattle.frame_bytes.proofs.room.part_room.Tie as tie
 

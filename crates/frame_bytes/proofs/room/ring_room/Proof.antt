@@ -2,9 +2,9 @@
 use mathlib.Core.Path.{_∙_, ap}
 use native.Mathlib.Omega.{arith}
 use denote.Ref.{now}
+use borrow.Author.Needs.{needs}
 use Rattle.sutherland_hodgman.specs.Growth.{B}
 use Rattle.frame_bytes.proofs.Rooms.{ring-fits, ring-few, ring-passed, closed-few}
-use borrow.Author.Needs.{needs}
 use Rattle.frame_bytes.proofs.room.ring_room.Statement.{statement}
 use Rattle.frame_bytes.proofs.room.ring_room.Tie as tie
 

@@ -5,8 +5,8 @@ use native.Mathlib.Omega.{arith}
 use denote.Ref.{now}
 use borrow.Author.Needs.{needs}
 use lib.ListN.{length, drop}
-use Rattle.frame_bytes.specs.Frame.{readMany, readRing}
 use Rattle.rings.specs.Rings.{total, ringRoom}
+use Rattle.frame_bytes.specs.Frame.{readMany, readRing}
 use Rattle.frame_bytes.specs.Room.{passedOf}
 use Rattle.frame_bytes.proofs.Readings.{ring-reads}
 use Rattle.frame_bytes.proofs.Rooms.{left, Summed, sum-here, sum-step, sum-end, rings-le}

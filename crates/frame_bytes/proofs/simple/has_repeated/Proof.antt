@@ -4,13 +4,13 @@ use Prim.Native.Nat.{ℕ, _+_, _*_, _-_, _≤_}
 use native.Mathlib.Omega.{arith}
 use denote.Ref.{now}
 use lib.ListN.{drop}
+use borrow.Author.Needs.{needs}
 use Rattle.tile.specs.Ring.{close}
 use Rattle.box_pairs.specs.Cross.{short}
 use Rattle.box_pairs.specs.Issue.{repeated}
 use Rattle.frame_bytes.specs.Frame.{coordOf, coordsOf}
 use Rattle.frame_bytes.proofs.Coordinates.{close-grows}
 use Rattle.frame_bytes.proofs.SimpleExteriors.{repeated-next, repeated-end}
-use borrow.Author.Needs.{needs}
 use Rattle.frame_bytes.proofs.simple.has_repeated.Statement.{statement}
 use Rattle.frame_bytes.proofs.simple.has_repeated.Tie as tie
 

@@ -3,11 +3,11 @@ use mathlib.Core.Path.{sym, _∙_, ap}
 use mathlib.Core.Bool.{not}
 use native.Mathlib.Omega.{arith}
 use denote.Ref.{now}
-use Rattle.frame_bytes.proofs.SimpleExteriors.{sound-short, sound-long}
 use borrow.Author.Needs.{needs}
+use Rattle.frame_bytes.proofs.SimpleExteriors.{sound-short, sound-long}
+use Rattle.frame_bytes.proofs.PartRings.{first-ring}
 use Rattle.frame_bytes.proofs.simple.is_sound_if_simple.Statement.{statement}
 use Rattle.frame_bytes.proofs.simple.is_sound_if_simple.Tie as tie
-use Rattle.frame_bytes.proofs.PartRings.{first-ring}
 
 add-count-at : tie.Need-add-count-at
 add-count-at c = search needs

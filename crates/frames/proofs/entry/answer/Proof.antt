@@ -2,15 +2,15 @@
 use mathlib.Core.Path.{refl, sym, _∙_}
 use native.Mathlib.Omega.{arith}
 use denote.Ref.{now}
+use borrow.Author.Needs.{needs}
 use Rattle.rings.specs.declared.rectangle.Rect.the-variants as Rects
-use Rattle.clip.specs.Polygon.{routeRect}
 use Rattle.rings.proofs.Closing.{box-finite}
+use Rattle.clip.specs.Polygon.{routeRect}
+use Rattle.frame_bytes.proofs.Rooms.{frame-head}
 use Rattle.frames.specs.Answer.{Nothing, Dropped}
 use Rattle.frames.specs.Output.{answerBytes}
-use Rattle.frame_bytes.proofs.Rooms.{frame-head}
 use Rattle.frames.proofs.Listings.{alone}
 use Rattle.frames.proofs.Entries.{holds, as-answer, unmeasured}
-use borrow.Author.Needs.{needs}
 use Rattle.frames.proofs.entry.answer.Statement.{statement}
 use Rattle.frames.proofs.entry.answer.Tie as tie
 

@@ -2,10 +2,10 @@
 use mathlib.Core.Path.{sym, ap}
 use native.Mathlib.Omega.{arith}
 use denote.Ref.{now}
+use borrow.Author.Needs.{needs}
 use Rattle.sutherland_hodgman.specs.Growth.{B, fourHalfGrowths, halfGrowth}
 use Rattle.frames.specs.Entry.{answerMeasured}
 use Rattle.frames.proofs.Entries.{holds, ready, parts-read, as-answer}
-use borrow.Author.Needs.{needs}
 use Rattle.frames.proofs.entry.answer_full.Statement.{statement}
 use Rattle.frames.proofs.entry.answer_full.Tie as tie
 

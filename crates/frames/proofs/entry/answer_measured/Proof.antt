@@ -3,11 +3,11 @@ use mathlib.Core.Path.{refl, sym, _∙_}
 use native.Mathlib.Omega.{arith}
 use borrow.Author.Tests.{not-true, not-false}
 use denote.Ref.{now}
+use borrow.Author.Needs.{needs}
 use Rattle.frames.specs.Answer.{Nothing, Unchanged}
 use Rattle.frames.specs.Output.{answerBytes}
 use Rattle.frames.proofs.Listings.{alone}
 use Rattle.frames.proofs.Entries.{holds, as-answer, apart, inside, measured}
-use borrow.Author.Needs.{needs}
 use Rattle.frames.proofs.entry.answer_measured.Statement.{statement}
 use Rattle.frames.proofs.entry.answer_measured.Tie as tie
 

@@ -2,9 +2,9 @@
 use mathlib.Core.Path.{_∙_}
 use borrow.Author.Tests.{not-true, not-false, eq-eqb, ne-eqb}
 use denote.Ref.{now}
+use borrow.Author.Needs.{needs}
 use Rattle.frame_bytes.proofs.Rooms.{frame-head}
 use Rattle.frames.proofs.Entries.{polygon-else, only-accepted, only-sound}
-use borrow.Author.Needs.{needs}
 use Rattle.frames.proofs.entry.is_unchanged_at_once.Statement.{statement}
 use Rattle.frames.proofs.entry.is_unchanged_at_once.Tie as tie
 

@@ -1,10 +1,10 @@
 -- `answer_route` meets its contract: each arm knows its route. Assumes nothing.
 use mathlib.Core.Path.{ap}
 use denote.Ref.{now}
-use Rattle.frames.specs.declared.part.PartAnswer.the-variants.{Listed}
-use Rattle.frames.proofs.CutParts.{overlay-room}
 use borrow.Author.Needs.{needs}
 use Rattle.frame_bytes.specs.Frame.{partAt}
+use Rattle.frames.specs.declared.part.PartAnswer.the-variants.{Listed}
+use Rattle.frames.proofs.CutParts.{overlay-room}
 use Rattle.frames.proofs.part.answer_route.Statement.{statement}
 use Rattle.frames.proofs.part.answer_route.Tie as tie
 

@@ -5,12 +5,12 @@ use Prim.Native.Nat.{ℕ, _+_}
 use native.Mathlib.Omega.{arith}
 use denote.Ref.{now}
 use lib.ListN.{drop}
-use Rattle.clip.specs.Polygon.{overlayOrDropped}
-use Rattle.rings.specs.Representable.{anyHugeRing}
-use Rattle.frames.specs.declared.part.PartAnswer.the-variants.{Listed}
-use Rattle.frame_bytes.specs.Frame.{readPart, partAt}
-use Rattle.frames.proofs.CutParts.{huge-in, overlay-bytes, overlay-length}
 use borrow.Author.Needs.{needs}
+use Rattle.rings.specs.Representable.{anyHugeRing}
+use Rattle.clip.specs.Polygon.{overlayOrDropped}
+use Rattle.frame_bytes.specs.Frame.{readPart, partAt}
+use Rattle.frames.specs.declared.part.PartAnswer.the-variants.{Listed}
+use Rattle.frames.proofs.CutParts.{huge-in, overlay-bytes, overlay-length}
 use Rattle.frames.proofs.part.overlay_or_dropped.Statement.{statement}
 use Rattle.frames.proofs.part.overlay_or_dropped.Tie as tie
 

@@ -4,13 +4,13 @@ use mathlib.Core.List.{[]}
 use Prim.Native.Nat.{_-_}
 use native.Mathlib.Omega.{arith}
 use denote.Ref.{now}
+use borrow.Author.Needs.{needs}
 use Rattle.clip.specs.Polygon.{unlessNone, cutExterior, cutHoles, cutRings}
+use Rattle.frame_bytes.specs.Frame.{partAt}
+use Rattle.frame_bytes.proofs.PartRings.{part-rings, first-ring, exteriorAt, holesAt}
 use Rattle.frames.specs.Part.{PutRings}
 use Rattle.frames.proofs.Cutting.{same-room}
 use Rattle.frames.proofs.CutParts.{exterior-put, exterior-ring, holes-room, holes-few, all-put, part-length, part-written}
-use borrow.Author.Needs.{needs}
-use Rattle.frame_bytes.specs.Frame.{partAt}
-use Rattle.frame_bytes.proofs.PartRings.{part-rings, first-ring, exteriorAt, holesAt}
 use Rattle.frames.proofs.part.put_cut.Statement.{statement}
 use Rattle.frames.proofs.part.put_cut.Tie as tie
 

@@ -4,10 +4,10 @@ use Prim.Native.Nat.{_*_}
 use native.Mathlib.Omega.{arith}
 use denote.Ref.{now}
 use lib.ListN.{take}
+use borrow.Author.Needs.{needs}
 use Rattle.tile.specs.Ring.{coords}
 use Rattle.tile.proofs.Rings.{length-front}
 use Rattle.frames.proofs.Cutting.{none-rings, one-ring}
-use borrow.Author.Needs.{needs}
 use Rattle.frames.proofs.part.put_cut_ring.Statement.{statement}
 use Rattle.frames.proofs.part.put_cut_ring.Tie as tie
 

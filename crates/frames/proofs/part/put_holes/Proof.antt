@@ -5,12 +5,13 @@ use Prim.Native.Nat.{_+_, _*_, _-_, _≤_}
 use native.Mathlib.Omega.{arith}
 use denote.Ref.{now}
 use lib.ListN.{length, drop}
+use borrow.Author.Needs.{needs}
 use Rattle.tile.specs.Ring.{close}
+use Rattle.rings.specs.Rings.{mostRings}
 use Rattle.clip.specs.Polygon.{cutHole, unlessNone, cutHoles, Stands}
-use Rattle.frame_bytes.specs.Frame.{countOf, coordsOf, mostRings, ringsFrom}
+use Rattle.frame_bytes.specs.Frame.{countOf, coordsOf, ringsFrom}
 use Rattle.frames.specs.Part.{PutRings, RingsRoom}
 use Rattle.frames.proofs.Cutting.{ring-read-in, Ahead, ahead-start, ahead-then, ahead-hole, ahead-none, hole-whole, hole-room, cut-room, cut-ring, next-room, holes-end, same-room, unless-count}
-use borrow.Author.Needs.{needs}
 use Rattle.frames.proofs.part.put_holes.Statement.{statement}
 use Rattle.frames.proofs.part.put_holes.Tie as tie
 

@@ -2,8 +2,8 @@
 use mathlib.Core.Path.{refl}
 use native.Mathlib.Omega.{arith}
 use denote.Ref.{now}
-use Rattle.frames.proofs.CutParts.{exterior-whole, exterior-room, exterior-read, same-working}
 use borrow.Author.Needs.{needs}
+use Rattle.frames.proofs.CutParts.{exterior-whole, exterior-room, exterior-read, same-working}
 use Rattle.frames.proofs.part.route_part.Statement.{statement}
 use Rattle.frames.proofs.part.route_part.Tie as tie
 

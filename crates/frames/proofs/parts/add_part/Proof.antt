@@ -2,12 +2,12 @@
 use native.Mathlib.Omega.{arith}
 use borrow.Author.Tests.{not-true, not-false}
 use denote.Ref.{now}
+use borrow.Author.Needs.{needs}
 use Rattle.clip.specs.Polygon.{nothing, unchanged, routeMeasured}
+use Rattle.frame_bytes.specs.Frame.{partAt}
 use Rattle.frames.specs.Parts.{routePartAs}
 use Rattle.frames.proofs.CutParts.{part-head}
 use Rattle.frames.proofs.Listings.{listed-part}
-use borrow.Author.Needs.{needs}
-use Rattle.frame_bytes.specs.Frame.{partAt}
 use Rattle.frames.proofs.parts.add_part.Statement.{statement}
 use Rattle.frames.proofs.parts.add_part.Tie as tie
 

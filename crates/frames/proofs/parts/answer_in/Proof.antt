@@ -2,6 +2,7 @@
 use native.Mathlib.Omega.{arith}
 use borrow.Author.Tests.{eq-eqb, ne-eqb}
 use denote.Ref.{now}
+use borrow.Author.Needs.{needs}
 use Rattle.clip.specs.Polygon.{routeMeasured}
 use Rattle.frame_bytes.specs.Frame.{headBytes, partAt}
 use Rattle.frames.specs.Answer.{listParts, flagsIn}
@@ -9,7 +10,6 @@ use Rattle.frames.specs.Parts.{partsFrom, ofListing}
 use Rattle.frames.proofs.CutParts.{part-head}
 use Rattle.frames.proofs.Listings.{polygon-answers, finished}
 use Rattle.frames.proofs.Entries.{only-room, only-part, as-answer}
-use borrow.Author.Needs.{needs}
 use Rattle.frames.proofs.parts.answer_in.Statement.{statement}
 use Rattle.frames.proofs.parts.answer_in.Tie as tie
 

@@ -5,12 +5,12 @@ use native.Mathlib.Numerals.{add-one}
 use native.Mathlib.Omega.{arith}
 use denote.Ref.{now}
 use lib.ListN.{length}
+use borrow.Author.Needs.{needs}
 use Rattle.rings.specs.Rectangle.{rectangle}
 use Rattle.frame_bytes.specs.Frame.{headBytes, partAt}
 use Rattle.frames.specs.Answer.{listParts}
 use Rattle.frames.specs.Parts.{routePartAs, partsFrom, Lists, listingOf, Few, PartsRoom}
 use Rattle.frames.proofs.Listings.{AheadParts, parts-start, parts-then, parts-one, parts-none, part-next, part-room, parts-room, listing-here, same-parts-room, parts-end, few-next}
-use borrow.Author.Needs.{needs}
 use Rattle.frames.proofs.parts.list_parts.Statement.{statement}
 use Rattle.frames.proofs.parts.list_parts.Tie as tie
 

@@ -52,7 +52,7 @@ returns-2 c =
     let t = c .before .before .before .before .before .before .before .before .before .take-line in
     let here = c .before .before .before .before .before .before .if2 .taken in
     let e = c .before .before .before .answer-line .ensures in
-    rw (c .start .ensures)
+    rw (c .start .ensures .0)
     (feeds-line (now (a .block)) _ _ (lent (now (a .kept)) (now (a .out))) (now (a .kept)) _ (now (a .out)) _ (t .result .at) _ ready (t .ensures .passes) here (t .ensures .stops here)
     (e .0) (e .1) (search needs) (t .kept .1 .1 .0))
 

@@ -39,7 +39,7 @@ same-length-2 c = search needs
 returns : tie.Need-returns Inv-loop μ-loop
 returns c =
     let l = c .before .before .loop in
-    record { within = l .inv .3; prints = l .inv .4; stops = λ _. omega arith; some = λ _. positive (l .from) (λ e. let none = l .inv .2 e in omega (arith, none)) }
+    record { within = l .inv .3; prints = l .inv .4; stops = λ _. omega arith; some = λ _. positive (l .from) (λ e. let none = l .inv .2 e in omega (arith, none)); free = l .inv .0 }
 
 feed-from-requires : tie.Need-feed-from-requires Inv-loop μ-loop
 feed-from-requires c κs = search needs
@@ -73,7 +73,7 @@ same-length-4 c = search needs
 returns-2 : tie.Need-returns-2 Inv-loop μ-loop
 returns-2 c =
     let l = c .before .loop in
-    record { within = l .inv .3; prints = l .inv .4; stops = λ h. absurd (omega arith); some = λ h. omega arith }
+    record { within = l .inv .3; prints = l .inv .4; stops = λ h. absurd (omega arith); some = λ h. omega arith; free = l .inv .0 }
 
 pub feed-lines-spec : {M : Type 1} → statement M
 feed-lines-spec =

@@ -1,8 +1,8 @@
 -- `edges::probe_find_issue` meets its contract. Assumes nothing.
 use mathlib.Core.Path.{sym, _∙_}
+use borrow.Author.Needs.{needs}
 use Rattle.probe.specs.Edges.{foundIssue}
 use Rattle.probe.proofs.Rooms.{room-of}
-use borrow.Author.Needs.{needs}
 use Rattle.probe.proofs.edges.probe_find_issue.Statement.{statement}
 use Rattle.probe.proofs.edges.probe_find_issue.Tie as tie
 

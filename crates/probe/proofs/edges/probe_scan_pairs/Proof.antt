@@ -3,9 +3,9 @@ use mathlib.Core.Path.{_∙_}
 use Prim.Native.Nat.{_/_}
 use lib.ListN.{length}
 use borrow.Author.Tests.{eq-eqb, ne-eqb}
+use borrow.Author.Needs.{needs}
 use Rattle.probe.specs.Edges.{scanned}
 use Rattle.probe.proofs.Rooms.{same-verdict}
-use borrow.Author.Needs.{needs}
 use Rattle.probe.proofs.edges.probe_scan_pairs.Statement.{statement}
 use Rattle.probe.proofs.edges.probe_scan_pairs.Tie as tie
 

@@ -3,10 +3,10 @@ use mathlib.Core.Path.{sym, _∙_}
 use Prim.Native.Nat.{_/_}
 use lib.ListN.{length}
 use borrow.Author.Tests.{eq-eqb, ne-eqb}
+use borrow.Author.Needs.{needs}
 use Rattle.box_pairs.specs.Issue.{IssueRoom}
 use Rattle.probe.specs.Edges.{swept}
 use Rattle.probe.proofs.Rooms.{room-of, one-edge-less, same-verdict}
-use borrow.Author.Needs.{needs}
 use Rattle.probe.proofs.edges.probe_sweep_pairs.Statement.{statement}
 use Rattle.probe.proofs.edges.probe_sweep_pairs.Tie as tie
 

@@ -1,10 +1,10 @@
 -- `reader::probe_frame_room` meets its contract. Assumes nothing.
 use mathlib.Core.Path.{sym, _∙_}
 use denote.Ref.{now}
+use borrow.Author.Needs.{needs}
 use Rattle.frame_bytes.specs.Frame.{readFrame}
 use Rattle.frame_bytes.specs.Room.{coordinateBytes}
 use Rattle.frame_bytes.proofs.Rooms.{refused-room}
-use borrow.Author.Needs.{needs}
 use Rattle.probe.proofs.reader.probe_frame_room.Statement.{statement}
 use Rattle.probe.proofs.reader.probe_frame_room.Tie as tie
 

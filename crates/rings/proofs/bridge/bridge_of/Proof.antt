@@ -1,6 +1,6 @@
 -- `bridge_of` meets its contract: each return rewrites the definition by the tests that led there. Assumes nothing.
-use Rattle.rings.specs.Bridge.{bridgeOf}
 use borrow.Author.Needs.{needs}
+use Rattle.rings.specs.Bridge.{bridgeOf}
 use Rattle.rings.proofs.bridge.bridge_of.Statement.{statement}
 use Rattle.rings.proofs.bridge.bridge_of.Tie as tie
 

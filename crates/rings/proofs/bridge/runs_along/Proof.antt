@@ -1,6 +1,6 @@
 -- `runs_along` meets its contract: each arm knows its edge. Assumes nothing.
-use Rattle.rings.specs.Bridge.{runsAlong}
 use borrow.Author.Needs.{needs}
+use Rattle.rings.specs.Bridge.{runsAlong}
 use Rattle.rings.proofs.bridge.runs_along.Statement.{statement}
 use Rattle.rings.proofs.bridge.runs_along.Tie as tie
 

@@ -4,12 +4,12 @@ use Prim.Native.Nat.{_+_, _*_, _-_, _≤_}
 use native.Mathlib.Omega.{arith}
 use denote.Ref.{now}
 use lib.ListN.{length, getD, take, drop, length-drop}
+use borrow.Author.Needs.{needs}
+use Rattle.binary64.proofs.Fill.{tail-part}
 use Rattle.tile.specs.Ring.{coords as coordinates, close}
 use Rattle.tile.proofs.Rings.{length-front, close-most}
 use Rattle.rings.specs.Rings.{closedRings, total}
-use Rattle.binary64.proofs.Fill.{tail-part}
 use Rattle.rings.proofs.LentRings.{Left, left-start, left-ring, left-next, total-step, total-end}
-use borrow.Author.Needs.{needs}
 use Rattle.rings.proofs.lent.closed_sum.Statement.{statement}
 use Rattle.rings.proofs.lent.closed_sum.Tie as tie
 

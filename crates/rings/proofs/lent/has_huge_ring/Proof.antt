@@ -6,10 +6,10 @@ use native.Mathlib.Omega.{arith}
 use borrow.Author.Needs.{needs}
 use denote.Ref.{now}
 use lib.ListN.{length, getD, take, drop}
+use Rattle.binary64.proofs.Fill.{tail-part}
 use Rattle.tile.specs.Ring.{coords as coordinates}
 use Rattle.rings.specs.Representable.{anyHuge, anyHugeRing}
 use Rattle.rings.specs.Rings.{closedRings}
-use Rattle.binary64.proofs.Fill.{tail-part}
 use Rattle.rings.proofs.LentRings.{Left, left-start, left-ring, left-next, huge-step, huge-end}
 use Rattle.rings.proofs.lent.has_huge_ring.Statement.{statement}
 use Rattle.rings.proofs.lent.has_huge_ring.Tie as tie

@@ -5,11 +5,11 @@ use native.Mathlib.Omega.{arith}
 use borrow.Author.Needs.{needs}
 use denote.Ref.{now}
 use lib.ListN.{length, getD, take, drop}
+use Rattle.binary64.proofs.Fill.{tail-part}
 use Rattle.tile.specs.Ring.{coords as coordinates}
 use Rattle.rings.specs.declared.rectangle.Rect.{Rect}
 use Rattle.rings.specs.Rectangle.{rectangle, withRing, withRings}
 use Rattle.rings.specs.Rings.{closedRings}
-use Rattle.binary64.proofs.Fill.{tail-part}
 use Rattle.rings.proofs.LentRings.{Left, left-start, left-ring, left-next, rect-step, rect-end}
 use Rattle.rings.proofs.lent.polygon_rect_all_rings.Statement.{statement}
 use Rattle.rings.proofs.lent.polygon_rect_all_rings.Tie as tie

@@ -4,13 +4,13 @@ use Prim.Native.Nat.{_+_, _*_, _-_, _≤_}
 use native.Mathlib.Omega.{arith}
 use denote.Ref.{now}
 use lib.ListN.{length, getD, take, drop}
+use borrow.Author.Needs.{needs}
+use Rattle.binary64.proofs.Fill.{tail-part}
 use Rattle.tile.specs.Ring.{coords as coordinates, close}
 use Rattle.sutherland_hodgman.specs.Growth.{mostCoordinates}
 use Rattle.sutherland_hodgman.proofs.Growth.{B-le}
 use Rattle.rings.specs.Rings.{closedRings, total, larger, largest as most, ringRoom}
-use Rattle.binary64.proofs.Fill.{tail-part}
 use Rattle.rings.proofs.LentRings.{Left, left-start, left-ring, left-next, total-step, total-end, larger-assoc, larger-none, larger-zero, largest-step, largest-end}
-use borrow.Author.Needs.{needs}
 use Rattle.rings.proofs.lent.room_of.Statement.{statement}
 use Rattle.rings.proofs.lent.room_of.Tie as tie
 

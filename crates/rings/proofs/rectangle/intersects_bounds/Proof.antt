@@ -1,6 +1,6 @@
 -- `intersects_bounds` meets its contract: each arm knows its case. Assumes nothing.
-use Rattle.rings.specs.Rectangle.{intersectsBounds}
 use borrow.Author.Needs.{needs}
+use Rattle.rings.specs.Rectangle.{intersectsBounds}
 use Rattle.rings.proofs.rectangle.intersects_bounds.Statement.{statement}
 use Rattle.rings.proofs.rectangle.intersects_bounds.Tie as tie
 

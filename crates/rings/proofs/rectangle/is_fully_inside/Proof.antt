@@ -1,6 +1,6 @@
 -- `is_fully_inside` meets its contract: each arm knows its case. Assumes nothing.
-use Rattle.rings.specs.Rectangle.{isFullyInside}
 use borrow.Author.Needs.{needs}
+use Rattle.rings.specs.Rectangle.{isFullyInside}
 use Rattle.rings.proofs.rectangle.is_fully_inside.Statement.{statement}
 use Rattle.rings.proofs.rectangle.is_fully_inside.Tie as tie
 

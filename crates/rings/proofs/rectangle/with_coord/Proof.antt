@@ -1,6 +1,6 @@
 -- `with_coord` meets its contract: each arm knows its case. Assumes nothing.
-use Rattle.rings.specs.Rectangle.{withCoord}
 use borrow.Author.Needs.{needs}
+use Rattle.rings.specs.Rectangle.{withCoord}
 use Rattle.rings.proofs.rectangle.with_coord.Statement.{statement}
 use Rattle.rings.proofs.rectangle.with_coord.Tie as tie
 

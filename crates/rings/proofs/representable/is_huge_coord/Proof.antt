@@ -1,6 +1,6 @@
 -- `is_huge_coord` meets its contract. Assumes nothing.
-use Rattle.rings.specs.Representable.{hugeCoord}
 use borrow.Author.Needs.{needs}
+use Rattle.rings.specs.Representable.{hugeCoord}
 use Rattle.rings.proofs.representable.is_huge_coord.Statement.{statement}
 use Rattle.rings.proofs.representable.is_huge_coord.Tie as tie
 

@@ -1,9 +1,9 @@
 -- `answer_route` meets its contract: each arm knows its route. Assumes nothing.
 use mathlib.Core.Path.{refl, ap}
+use borrow.Author.Needs.{needs}
 use Rattle.clip.specs.declared.polygon.PolygonAnswer.the-variants.{Cut}
 use Rattle.slices.specs.Slice.{numbersOf, lengthsOf}
 use Rattle.slices.proofs.Checks.{overlay-filled}
-use borrow.Author.Needs.{needs}
 use Rattle.slices.proofs.call.answer_route.Statement.{statement}
 use Rattle.slices.proofs.call.answer_route.Tie as tie
 

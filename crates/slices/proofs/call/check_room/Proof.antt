@@ -1,15 +1,15 @@
 -- `check_room` meets its contract: each return rewrites the definition by the tests that led there. Assumes nothing.
 use native.Mathlib.Omega.{arith}
 use borrow.Author.Tests.{lt-ltb, le-ltb}
-use Rattle.slices.specs.Slice.{checkedRoom}
 use Prim.Native.Nat.{ℕ, _*_, _≤_}
 use mathlib.Core.List.{List}
 use denote.Ref.{now}
 use lib.Ieee.{Float}
+use borrow.Author.Needs.{needs}
+use Rattle.sutherland_hodgman.specs.Growth.{mostCoordinates}
 use Rattle.rings.specs.Rings.{closedRings, total, largest, ringRoom, mostRings, Measurable}
 use Rattle.rings.proofs.LentRings.{length-closed, largest-total, rooms-below}
-use Rattle.sutherland_hodgman.specs.Growth.{mostCoordinates}
-use borrow.Author.Needs.{needs}
+use Rattle.slices.specs.Slice.{checkedRoom}
 use Rattle.slices.proofs.call.check_room.Statement.{statement}
 use Rattle.slices.proofs.call.check_room.Tie as tie
 

@@ -2,13 +2,13 @@
 use mathlib.Core.Path.{refl, sym, _∙_}
 use native.Mathlib.Omega.{arith}
 use denote.Ref.{now}
+use borrow.Author.Needs.{needs}
 use Rattle.rings.specs.declared.rectangle.Rect.the-variants as R
+use Rattle.rings.proofs.Closing.{all-closed, box-finite}
 use Rattle.clip.specs.Polygon.{route, routeRect}
 use Rattle.slices.specs.Slice.{numbersOf, lengthsOf}
-use Rattle.rings.proofs.Closing.{all-closed, box-finite}
 use Rattle.slices.proofs.Checks.{some-rings, passes-fit, fitting, passes-clippable}
 use Rattle.slices.proofs.Holes.{exterior-here, first-room, first-positions, same-room}
-use borrow.Author.Needs.{needs}
 use Rattle.slices.proofs.call.clip_polygon.Statement.{statement}
 use Rattle.slices.proofs.call.clip_polygon.Tie as tie
 

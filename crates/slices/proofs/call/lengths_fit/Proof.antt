@@ -3,12 +3,12 @@ use native.Mathlib.Omega.{arith}
 use borrow.Author.Tests.{lt-ltb, le-leb, lt-leb}
 use denote.Ref.{now}
 use lib.ListN.{length}
-use Rattle.rings.specs.Rings.{mostRings}
-use Rattle.slices.specs.Slice.{lengthsFit}
-use Rattle.rings.proofs.LentRings.{sum-below}
 use mathlib.Core.Path.{_≡_}
 use Prim.Native.Nat.{ℕ, _<_}
 use borrow.Author.Needs.{needs}
+use Rattle.rings.specs.Rings.{mostRings}
+use Rattle.rings.proofs.LentRings.{sum-below}
+use Rattle.slices.specs.Slice.{lengthsFit}
 use Rattle.slices.proofs.call.lengths_fit.Statement.{statement}
 use Rattle.slices.proofs.call.lengths_fit.Tie as tie
 

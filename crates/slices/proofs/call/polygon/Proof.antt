@@ -3,10 +3,10 @@ use mathlib.Core.Path.{_≡_, refl, sym, _∙_, ap}
 use mathlib.Core.List.{List}
 use Prim.Native.Nat.{ℕ}
 use lib.ListN.{replicate}
+use borrow.Author.Needs.{needs}
 use Rattle.sutherland_hodgman.proofs.Calls.{cleared}
 use Rattle.slices.specs.Slice.{routeLent}
 use Rattle.slices.specs.declared.call.SliceAnswer.the-variants.{Answered}
-use borrow.Author.Needs.{needs}
 use Rattle.slices.proofs.call.polygon.Statement.{statement}
 use Rattle.slices.proofs.call.polygon.Tie as tie
 

@@ -4,12 +4,12 @@ use Prim.Native.Nat.{_*_}
 use native.Mathlib.Omega.{arith}
 use denote.Ref.{now}
 use lib.ListN.{getD, drop}
+use borrow.Author.Needs.{needs}
 use Rattle.binary64.proofs.Fill.{tail-part}
-use Rattle.clip.specs.Polygon.{cutHoles}
 use Rattle.rings.specs.Rings.{closedRings}
+use Rattle.clip.specs.Polygon.{cutHoles}
 use Rattle.slices.specs.Slice.{PutHoles}
 use Rattle.slices.proofs.Holes.{exterior-room, start-fits, holes-room, same-room, cut-done}
-use borrow.Author.Needs.{needs}
 use Rattle.slices.proofs.call.put_cut.Statement.{statement}
 use Rattle.slices.proofs.call.put_cut.Tie as tie
 

@@ -4,15 +4,15 @@ use Prim.Native.Nat.{_+_, _*_, _-_}
 use native.Mathlib.Omega.{arith}
 use denote.Ref.{now}
 use lib.ListN.{length, getD, take, drop}
+use borrow.Author.Needs.{needs}
 use Rattle.binary64.proofs.Fill.{tail-part}
 use Rattle.tile.specs.Ring.{coords as coordinates, close}
-use Rattle.clip.specs.Polygon.{cutHole, cutHoles, Stands}
 use Rattle.rings.specs.Rings.{closedRings}
-use Rattle.slices.specs.Slice.{RingsRoom}
 use Rattle.rings.proofs.LentRings.{Left, left-start, left-ring, left-next, rings-step}
+use Rattle.clip.specs.Polygon.{cutHole, cutHoles, Stands}
 use Rattle.clip.proofs.Cuts.{hole-fits-room}
+use Rattle.slices.specs.Slice.{RingsRoom}
 use Rattle.slices.proofs.Holes.{Ahead, ahead-start, ahead-then, ahead-ring, ahead-end, hole-room, put-room, next-room, room-here, room-there, same-room}
-use borrow.Author.Needs.{needs}
 use Rattle.slices.proofs.call.put_holes.Statement.{statement}
 use Rattle.slices.proofs.call.put_holes.Tie as tie
 

@@ -3,9 +3,9 @@ use mathlib.Core.Path.{refl}
 use Prim.Native.Nat.{_*_}
 use native.Mathlib.Omega.{arith}
 use denote.Ref.{now}
+use borrow.Author.Needs.{needs}
 use Rattle.binary64.proofs.Fill.{sets-part}
 use Rattle.slices.proofs.Holes.{length-some}
-use borrow.Author.Needs.{needs}
 use Rattle.slices.proofs.call.put_ring.Statement.{statement}
 use Rattle.slices.proofs.call.put_ring.Tie as tie
 

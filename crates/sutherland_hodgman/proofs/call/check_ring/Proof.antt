@@ -2,9 +2,9 @@
 use Prim.Native.Nat.{_/_}
 use native.Mathlib.Omega.{arith}
 use borrow.Author.Tests.{lt-ltb, le-ltb, eq-eqb, ne-eqb}
+use borrow.Author.Needs.{needs}
 use Rattle.sutherland_hodgman.specs.Call.{checked}
 use Rattle.sutherland_hodgman.proofs.Growth.{B-le}
-use borrow.Author.Needs.{needs}
 use Rattle.sutherland_hodgman.proofs.call.check_ring.Statement.{statement}
 use Rattle.sutherland_hodgman.proofs.call.check_ring.Tie as tie
 

@@ -3,13 +3,13 @@ use Prim.Native.Nat.{_*_, _/_}
 use native.Mathlib.Omega.{arith}
 use denote.Ref.{now}
 use lib.ListN.{length, take}
+use borrow.Author.Needs.{needs}
 use Rattle.tile.specs.Ring.{coords}
 use Rattle.tile.proofs.Rings.{length-front}
 use Rattle.sutherland_hodgman.proofs.Growth.{B-le}
 use Rattle.sutherland_hodgman.proofs.Promises.{HeldBounds}
 use Rattle.sutherland_hodgman.proofs.Stages.{stage-three, stage-last}
 use Rattle.sutherland_hodgman.proofs.Calls.{passes-cuttable, lent-cut, cut-room, cut-clipped, topped-clipped}
-use borrow.Author.Needs.{needs}
 use Rattle.sutherland_hodgman.proofs.call.clip_lent.Statement.{statement}
 use Rattle.sutherland_hodgman.proofs.call.clip_lent.Tie as tie
 

@@ -1,7 +1,7 @@
 -- `half_growth` meets its contract. Assumes nothing.
 use mathlib.Core.Path.{refl}
-use Rattle.sutherland_hodgman.specs.Growth.{halfGrowth}
 use borrow.Author.Needs.{needs}
+use Rattle.sutherland_hodgman.specs.Growth.{halfGrowth}
 use Rattle.sutherland_hodgman.proofs.call.half_growth.Statement.{statement}
 use Rattle.sutherland_hodgman.proofs.call.half_growth.Tie as tie
 

@@ -1,10 +1,10 @@
 -- `ring` meets its contract: refused by the checks, or cut and the scratch slices cleared. Assumes nothing.
 use mathlib.Core.Path.{sym, _∙_, ap}
 use denote.Ref.{now}
+use borrow.Author.Needs.{needs}
 use Rattle.sutherland_hodgman.specs.declared.call.RingAnswer.the-variants.{Clipped}
 use Rattle.sutherland_hodgman.specs.Call.{ringAnswer}
 use Rattle.sutherland_hodgman.proofs.Calls.{clipped-done, cleared, refused-done}
-use borrow.Author.Needs.{needs}
 use Rattle.sutherland_hodgman.proofs.call.ring.Statement.{statement}
 use Rattle.sutherland_hodgman.proofs.call.ring.Tie as tie
 

@@ -2,9 +2,9 @@
 use mathlib.Core.Path.{_∙_, ap}
 use native.Mathlib.Omega.{arith}
 use Prim.Native.Nat.{ℕ, _+_}
+use borrow.Author.Needs.{needs}
 use Rattle.sutherland_hodgman.specs.Growth.{halfGrowth, fourHalfGrowths, B}
 use Rattle.sutherland_hodgman.proofs.Growth.{halfGrowth-le, B-positive}
-use borrow.Author.Needs.{needs}
 use Rattle.sutherland_hodgman.proofs.call.room_for.Statement.{statement}
 use Rattle.sutherland_hodgman.proofs.call.room_for.Tie as tie
 

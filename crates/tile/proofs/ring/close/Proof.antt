@@ -2,8 +2,8 @@
 use mathlib.Core.Path.{sym, _∙_}
 use native.Mathlib.Omega.{arith}
 use denote.Ref.{now}
-use Rattle.tile.proofs.Rings.{written-closed, written-open}
 use borrow.Author.Needs.{needs}
+use Rattle.tile.proofs.Rings.{written-closed, written-open}
 use Rattle.tile.proofs.ring.close.Statement.{statement}
 use Rattle.tile.proofs.ring.close.Tie as tie
 

@@ -3,9 +3,9 @@ use mathlib.Core.Path.{sym, _∙_, ap}
 use Prim.Native.Nat.{ℕ, _*_, _+_}
 use denote.Ref.{now}
 use lib.ListN.{take}
+use borrow.Author.Needs.{needs}
 use Rattle.tile.specs.Ring.{coords}
 use Rattle.tile.proofs.Rings.{length-front, count-closed, count-open}
-use borrow.Author.Needs.{needs}
 use Rattle.tile.proofs.ring.closed_count.Statement.{statement}
 use Rattle.tile.proofs.ring.closed_count.Tie as tie
 

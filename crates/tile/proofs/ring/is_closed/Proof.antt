@@ -2,9 +2,9 @@
 use mathlib.Core.Path.{_∙_, ap₂}
 use native.Mathlib.Omega.{arith}
 use denote.Ref.{now}
+use borrow.Author.Needs.{needs}
 use Rattle.tile.specs.Ring as S
 use Rattle.tile.proofs.Rings.{closed-front}
-use borrow.Author.Needs.{needs}
 use Rattle.tile.proofs.ring.is_closed.Statement.{statement}
 use Rattle.tile.proofs.ring.is_closed.Tie as tie
 

@@ -1,0 +1,6 @@
+-- What holds of every element of a list. Definitions only.
+use mathlib.Core.List.{List, [], _∷_}
+
+abbrev pub Every : {A : Type 0} → (A → Type 0) → List A → Type 0
+Every P [] = Unit {0}
+Every P (a ∷ others) = P a × Every P others
