@@ -8,6 +8,7 @@ use lib.Dec.{ltb, eqb}
 use lib.ListN.{length, drop, length-drop}
 use lib.Seq.{drop-drop}
 use borrow.Author.Tests.{ltb-false, eqb-false}
+use Rattle.binary64.specs.Lists.{Every}
 use Rattle.binary64.proofs.Booleans.{neither}
 use Rattle.tile.specs.declared.Coord.{Coord}
 use Rattle.tile.specs.Ring.{close}
@@ -101,6 +102,12 @@ module _ {A : Type 0} (f : List ℕ → Reading A) where
   unfolding readMany
   many-length zero l all rest e = let n : all ≡ [] = cc in rw n
   many-length (suc k) l all rest e = let p = many-first k l all rest e in rw (p .whole) (ap suc (many-length k (p .between) (p .others) rest (p .later)))
+
+  -- what holds of each that is read holds of all
+  pub many-every : (Q : A → Type 0) → ((l : List ℕ) (a : A) (rest : List ℕ) → f l ≡ read a rest → Q a) → (k : ℕ) (l : List ℕ) (all : List A) (rest : List ℕ) → readMany f k l ≡ read all rest → Every Q all
+  unfolding readMany
+  many-every Q h zero l all rest e = let n : all ≡ [] = cc in rw n tt
+  many-every Q h (suc k) l all rest e = let p = many-first k l all rest e in rw (p .whole) (h l (p .value) (p .between) (p .first), many-every Q h k (p .between) (p .others) rest (p .later))
 
   pub many-reads : Reads f → (k : ℕ) → Reads (readMany f k)
   unfolding readMany

@@ -1,3 +1,4 @@
+pub mod Counts
 pub mod CutParts
 pub mod Cutting
 pub mod Entries

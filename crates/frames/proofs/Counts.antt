@@ -1,0 +1,207 @@
+-- The counts in the answer to a frame fit the two bytes that each has, so that none is cut off where it is written. Assumes nothing.
+use mathlib.Core.Path.{_≡_, refl}
+use mathlib.Core.Bool.{Bool, true, false, cond}
+use mathlib.Core.List.{List, [], _∷_}
+use Prim.Native.Nat.{ℕ, suc, _+_, _<_, _≤_}
+use native.Mathlib.Omega.{arith}
+use lib.Dec.{eqb}
+use lib.ListN.{length, drop}
+use Rattle.binary64.specs.Lists.{Every}
+use Rattle.tile.specs.declared.Coord.{Coord}
+use Rattle.tile.specs.declared.TileBounds.{TileBounds}
+use Rattle.sutherland_hodgman.specs.Growth.{halfGrowth, fourHalfGrowths, B}
+use Rattle.rings.specs.declared.rectangle.Rect.{Rect}
+use Rattle.rings.specs.declared.rectangle.Rect.the-variants as Rects
+use Rattle.rings.specs.Rectangle.{rectangle, withParts, intersectsBounds, isFullyInside}
+use Rattle.rings.specs.Representable.{anyHugeRing}
+use Rattle.rings.specs.Rings.{exterior, mostRings}
+use Rattle.clip.specs.declared.polygon.Flags.{Flags}
+use Rattle.clip.specs.declared.polygon.Route.{Route}
+use Rattle.clip.specs.declared.polygon.Route.the-variants as To
+use Rattle.clip.specs.Polygon as P
+use Rattle.clip.proofs.Cuts.{B-mono, cut-fits-room, hole-fits-room}
+use Rattle.frame_bytes.specs.Frame.{read, mostParts, mostInRing, polygon, headBytes, countOf, readRing, readPart, partCountOf, Frame, readFrame}
+use Rattle.frame_bytes.proofs.Coordinates.{close-grows}
+use Rattle.frame_bytes.proofs.Readings.{many-length, many-every, ring-read, part-read, frame-read}
+use Rattle.frames.specs.Answer.{Part, Answer, Nothing, Dropped, Unchanged, Listed, ofPolygon, routePart, Listing, listedBefore, listParts, ofParts, ifBox, ofMultipolygon, flagsIn, boundsIn, onlyPart, answerTo}
+
+-- ---- what two bytes hold
+
+abbrev pub Fits : ℕ → Type 0
+Fits n = n < 65536
+
+abbrev pub RingFits : List Coord → Type 0
+RingFits ring = Fits (length ring)
+
+abbrev pub RoutedFits : P.Routed → Type 0
+RoutedFits P.nothing = Unit {0}
+RoutedFits P.dropped = Unit {0}
+RoutedFits P.unchanged = Unit {0}
+RoutedFits (P.cut rings) = Fits (length rings) × Every RingFits rings
+RoutedFits (P.overlay reason) = Unit {0}
+
+abbrev pub PartFits : Part → Type 0
+PartFits part = Fits (part .index) × RoutedFits (part .outcome)
+
+abbrev pub AnswerFits : Answer → Type 0
+AnswerFits (Nothing guard) = Fits guard
+AnswerFits Dropped = Unit {0}
+AnswerFits Unchanged = Unit {0}
+AnswerFits (Listed guard parts) = Fits guard × Fits (length parts) × Every PartFits parts
+
+-- ---- what is read
+
+abbrev ShortRing : List Coord → Type 0
+ShortRing ring = length ring ≤ mostInRing + 1
+
+abbrev SmallPart : List (List Coord) → Type 0
+SmallPart rings = (length rings ≤ mostRings) × Every ShortRing rings
+
+short-ring : (l : List ℕ) (ring : List Coord) (rest : List ℕ) → readRing l ≡ read ring rest → ShortRing ring
+short-ring l ring rest e = let r = ring-read l ring rest e in rw (r .coordinates) (omega (arith, close-grows (countOf l) (drop 2 l), r .few))
+
+small-part : (l : List ℕ) (part : List (List Coord)) (rest : List ℕ) → readPart l ≡ read part rest → SmallPart part
+small-part l part rest e =
+    let p = part-read l part rest e in
+    let few : length part ≤ mostRings = omega (arith, many-length readRing (countOf l) (drop 2 l) part rest (p .rings), p .few) in
+    (few, many-every readRing ShortRing short-ring (countOf l) (drop 2 l) part rest (p .rings))
+
+-- ---- rings that are cut
+
+room-fits : (n : ℕ) → n ≤ mostInRing + 1 → Fits (B n)
+unfolding B fourHalfGrowths halfGrowth
+room-fits n h = let most : B (mostInRing + 1) ≡ 20739 = refl in omega (arith, B-mono n (mostInRing + 1) h, most)
+
+module _ (b : TileBounds) where
+  holes-few : (rings : List (List Coord)) → length (P.cutHoles b rings) ≤ length rings
+  unfolding P.cutHoles
+  holes-few [] = omega arith
+  holes-few (r ∷ rings) = go (P.cutHole b r) (holes-few rings)
+    where
+      go : (c : List Coord) → length (P.cutHoles b rings) ≤ length rings → length (P.unlessNone c (P.cutHoles b rings)) ≤ suc (length rings)
+      go [] h = omega arith
+      go (p ∷ c) h = omega arith
+
+  holes-fit : (rings : List (List Coord)) → Every ShortRing rings → Every RingFits (P.cutHoles b rings)
+  unfolding P.cutHoles
+  holes-fit [] w = tt
+  holes-fit (r ∷ rings) w = go (P.cutHole b r) fits (holes-fit rings (w .1))
+    where
+      fits : RingFits (P.cutHole b r)
+      fits = omega (arith, hole-fits-room b r, room-fits (length r) (w .0))
+
+      go : (c : List Coord) → RingFits c → Every RingFits (P.cutHoles b rings) → Every RingFits (P.unlessNone c (P.cutHoles b rings))
+      go [] f h = h
+      go (p ∷ c) f h = (f, h)
+
+  cut-fits : (rings : List (List Coord)) → SmallPart rings → RoutedFits (P.cut (P.cutRings b rings))
+  unfolding P.cutRings
+  cut-fits [] w = (omega arith, tt)
+  cut-fits (r ∷ rings) w = (omega (arith, w .0, holes-few rings), (omega (arith, cut-fits-room b r, room-fits (length r) (w .1 .0)), holes-fit rings (w .1 .1)))
+
+  -- ---- a polygon, and a part
+
+  module _ (flags : Flags) (rings : List (List Coord)) (w : SmallPart rings) where
+    by-route : (to : Route) → RoutedFits (P.routed to b rings)
+    unfolding P.overlayOrDropped
+    by-route To.Nothing = tt
+    by-route To.Unchanged = tt
+    by-route (To.Cut n) = cut-fits rings w
+    by-route (To.Overlay reason) = go (anyHugeRing rings)
+      where
+        go : (t : Bool) → RoutedFits (cond t P.dropped (P.overlay reason))
+        go true = tt
+        go false = tt
+
+    polygon-fits : RoutedFits (P.route flags b rings)
+    unfolding P.route P.routeRect
+    polygon-fits = go (rectangle rings)
+      where
+        go : (rect : Rect) → RoutedFits (P.routeRect flags rect b rings)
+        go Rects.Nothing = tt
+        go Rects.NotFinite = tt
+        go (Rects.Box x y z t) = by-route (P.routeExterior flags (Rects.Box x y z t) b (exterior rings))
+
+    part-fits : RoutedFits (routePart flags b rings)
+    unfolding routePart
+    part-fits = go (intersectsBounds (rectangle rings) b) (isFullyInside (rectangle rings) b)
+      where
+        go : (s t : Bool) → RoutedFits (cond s (cond t P.unchanged (P.route flags b rings)) P.nothing)
+        go false t = tt
+        go true true = tt
+        go true false = polygon-fits
+
+-- ---- the parts of a multipolygon
+
+-- of so many parts
+record ListingFits (n : ℕ) (l : Listing) : Type 0 where
+  guards : l .guard ≤ n
+  listed : length (l .parts) ≤ n
+  each-fits : Every PartFits (l .parts)
+
+module _ (i n : ℕ) (h : Fits i) (l : Listing) (w : ListingFits n l) where
+  one-more : (to : P.Routed) → RoutedFits to → ListingFits (suc n) (record { guard = P.guardCount (P.answerOf to) + l .guard; parts = listedBefore i to (l .parts) })
+  one-more P.nothing f = record { guards = omega (arith, w .guards); listed = omega (arith, w .listed); each-fits = w .each-fits }
+  one-more P.dropped f = record { guards = omega (arith, w .guards); listed = omega (arith, w .listed); each-fits = w .each-fits }
+  one-more P.unchanged f = record { guards = omega (arith, w .guards); listed = omega (arith, w .listed); each-fits = ((h, f), w .each-fits) }
+  one-more (P.cut rings) f = record { guards = omega (arith, w .guards); listed = omega (arith, w .listed); each-fits = ((h, f), w .each-fits) }
+  one-more (P.overlay reason) f = record { guards = omega (arith, w .guards); listed = omega (arith, w .listed); each-fits = ((h, f), w .each-fits) }
+
+parts-fit : (flags : Flags) (b : TileBounds) (i : ℕ) (parts : List (List (List Coord))) → i + length parts ≤ mostParts → Every SmallPart parts → ListingFits (length parts) (listParts flags b i parts)
+unfolding listParts
+parts-fit flags b i [] h w = record { guards = omega arith; listed = omega arith; each-fits = tt }
+parts-fit flags b i (part ∷ parts) h w =
+    one-more i (length parts) (omega arith) (listParts flags b (suc i) parts) (parts-fit flags b (suc i) parts (omega arith) (w .1)) (routePart flags b part) (part-fits b flags part (w .0))
+
+module _ (flags : Flags) (b : TileBounds) (parts : List (List (List Coord))) (few : length parts ≤ mostParts) (small : Every SmallPart parts) where
+  listed-fits : (l : Listing) → ListingFits (length parts) l → AnswerFits (ofParts (l .guard) (l .parts))
+  listed-fits l w = go (l .parts) (w .listed) (w .each-fits)
+    where
+      go : (listed : List Part) → length listed ≤ length parts → Every PartFits listed → AnswerFits (ofParts (l .guard) listed)
+      go [] h f = omega (arith, w .guards)
+      go (part ∷ others) h f = (omega (arith, w .guards), omega arith, f)
+
+  abbrev whole : Listing
+  whole = listParts flags b 0 parts
+
+  by-place : (s t : Bool) → AnswerFits (cond s (cond t Unchanged (ofParts (whole .guard) (whole .parts))) (Nothing 0))
+  by-place false t = omega arith
+  by-place true true = tt
+  by-place true false = listed-fits whole (parts-fit flags b 0 parts (omega arith) small)
+
+  by-rect : (rect : Rect) (answer : Answer) → AnswerFits answer → AnswerFits (ifBox rect answer)
+  by-rect Rects.Nothing answer f = omega arith
+  by-rect Rects.NotFinite answer f = tt
+  by-rect (Rects.Box x y z t) answer f = f
+
+  multipolygon-fits : AnswerFits (ofMultipolygon flags b parts)
+  unfolding ofMultipolygon
+  multipolygon-fits =
+      let rect = withParts Rects.Nothing parts in
+      by-rect rect _ (by-place (intersectsBounds rect b) (isFullyInside rect b))
+
+-- ---- a frame
+
+of-polygon : (to : P.Routed) → RoutedFits to → AnswerFits (ofPolygon to)
+of-polygon P.nothing f = omega arith
+of-polygon P.dropped f = tt
+of-polygon P.unchanged f = tt
+of-polygon (P.cut rings) f = (omega arith, omega arith, ((omega arith, f), tt))
+of-polygon (P.overlay reason) f = (omega arith, omega arith, ((omega arith, f), tt))
+
+only-part : (parts : List (List (List Coord))) → Every SmallPart parts → SmallPart (onlyPart parts)
+only-part [] w = (omega arith, tt)
+only-part (part ∷ parts) w = w .0
+
+module _ (flags : Flags) (b : TileBounds) (parts : List (List (List Coord))) (few : length parts ≤ mostParts) (small : Every SmallPart parts) where
+  by-kind : (t : Bool) → AnswerFits (cond t (ofPolygon (P.route flags b (onlyPart parts))) (ofMultipolygon flags b parts))
+  by-kind true = of-polygon (P.route flags b (onlyPart parts)) (polygon-fits b flags (onlyPart parts) (only-part parts small))
+  by-kind false = multipolygon-fits flags b parts few small
+
+pub counts-fit : (l : List ℕ) (f : Frame) (rest : List ℕ) → readFrame l ≡ read f rest → AnswerFits (answerTo f)
+unfolding answerTo
+counts-fit l f rest e =
+    let r = frame-read l f rest e in
+    let few : length (f .parts) ≤ mostParts = omega (arith, many-length readPart (partCountOf l) (drop headBytes l) (f .parts) rest (r .parts), r .few) in
+    let small : Every SmallPart (f .parts) = many-every readPart SmallPart small-part (partCountOf l) (drop headBytes l) (f .parts) rest (r .parts) in
+    by-kind (flagsIn (f .head)) (boundsIn (f .head)) (f .parts) few small (eqb (f .head .kind) polygon)
