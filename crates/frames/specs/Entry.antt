@@ -2,7 +2,7 @@
 use mathlib.Core.Path.{_≡_}
 use mathlib.Core.Bool.{Bool, true, not, cond, _&&_, _||_}
 use mathlib.Core.List.{List, []}
-use Prim.Native.Nat.{ℕ, _<_, _≤_}
+use Prim.Native.Nat.{ℕ, _+_, _*_, _-_, _<_, _≤_}
 use lib.Dec.{eqb}
 use lib.IntN.{ℤ, pos, negℤ}
 use lib.ListN.{length}
@@ -61,6 +61,10 @@ abbrev pub unchangedAtOnce : Head → Rect → TileBounds → List (List (List C
 unchangedAtOnce head rect b parts = isFullyInside rect b && (eqb (head .kind) multipolygon || (head .«assume_simple» && not (hasIssue (issueOf true (exterior (onlyPart parts))))))
 
 -- ---- what is asked for
+
+-- the longest frame of which every ring, closed, has at most m coordinates: a ring stands behind the head and two counts
+abbrev pub longestFor : ℕ → ℕ
+longestFor m = headBytes + 4 + 16 * m - 1
 
 -- the parts are there, can be cut, and have room in the output
 pub record PartsReady (frame : List ℕ) (head : Head) (ring a b order out : ℕ) : Type 0 where

@@ -27,7 +27,7 @@ use rings::rectangle::intersects_bounds;
 use rings::rectangle::is_fully_inside;
 use tile::TileBounds;
 
-// The longest frames of the smaller sizes of working arrays: with 6, 32 and 81 coordinates in a ring, closed.
+// The longest frames of which every ring, closed, has at most 6, 32 and 81 coordinates: the smaller sizes of working arrays.
 const SMALL: usize = 143;
 
 const MEDIUM: usize = 559;
@@ -40,8 +40,9 @@ pub enum FrameAnswer {
     Answered(usize),
 }
 
+// In arrays for rings of up to m coordinates, closed: 2 m numbers for the ring, 2 B(m) for each of two scratch slices, B(m) positions. Here m is 6.
 fn answer_small(frame: &[u8], head: Head, rect: Rect, bounds: TileBounds, out: &mut [u8]) -> usize
-    requires { ⌜ Y.Cuttable (now frame) head (length (now out)) × (length (now frame) ≤ 143) ⌝ }
+    requires { ⌜ Y.Cuttable (now frame) head (length (now out)) × (length (now frame) ≤ Y.longestFor 6) ⌝ }
     ensures { λ r. ⌜ S.Answers (Y.answerMeasured head rect bounds (Y.partsOf (F.readFrame (now (frame .entry))))) (now (out .entry)) r (now (out .exit)) ⌝ }
 {
     let mut ring = [0.0; 12];
@@ -61,8 +62,9 @@ fn answer_small(frame: &[u8], head: Head, rect: Rect, bounds: TileBounds, out: &
     )
 }
 
+// With m = 32.
 fn answer_medium(frame: &[u8], head: Head, rect: Rect, bounds: TileBounds, out: &mut [u8]) -> usize
-    requires { ⌜ Y.Cuttable (now frame) head (length (now out)) × (length (now frame) ≤ 559) ⌝ }
+    requires { ⌜ Y.Cuttable (now frame) head (length (now out)) × (length (now frame) ≤ Y.longestFor 32) ⌝ }
     ensures { λ r. ⌜ S.Answers (Y.answerMeasured head rect bounds (Y.partsOf (F.readFrame (now (frame .entry))))) (now (out .entry)) r (now (out .exit)) ⌝ }
 {
     let mut ring = [0.0; 64];
@@ -82,8 +84,9 @@ fn answer_medium(frame: &[u8], head: Head, rect: Rect, bounds: TileBounds, out: 
     )
 }
 
+// With m = 81.
 fn answer_large(frame: &[u8], head: Head, rect: Rect, bounds: TileBounds, out: &mut [u8]) -> usize
-    requires { ⌜ Y.Cuttable (now frame) head (length (now out)) × (length (now frame) ≤ 1343) ⌝ }
+    requires { ⌜ Y.Cuttable (now frame) head (length (now out)) × (length (now frame) ≤ Y.longestFor 81) ⌝ }
     ensures { λ r. ⌜ S.Answers (Y.answerMeasured head rect bounds (Y.partsOf (F.readFrame (now (frame .entry))))) (now (out .entry)) r (now (out .exit)) ⌝ }
 {
     let mut ring = [0.0; 162];
@@ -103,6 +106,7 @@ fn answer_large(frame: &[u8], head: Head, rect: Rect, bounds: TileBounds, out: &
     )
 }
 
+// With m = 318, which no ring of the longest frame passes.
 fn answer_full(frame: &[u8], head: Head, rect: Rect, bounds: TileBounds, out: &mut [u8]) -> usize
     requires { ⌜ Y.Cuttable (now frame) head (length (now out)) ⌝ }
     ensures { λ r. ⌜ S.Answers (Y.answerMeasured head rect bounds (Y.partsOf (F.readFrame (now (frame .entry))))) (now (out .entry)) r (now (out .exit)) ⌝ }
