@@ -7,7 +7,7 @@ use std::hint::black_box;
 
 use formats::calls::SliceAfter;
 use formats::room::most_cut;
-use geo::{Coord, LineString, Polygon};
+use geo::{Coord, Geometry, LineString, Polygon};
 use i_overlay::record::take_calls;
 use port::calls::{self, Flags};
 use tylertoo::clip::opened::clip_polygon;
@@ -53,6 +53,13 @@ fn call(flags: Flags, ring: &[f64], slices: &mut SliceAfter) -> i64 {
     calls::polygon(flags, &BOUNDS, 0.0, ring, &[ring.len() as u32 / 2], calls::lent(slices))
 }
 
+/// Whether the Rust asks for an overlay. The stand-in keeps each overlay call until it is taken.
+fn calls_overlay(clip: impl Fn() -> Option<Geometry<f64>>) -> bool {
+    take_calls();
+    assert!(clip().is_some());
+    !take_calls().is_empty()
+}
+
 /// A ring of so many vertices with its closing one, which it is given without.
 fn row(vertices: usize, name: &str, flags: u8, mut ring: Vec<Coord<f64>>, answer: i64) -> Row {
     ring.push(ring[0]);
@@ -68,16 +75,13 @@ fn row(vertices: usize, name: &str, flags: u8, mut ring: Vec<Coord<f64>>, answer
     assert_eq!(call(flag_numbers, &numbers, &mut lent), answer);
     assert_eq!(call(flag_numbers, &APART, &mut cleared), 0);
 
-    // The stand-in keeps each overlay call until it is taken.
-    take_calls();
-    let clipped = clip_polygon(&polygon, &bounds, assume_simple, skip_boundary_fallback, &diagnostics);
-    assert!(clipped.is_some());
-    let wants_overlay = !take_calls().is_empty();
+    let clip = || clip_polygon(black_box(&polygon), &bounds, assume_simple, skip_boundary_fallback, &diagnostics);
+    let wants_overlay = calls_overlay(clip);
     assert_eq!(wants_overlay, answer == BRIDGE_ON_THE_RIGHT);
 
     let times = medians_in_step(&mut [
         &mut || {
-            black_box(clip_polygon(black_box(&polygon), &bounds, assume_simple, skip_boundary_fallback, &diagnostics));
+            black_box(clip());
             take_calls();
         },
         &mut || {
@@ -93,12 +97,18 @@ fn row(vertices: usize, name: &str, flags: u8, mut ring: Vec<Coord<f64>>, answer
             black_box(call(flag_numbers, black_box(&numbers), &mut lent));
         },
     ]);
+    let size = format!("{} vertices", whole(vertices as f64));
+    as_row(size, format!("{name}, flags {flags}"), wants_overlay, &times)
+}
+
+/// Of the times of the Rust, its overlay alone, the clearing alone and the whole call.
+fn as_row(size: String, case: String, wants_overlay: bool, times: &[f64]) -> Row {
     let overlay = if wants_overlay { times[1] } else { 0.0 };
     let (alone, whole_call) = (times[2], times[3]);
     Row {
         workload: "slice call",
-        size: format!("{} vertices", whole(vertices as f64)),
-        case: format!("{name}, flags {flags}"),
+        size,
+        case,
         rust: times[0] - overlay,
         port: whole_call - alone,
         clearing: Some(Clearing { alone, whole_call }),

@@ -19,27 +19,37 @@ const GAP: f64 = 6.0;
 /// Entries of the legend in a row.
 const COLUMNS: usize = 3;
 
+/// What an entry of the legend shows and says.
+type Entry = (&'static str, &'static str);
+
 pub fn draw(title: &str, frame: &Frame, answer: &Answer) -> String {
-    let tile = rectangle(frame.bounds);
     let widened = rectangle(buffered(frame));
     let [west, south, east, north] = around(widened.iter().chain(frame.parts.iter().flatten().flatten()));
     let left = (WIDTH - Canvas::pixels(east - west)) / 2.0;
     let mut canvas = Canvas::new(left, HEAD, west, north);
 
     canvas.text("title", "middle", (WIDTH / 2.0, 26.0), title);
-    canvas.text(
-        "answer",
-        "middle",
-        (WIDTH / 2.0, 46.0),
-        &format!("flags {}; answer: {}", frame.flags, in_short(answer)),
-    );
+    let words = format!("flags {}; answer: {}", frame.flags, in_short(answer));
+    canvas.text("answer", "middle", (WIDTH / 2.0, 46.0), &words);
 
     let mut legend = vec![("input", "input outline"), ("tile", "tile")];
-    canvas.area("tile", std::slice::from_ref(&tile));
+    canvas.area("tile", &[rectangle(frame.bounds)]);
     if frame.buffer != 0.0 {
         legend.push(("buffer", "tile with its buffer"));
         canvas.area("buffer", &[widened]);
     }
+    legend.extend(draw_answer(&mut canvas, frame, answer));
+    draw_input(&mut canvas, frame);
+    label_tile(&mut canvas, frame.bounds);
+
+    let bottom = HEAD + Canvas::pixels(north - south) + GAP;
+    let rows = draw_legend(&mut canvas, bottom, &legend);
+    canvas.finish(title, bottom + rows as f64 * ROW + 4.0)
+}
+
+/// The listed parts; a cut one with its corners.
+fn draw_answer(canvas: &mut Canvas, frame: &Frame, answer: &Answer) -> Vec<Entry> {
+    let mut legend = Vec::new();
     for ListedPart { index, listed } in listed(answer) {
         let part = &frame.parts[usize::from(*index)];
         let (class, words, rings) = match listed {
@@ -53,6 +63,11 @@ pub fn draw(title: &str, frame: &Frame, answer: &Answer) -> String {
             rings.iter().flatten().for_each(|&coord| canvas.dot("corner", coord));
         }
     }
+    legend
+}
+
+/// The outlines of all parts, each with its number where there are several.
+fn draw_input(canvas: &mut Canvas, frame: &Frame) {
     for (index, part) in frame.parts.iter().enumerate() {
         canvas.area("input", part);
         if frame.parts.len() > 1 {
@@ -61,17 +76,17 @@ pub fn draw(title: &str, frame: &Frame, answer: &Answer) -> String {
             canvas.text("part", "middle", (x, y + 4.0), &format!("part {index}"));
         }
     }
-    label_tile(&mut canvas, frame.bounds);
+}
 
-    let bottom = HEAD + Canvas::pixels(north - south) + GAP;
+/// The legend from `top` down, and how many rows it has.
+fn draw_legend(canvas: &mut Canvas, top: f64, legend: &[Entry]) -> usize {
     for (n, (class, words)) in legend.iter().enumerate() {
         let x = 24.0 + (n % COLUMNS) as f64 * (WIDTH - 24.0) / COLUMNS as f64;
-        let y = bottom + (n / COLUMNS) as f64 * ROW;
+        let y = top + (n / COLUMNS) as f64 * ROW;
         canvas.swatch(class, (x, y), (20.0, 12.0));
         canvas.text("legend", "start", (x + 28.0, y + 10.0), words);
     }
-    let rows = legend.len().div_ceil(COLUMNS);
-    canvas.finish(title, bottom + rows as f64 * ROW + 4.0)
+    legend.len().div_ceil(COLUMNS)
 }
 
 /// The four bounds as numbers beside the tile.
