@@ -58,18 +58,18 @@ module _ (frame : List ℕ) (at n : ℕ) where
   left-all i h = let e : n - i ≡ 0 = omega arith in rw e
 
 -- what is left to write, with one coordinate of it written
-module _ (frame : List ℕ) (at n start : ℕ) where
-  pub none-written : (ring : List Float) → sets ring (2 * start) (flat (coordsOf n (drop at frame))) ≡ sets ring (2 * (start + 0)) (flat (left frame at n 0))
-  none-written ring = let e : start + 0 ≡ start = omega arith in rw (e, left-none frame at n)
+module _ (frame : List ℕ) (at n : ℕ) where
+  pub none-written : (ring : List Float) → sets ring 0 (flat (coordsOf n (drop at frame))) ≡ sets ring 0 (flat (left frame at n 0))
+  none-written ring = rw (left-none frame at n)
 
   pub one-written : (ring : List Float) (i : ℕ) → i < n
-      → sets ring (2 * (start + i)) (flat (left frame at n i)) ≡ sets (sets ring (2 * (start + i)) (coordOf (drop (at + 16 * i) frame) .x ∷ coordOf (drop (at + 16 * i) frame) .y ∷ [])) (2 * (start + (i + 1))) (flat (left frame at n (i + 1)))
+      → sets ring (2 * i) (flat (left frame at n i)) ≡ sets (sets ring (2 * i) (coordOf (drop (at + 16 * i) frame) .x ∷ coordOf (drop (at + 16 * i) frame) .y ∷ [])) (2 * (i + 1)) (flat (left frame at n (i + 1)))
   unfolding flat
   one-written ring i h =
-      let p : 2 * (start + (i + 1)) ≡ suc (suc (2 * (start + i))) = omega arith in
+      let p : 2 * (i + 1) ≡ suc (suc (2 * i)) = omega arith in
       rw (left-one frame at n i h, p)
 
-  pub all-written : (ring : List Float) (i : ℕ) → n ≤ i → sets ring (2 * (start + i)) (flat (left frame at n i)) ≡ ring
+  pub all-written : (ring : List Float) (i : ℕ) → n ≤ i → sets ring (2 * i) (flat (left frame at n i)) ≡ ring
   unfolding flat
   all-written ring i h = rw (left-all frame at n i h)
 

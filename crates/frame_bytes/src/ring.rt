@@ -56,15 +56,15 @@ pub fn closed_count(frame: &[u8], at: usize, n: usize) -> usize
     n + 1
 }
 
-// Writes the n coordinates at a place of the frame, not closed, from the coordinate `start` of `ring` on, and answers where the next ring starts.
-pub fn decode_ring(frame: &[u8], at: usize, n: usize, ring: &mut [f64], start: usize) -> usize
-    requires { ⌜ (at + 16 * n ≤ length (now frame)) × (2 * (start + n) ≤ length (now ring)) ⌝ }
-    ensures { λ r. ⌜ (r ≡ at + 16 * n) × (now (ring .exit) ≡ sets (now (ring .entry)) (2 * start) (flat (S.coordsOf n (drop at (now (frame .entry)))))) ⌝ }
+// Writes the n coordinates at a place of the frame, not closed, to the front of `ring`, and answers where the next ring starts.
+pub fn decode_ring(frame: &[u8], at: usize, n: usize, ring: &mut [f64]) -> usize
+    requires { ⌜ (at + 16 * n ≤ length (now frame)) × (2 * n ≤ length (now ring)) ⌝ }
+    ensures { λ r. ⌜ (r ≡ at + 16 * n) × (now (ring .exit) ≡ sets (now (ring .entry)) 0 (flat (S.coordsOf n (drop at (now (frame .entry)))))) ⌝ }
 {
     let mut i = 0usize;
     while i < n {
         let p = coord_at(frame, at + COORD * i);
-        put(ring, start + i, p);
+        put(ring, i, p);
         i += 1;
     }
     at + COORD * n

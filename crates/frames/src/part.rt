@@ -78,7 +78,7 @@ fn put_holes(
     let mut left = holes;
     while left > 0 {
         let n = count_at(frame, at);
-        let next = decode_ring(frame, at + COUNT, n, ring, 0);
+        let next = decode_ring(frame, at + COUNT, n, ring);
         let m = clip_hole(ring, n, bounds, a, b);
         written = put_cut_ring(b, m, out, written);
         at = next;
@@ -186,7 +186,7 @@ pub fn route_part(
     ensures { λ _. ⌜ now (out .exit) ≡ sets (now (out .entry)) to (S.writtenPart index (P.routeMeasured flags rect bounds (F.partAt (now (frame .entry)) at))) ⌝ }
 {
     let n = count_at(frame, at + COUNT);
-    decode_ring(frame, at + COUNT + COUNT, n, ring, 0);
+    decode_ring(frame, at + COUNT + COUNT, n, ring);
     let route = route_exterior(ring, n, flags, rect, bounds, a, b, order);
     answer_route(frame, at, index, route, bounds, ring, a, b, out, to)
 }

@@ -12,15 +12,15 @@ use Rattle.frame_bytes.proofs.ring.decode_ring.Statement.{statement}
 use Rattle.frame_bytes.proofs.ring.decode_ring.Tie as tie
 
 abbrev Inv-loop : tie.InvT-loop
-Inv-loop frame at n ring₀ start i₀ ring i = (i ≤ n) × (length ring ≡ length ring₀) × (sets ring₀ (2 * start) (flat (coordsOf n (drop at frame))) ≡ sets ring (2 * (start + i)) (flat (left frame at n i)))
+Inv-loop frame at n ring₀ i₀ ring i = (i ≤ n) × (length ring ≡ length ring₀) × (sets ring₀ 0 (flat (coordsOf n (drop at frame))) ≡ sets ring (2 * i) (flat (left frame at n i)))
 
 abbrev μ-loop : tie.MeasureT-loop
-μ-loop frame at n ring₀ start i₀ ring i = n - i
+μ-loop frame at n ring₀ i₀ ring i = n - i
 
 loop-holds : tie.Need-loop-holds Inv-loop μ-loop
 loop-holds c =
     let a = c .before .before .args in
-    (search needs, search needs, none-written (now (a .frame)) (a .at) (a .n) (a .start) (now (a .ring)))
+    (search needs, search needs, none-written (now (a .frame)) (a .at) (a .n) (now (a .ring)))
 
 mul-coord-at : tie.Need-mul-coord-at Inv-loop μ-loop
 mul-coord-at c = search needs
@@ -30,9 +30,6 @@ add-coord-at c = search needs
 
 coord-at-requires : tie.Need-coord-at-requires Inv-loop μ-loop
 coord-at-requires c κs = search needs
-
-add-put : tie.Need-add-put Inv-loop μ-loop
-add-put c = search needs
 
 put-requires : tie.Need-put-requires Inv-loop μ-loop
 put-requires c κs = search needs
@@ -47,7 +44,7 @@ loop-again : tie.Need-loop-again Inv-loop μ-loop
 loop-again c =
     let a = c .before .before .before .before .before .before .before .before .before .args in
     let l = c .before .before .before .before .before .before .loop in
-    let e = l .inv .2 ∙ one-written (now (a .frame)) (a .at) (a .n) (a .start) (l .ring) (l .i) (c .before .before .before .before .before .loop-test .taken) in
+    let e = l .inv .2 ∙ one-written (now (a .frame)) (a .at) (a .n) (l .ring) (l .i) (c .before .before .before .before .before .loop-test .taken) in
     (search needs, search needs, e ∙ rw (c .before .before .put .ensures, c .before .before .before .before .coord-at .ensures))
 
 mul-result : tie.Need-mul-result Inv-loop μ-loop
@@ -63,7 +60,7 @@ returns : tie.Need-returns Inv-loop μ-loop
 returns c =
     let a = c .before .before .before .before .args in
     let l = c .before .loop in
-    (refl, sym (l .inv .2 ∙ all-written (now (a .frame)) (a .at) (a .n) (a .start) (l .ring) (l .i) (c .loop-test .left)))
+    (refl, sym (l .inv .2 ∙ all-written (now (a .frame)) (a .at) (a .n) (l .ring) (l .i) (c .loop-test .left)))
 
 pub decode-ring-spec : {M : Type 1} → statement M
 decode-ring-spec =
@@ -75,7 +72,6 @@ decode-ring-spec =
     mul-coord-at
     add-coord-at
     coord-at-requires
-    add-put
     put-requires
     add-i
     loop-less
