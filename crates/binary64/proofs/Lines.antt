@@ -1,4 +1,4 @@
--- One cut at a line, the line as a parameter: `low` says which side it keeps (specs/Scaled.antt, `within`), c where it stands, k how large the numbers may be.
+-- One cut at a line, the line as a parameter: `low` says which side it keeps (specs/Interpolation.antt, `within`), c where it stands, k how large the numbers may be.
 -- What is kept and the crossing lie in the fixed coordinate exactly on the line's side, and in the free one in the old range, wider by 2 ^ (k + 1) units. Assumes nothing.
 use mathlib.Core.Path.{_≡_}
 use mathlib.Core.Logic.{inl, inr}
