@@ -2,7 +2,7 @@
 use mathlib.Core.Path.{_≡_, refl, sym, _∙_}
 use mathlib.Core.Bool.{Bool, true, false, cond}
 use mathlib.Core.List.{List, [], _∷_, _++_}
-use Prim.Native.Nat.{ℕ, zero, suc, _+_, _*_, _<_, _≤_}
+use Prim.Native.Nat.{ℕ, suc, _*_, _<_, _≤_}
 use native.Mathlib.Omega.{arith}
 use borrow.Author.Tests.{lt-ltb}
 use lib.Ieee.{Float}
@@ -14,10 +14,10 @@ use Rattle.tile.specs.Ring.{coords, flat, close, Written}
 use Rattle.tile.proofs.Rings.{length-front, length-flat, coords-flat, coords-front, length-close, close-most}
 use Rattle.box_pairs.specs.declared.Issue.{Issue}
 use Rattle.box_pairs.specs.Issue.{hasIssue, issueOf}
-use Rattle.sutherland_hodgman.specs.Growth.{fourHalfGrowths, B}
+use Rattle.sutherland_hodgman.specs.Growth.{B}
 use Rattle.sutherland_hodgman.specs.Clip.{leaveOff, around, pass, passes, finish, clipRing}
 use Rattle.sutherland_hodgman.specs.Cutter.{Room, Cut}
-use Rattle.sutherland_hodgman.proofs.Growth.{halfGrowth-mono, clipRing-grows, B-positive, le-four}
+use Rattle.sutherland_hodgman.proofs.Growth.{clipRing-grows, B-mono}
 use Rattle.sutherland_hodgman.proofs.LeavingOff.{clip-close}
 use Rattle.rings.specs.declared.bridge.Bridge.{Bridge}
 use Rattle.rings.specs.declared.bridge.Bridge.the-variants.{None, Along}
@@ -28,21 +28,6 @@ use Rattle.clip.specs.declared.polygon.Route.the-variants as To
 use Rattle.clip.specs.Polygon.{overlayIfIssue, bridgeUnlessSkipped, overlayIfBridge, cutExterior, routeCut, leftOut, cutHole, RingRoom, Stands, CutStands, cutRings, unlessNone, cutHoles}
 
 -- ---- room
-
-pub B-mono : (m n : ℕ) → m ≤ n → B m ≤ B n
-unfolding B fourHalfGrowths
-B-mono zero n h = omega arith
-B-mono (suc m) zero h = absurd (omega arith)
-B-mono (suc m) (suc n) h = omega (arith, halfGrowth-mono (halfGrowth-mono (halfGrowth-mono (halfGrowth-mono h))))
-
-pub le-B : (n : ℕ) → n ≤ B n
-unfolding B
-le-B zero = omega arith
-le-B (suc n) = omega (arith, le-four (suc n))
-
--- the room of a ring with coordinates is for at least two more than it has
-pub two-more : (n : ℕ) → 0 < n → n + 2 ≤ B n
-two-more n h = omega (arith, le-four n, B-positive n (λ e. omega arith))
 
 close-none : close [] ≡ []
 unfolding close

@@ -10,6 +10,7 @@ use Rattle.binary64.specs.Lists.{Every}
 use Rattle.tile.specs.declared.Coord.{Coord}
 use Rattle.tile.specs.declared.TileBounds.{TileBounds}
 use Rattle.sutherland_hodgman.specs.Growth.{halfGrowth, fourHalfGrowths, B}
+use Rattle.sutherland_hodgman.proofs.Growth.{B-mono}
 use Rattle.rings.specs.declared.rectangle.Rect.{Rect}
 use Rattle.rings.specs.declared.rectangle.Rect.the-variants as Rects
 use Rattle.rings.specs.Rectangle.{rectangle, withParts, intersectsBounds, isFullyInside}
@@ -19,7 +20,7 @@ use Rattle.clip.specs.declared.polygon.Flags.{Flags}
 use Rattle.clip.specs.declared.polygon.Route.{Route}
 use Rattle.clip.specs.declared.polygon.Route.the-variants as To
 use Rattle.clip.specs.Polygon as P
-use Rattle.clip.proofs.Cuts.{B-mono, cut-fits-room, hole-fits-room}
+use Rattle.clip.proofs.Cuts.{cut-fits-room, hole-fits-room}
 use Rattle.frame_bytes.specs.Frame.{read, mostParts, mostInRing, polygon, headBytes, countOf, readRing, readPart, partCountOf, Frame, readFrame}
 use Rattle.frame_bytes.proofs.Coordinates.{close-grows}
 use Rattle.frame_bytes.proofs.Readings.{many-length, many-every, ring-read, part-read, frame-read}

@@ -12,12 +12,13 @@ use Rattle.tile.specs.declared.TileBounds.{TileBounds}
 use Rattle.tile.specs.Ring.{coords, flat, close}
 use Rattle.tile.proofs.Rings.{coords-flat}
 use Rattle.sutherland_hodgman.specs.Growth.{B}
+use Rattle.sutherland_hodgman.proofs.Growth.{B-mono}
 use Rattle.rings.specs.Rings.{exterior, largest, total, mostRings}
 use Rattle.rings.specs.Representable.{anyHugeRing}
 use Rattle.rings.proofs.LentRings.{larger-least}
 use Rattle.clip.specs.Polygon.{unlessNone, cutExterior, cutHoles, cutRings, cut, overlay, reasonNumber, Stands, ExteriorRoom}
 use Rattle.clip.specs.declared.polygon.Reason.{Reason}
-use Rattle.clip.proofs.Cuts.{B-mono, cut-fits-room, cut-rings}
+use Rattle.clip.proofs.Cuts.{cut-fits-room, cut-rings}
 use Rattle.frame_bytes.specs.Frame.{Reading, refused, read, countOf, coordsOf, ringsIn, partAt}
 use Rattle.frame_bytes.specs.Room.{partRoom}
 use Rattle.frame_bytes.specs.Encoding.{each, countBytes, coordBytes, ringBytes}

@@ -13,10 +13,11 @@ use Rattle.tile.specs.declared.TileBounds.{TileBounds}
 use Rattle.tile.specs.Ring.{coords, flat, closed, close}
 use Rattle.tile.proofs.Rings.{coords-flat, length-close}
 use Rattle.sutherland_hodgman.specs.Growth.{B}
+use Rattle.sutherland_hodgman.proofs.Growth.{B-mono}
 use Rattle.rings.specs.Rings.{largest, allClosed, total, ringRoom}
 use Rattle.rings.proofs.LentRings.{larger-least}
 use Rattle.clip.specs.Polygon.{cutHole, unlessNone, cutHoles, RingRoom, Stands}
-use Rattle.clip.proofs.Cuts.{B-mono, hole-fits-room}
+use Rattle.clip.proofs.Cuts.{hole-fits-room}
 use Rattle.frame_bytes.specs.Frame.{countOf, coordsOf, readMany, ringsFrom}
 use Rattle.frame_bytes.specs.Encoding.{each, coordBytes, ringBytes}
 use Rattle.frame_bytes.proofs.Coordinates.{length-coordsOf, decoded}

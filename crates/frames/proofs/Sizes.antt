@@ -10,12 +10,12 @@ use Rattle.binary64.specs.Lists.{Every}
 use Rattle.tile.specs.declared.Coord.{Coord}
 use Rattle.tile.specs.Ring.{close}
 use Rattle.sutherland_hodgman.specs.Growth.{B}
+use Rattle.sutherland_hodgman.proofs.Growth.{B-mono}
 use Rattle.rings.specs.declared.rectangle.Rect.{Rect}
 use Rattle.rings.specs.declared.rectangle.Rect.the-variants as Rects
 use Rattle.rings.specs.Rectangle.{withRing, withRings, withParts}
 use Rattle.rings.specs.Rings.{larger, largest, allClosed}
 use Rattle.rings.proofs.Closing.{stays-rings, ring-closed}
-use Rattle.clip.proofs.Cuts.{B-mono}
 use Rattle.frame_bytes.specs.Frame.{Accepted, mostInRing, countOf, coordsOf, readRing, readMany, readPart, ringsFrom, partAt}
 use Rattle.frame_bytes.proofs.Coordinates.{close-grows}
 use Rattle.frame_bytes.proofs.PartRings.{next-ring, part-rings}

@@ -1,4 +1,4 @@
--- No pass outgrows its room: it has at most half as many vertices again as its ring. Assumes nothing.
+-- No pass outgrows its room: it has at most half as many vertices again as its ring. And the laws of B, the room that a ring is given. Assumes nothing.
 use mathlib.Core.Path.{_≡_, refl}
 use mathlib.Core.Bool.{Bool, true, false, cond}
 use mathlib.Core.List.{List, [], _∷_}
@@ -104,14 +104,25 @@ unfolding B fourHalfGrowths halfGrowth
 B-le zero h = omega arith
 B-le (suc n) h = omega arith
 
+pub B-mono : (m n : ℕ) → m ≤ n → B m ≤ B n
+unfolding B fourHalfGrowths
+B-mono zero n h = omega arith
+B-mono (suc m) zero h = absurd (omega arith)
+B-mono (suc m) (suc n) h = omega (arith, halfGrowth-mono (halfGrowth-mono (halfGrowth-mono (halfGrowth-mono h))))
+
+le-four : (n : ℕ) → n ≤ fourHalfGrowths n
+unfolding fourHalfGrowths
+le-four n = le-trans (le-halfGrowth n) (le-trans (le-halfGrowth _) (le-trans (le-halfGrowth _) (le-halfGrowth _)))
+
+pub le-B : (n : ℕ) → n ≤ B n
+unfolding B
+le-B zero = omega arith
+le-B (suc n) = omega (arith, le-four (suc n))
+
 -- how many vertices j passes can make of n
 unfoldable pub grown : ℕ → ℕ → ℕ
 grown zero n = n
 grown (suc j) n = halfGrowth (grown j n)
-
-pub le-four : (n : ℕ) → n ≤ fourHalfGrowths n
-unfolding fourHalfGrowths
-le-four n = le-trans (le-halfGrowth n) (le-trans (le-halfGrowth _) (le-trans (le-halfGrowth _) (le-halfGrowth _)))
 
 pub grown-four : (j n : ℕ) → j ≤ 4 → grown j n ≤ fourHalfGrowths n
 unfolding grown fourHalfGrowths
