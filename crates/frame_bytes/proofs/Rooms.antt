@@ -12,7 +12,7 @@ use Rattle.tile.specs.Ring.{close}
 use Rattle.sutherland_hodgman.specs.Growth as G
 use Rattle.sutherland_hodgman.specs.Growth.{B}
 use Rattle.sutherland_hodgman.proofs.Growth.{B-le}
-use Rattle.rings.specs.Rings.{total, ringRoom, mostRings}
+use Rattle.rings.specs.Rings.{total, ringRoom}
 use Rattle.frame_bytes.specs.declared.reader.FrameRefusal.{FrameRefusal}
 use Rattle.frame_bytes.specs.declared.reader.FrameRefusal.the-variants.{Output}
 use Rattle.frame_bytes.specs.declared.reader.FrameCheck.the-variants.{Fails}
@@ -134,15 +134,6 @@ part-le l part rest e =
     omega (arith, sum-le readRing ringRoom [] mostRing ring-le (countOf l) (drop 2 l) part rest (p .rings))
 
 module _ (frame : List ℕ) (at : ℕ) (h : at ≤ length frame) (a : Accepted (readPart (drop at frame))) where
-  pub part-fits : at + 2 ≤ length frame
-  part-fits = let t = taken (readPart (drop at frame)) a in part-at frame at (t .value) (t .rest) h (t .is) .whole
-
-  pub part-few : countOf (drop at frame) ≤ mostRings
-  part-few = let t = taken (readPart (drop at frame)) a in part-at frame at (t .value) (t .rest) h (t .is) .few
-
-  pub part-rings : Accepted (readMany readRing (countOf (drop at frame)) (drop (at + 2) frame))
-  part-rings = let t = taken (readPart (drop at frame)) a in rw (part-at frame at (t .value) (t .rest) h (t .is) .rings)
-
   pub part-passed : (rings : Passed) → rings ≡ passedOf (length frame) (total ringRoom) (readMany readRing (countOf (drop at frame)) (drop (at + 2) frame))
       → passedOf (length frame) (partRoom coordinateBytes) (readPart (drop at frame)) ≡ record { room = 6 + 2 * countOf (drop at frame) + coordinateBytes * rings .room; next = rings .next }
   unfolding partRoom

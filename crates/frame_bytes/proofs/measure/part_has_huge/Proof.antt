@@ -8,7 +8,7 @@ use lib.ListN.{drop}
 use borrow.Author.Needs.{needs}
 use Rattle.rings.specs.Representable.{anyHuge}
 use Rattle.frame_bytes.specs.Frame.{countOf, coordsOf}
-use Rattle.frame_bytes.proofs.Rooms.{part-fits}
+use Rattle.frame_bytes.proofs.PartRings.{part-rings}
 use Rattle.frame_bytes.proofs.Measures.{HugeLeft, huge-start, huge-next, huge-end}
 use Rattle.frame_bytes.proofs.measure.part_has_huge.Statement.{statement}
 use Rattle.frame_bytes.proofs.measure.part_has_huge.Tie as tie
@@ -22,7 +22,7 @@ abbrev μ-loop : tie.MeasureT-loop
 count-at-requires : tie.Need-count-at-requires Inv-loop μ-loop
 count-at-requires c κs =
     let a = c .before in
-    part-fits (now (a .args .frame)) (a .args .at) (a .pre .0) (a .pre .1)
+    part-rings (now (a .args .frame)) (a .args .at) (a .pre .0) (a .pre .1) .whole
 
 add-next : tie.Need-add-next Inv-loop μ-loop
 add-next c = search needs

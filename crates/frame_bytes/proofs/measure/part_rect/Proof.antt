@@ -2,7 +2,7 @@
 use native.Mathlib.Omega.{arith}
 use denote.Ref.{now}
 use borrow.Author.Needs.{needs}
-use Rattle.frame_bytes.proofs.Rooms.{part-fits}
+use Rattle.frame_bytes.proofs.PartRings.{part-rings}
 use Rattle.frame_bytes.proofs.Measures.{RectLeft, rect-start, rect-next, rect-end}
 use Rattle.frame_bytes.proofs.measure.part_rect.Statement.{statement}
 use Rattle.frame_bytes.proofs.measure.part_rect.Tie as tie
@@ -16,7 +16,7 @@ abbrev μ-loop : tie.MeasureT-loop
 count-at-requires : tie.Need-count-at-requires Inv-loop μ-loop
 count-at-requires c κs =
     let a = c .before in
-    part-fits (now (a .args .frame)) (a .args .at) (a .pre .0) (a .pre .1)
+    part-rings (now (a .args .frame)) (a .args .at) (a .pre .0) (a .pre .1) .whole
 
 add-next : tie.Need-add-next Inv-loop μ-loop
 add-next c = search needs

@@ -6,14 +6,15 @@ use lib.ListN.{length, drop}
 use borrow.Author.Needs.{needs}
 use Rattle.rings.specs.Rings.{mostRings}
 use Rattle.frame_bytes.specs.Frame.{countOf}
-use Rattle.frame_bytes.proofs.Rooms.{part-fits, part-few, part-rings, part-passed, mostRing, rings-le}
+use Rattle.frame_bytes.proofs.PartRings.{part-rings}
+use Rattle.frame_bytes.proofs.Rooms.{part-passed, mostRing, rings-le}
 use Rattle.frame_bytes.proofs.room.part_room.Statement.{statement}
 use Rattle.frame_bytes.proofs.room.part_room.Tie as tie
 
 count-at-requires : tie.Need-count-at-requires
 count-at-requires c κs =
     let a = c .before in
-    omega (arith, part-fits (now (a .args .frame)) (a .args .at) (a .pre .0) (a .pre .1))
+    omega (arith, part-rings (now (a .args .frame)) (a .args .at) (a .pre .0) (a .pre .1) .whole)
 
 add-rings-room : tie.Need-add-rings-room
 add-rings-room c = search needs
@@ -22,8 +23,8 @@ rings-room-requires : tie.Need-rings-room-requires
 rings-room-requires c κs =
     let a = c .before .before in
     let n = c .count-at .ensures .0 in
-    let f = now (a .args .frame) in
-    (part-fits f (a .args .at) (a .pre .0) (a .pre .1), rw n (part-few f (a .args .at) (a .pre .0) (a .pre .1)), rw n (part-rings f (a .args .at) (a .pre .0) (a .pre .1)))
+    let p = part-rings (now (a .args .frame)) (a .args .at) (a .pre .0) (a .pre .1) in
+    (p .whole, rw n (p .few), rw n (p .accepted))
 
 mul-t5 : tie.Need-mul-t5
 mul-t5 c = search needs
@@ -37,8 +38,8 @@ few-rings c =
     let a = c .before .before .before .before in
     let n = c .before .before .count-at .ensures .0 in
     let f = now (a .args .frame) in
-    let few = part-few f (a .args .at) (a .pre .0) (a .pre .1) in
-    rw (c .before .rings-room .ensures, n) (omega (arith, rings-le (length f) (countOf (drop (a .args .at) f)) (drop (a .args .at + 2) f) (part-rings f (a .args .at) (a .pre .0) (a .pre .1))))
+    let p = part-rings f (a .args .at) (a .pre .0) (a .pre .1) in
+    rw (c .before .rings-room .ensures, n) (omega (arith, p .few, rings-le (length f) (countOf (drop (a .args .at) f)) (drop (a .args .at + 2) f) (p .accepted)))
 
 mul-t7 : tie.Need-mul-t7
 mul-t7 c = omega (arith, few-rings c)
