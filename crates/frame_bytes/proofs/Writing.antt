@@ -1,6 +1,6 @@
 -- The bytes of an answer in the output: how many each thing has, what is written in two steps, and one more coordinate of a ring written. Assumes nothing.
 use mathlib.Core.Path.{_≡_, refl, sym, _∙_}
-use mathlib.Core.List.{List, [], _∷_, _++_}
+use mathlib.Core.List.{List, [], _∷_, _++_, append-assoc}
 use Prim.Native.Nat.{ℕ, suc, _+_, _*_, _<_, _≤_}
 use native.Mathlib.Nat.{add-zero}
 use native.Mathlib.Numerals.{add-one}
@@ -24,6 +24,13 @@ sets-before d i [] r = rw (add-zero i)
 sets-before d i (x ∷ h) r =
     let n : i + suc (length h) ≡ suc i + length h = omega arith in
     rw (n, set-before d i (suc i + length h) x r (omega arith)) (sets-before (set d i x) (suc i) h r)
+
+-- ---- what is written of one list after another
+
+pub each-append : {A : Type 0} (f : A → List ℕ) (x y : List A) → each f (x ++ y) ≡ each f x ++ each f y
+unfolding each
+each-append f [] y = refl
+each-append f (a ∷ x) y = rw (each-append f x y) (sym (append-assoc (f a) (each f x) (each f y)))
 
 -- ---- lengths
 

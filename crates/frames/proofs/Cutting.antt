@@ -1,6 +1,6 @@
 -- Cutting the rings of a part one after the other, from the bytes of a frame: each is there and has room, and what is written with what is left to write is always the same. Assumes nothing.
 use mathlib.Core.Path.{_≡_, refl, sym, _∙_, ap}
-use mathlib.Core.List.{List, [], _∷_, _++_, append-assoc, append-nil}
+use mathlib.Core.List.{List, [], _∷_, _++_, append-nil}
 use Prim.Native.Nat.{ℕ, zero, suc, _+_, _*_, _-_, _<_, _≤_}
 use native.Mathlib.Omega.{arith}
 use lib.Ieee.{Float}
@@ -21,7 +21,7 @@ use Rattle.clip.proofs.Cuts.{hole-fits-room}
 use Rattle.frame_bytes.specs.Frame.{countOf, coordsOf, readMany, ringsFrom}
 use Rattle.frame_bytes.specs.Encoding.{each, coordBytes, ringBytes}
 use Rattle.frame_bytes.proofs.Coordinates.{length-coordsOf, decoded}
-use Rattle.frame_bytes.proofs.Writing.{length-ring}
+use Rattle.frame_bytes.proofs.Writing.{each-append, length-ring}
 use Rattle.frame_bytes.proofs.PartRings.{NextRing, next-ring}
 use Rattle.frames.specs.declared.part.Written.{Written}
 use Rattle.frames.specs.Part.{PutRings, Working, RingsRoom}
@@ -61,11 +61,6 @@ module _ (r : List Coord) (rs : List (List Coord)) (ring a b : ℕ) (w : Working
       )
 
 -- ---- what is written, and what is left to write
-
-pub each-append : {A : Type 0} (f : A → List ℕ) (x y : List A) → each f (x ++ y) ≡ each f x ++ each f y
-unfolding each
-each-append f [] y = refl
-each-append f (a ∷ x) y = rw (each-append f x y) (sym (append-assoc (f a) (each f x) (each f y)))
 
 pub unless-append : (c : List Coord) (l : List (List Coord)) → unlessNone c l ≡ unlessNone c [] ++ l
 unless-append [] l = refl

@@ -28,7 +28,7 @@ use Rattle.frame_bytes.specs.Encoding.{each, coordBytes, headerBytes}
 use Rattle.frame_bytes.specs.Measure.{frameRect, soundIfSimple}
 use Rattle.frame_bytes.proofs.Readings.{taken, many-length, frame-read}
 use Rattle.frame_bytes.proofs.Rooms.{mostPart, parts-le, frame-head, frame-few, frame-parts, call-read}
-use Rattle.frame_bytes.proofs.Writing.{length-header}
+use Rattle.frame_bytes.proofs.Writing.{each-append, length-header}
 use Rattle.frame_bytes.proofs.SimpleExteriors.{sound-part}
 use Rattle.frames.specs.declared.entry.FrameAnswer.the-variants.{Refused, Answered}
 use Rattle.frames.specs.Answer.{Part, Answer, Nothing, Unchanged, ofPolygon, routePart, listedBefore, listParts, ofParts, ifBox, ofMultipolygon, flagsIn, boundsIn, onlyPart, answerTo}
@@ -36,7 +36,6 @@ use Rattle.frames.specs.Output.{partBytes, answerBytes, frameBytes, outp
 use Rattle.frames.specs.Part.{PartRoom}
 use Rattle.frames.specs.Parts.{partsIn, partsFrom, ofListing, Answers}
 use Rattle.frames.specs.Entry.{answerOfReading, callAnswer, partsOf, answerRead, answerMeasured, unchangedAtOnce, PartsReady, Answerable, Cuttable}
-use Rattle.frames.proofs.Cutting.{each-append}
 use Rattle.frames.proofs.Listings.{routed-as, listed-append, routed-fits, listed-fits, NextPart, next-part, part-next, part-room}
 use Rattle.frames.proofs.Sizes.{parts-fit}
 

@@ -29,13 +29,13 @@ use Rattle.frame_bytes.specs.Encoding.{each, countBytes, coordBytes, headerByte
 use Rattle.frame_bytes.specs.Measure.{measuredOf}
 use Rattle.frame_bytes.proofs.Readings.{taken, part-reads}
 use Rattle.frame_bytes.proofs.Places.{step}
-use Rattle.frame_bytes.proofs.Writing.{sets-before, length-count, length-header, length-ring}
+use Rattle.frame_bytes.proofs.Writing.{sets-before, each-append, length-count, length-header, length-ring}
 use Rattle.frames.specs.declared.parts.Listing as L
 use Rattle.frames.specs.Answer.{Part, Answer, Nothing, Dropped, Unchanged, Listed, listedBefore, Listing, addPart, listParts, ofParts, ofPolygon, routePart}
 use Rattle.frames.specs.Output.{partBytes, answerBytes}
 use Rattle.frames.specs.Part.{writtenPart, partAnswer, PartRoom}
 use Rattle.frames.specs.Parts.{routePartAs, partsIn, partsFrom, unchangedBytes, withPart, Lists, listingOf, finishedHeader, finishedLength, polygonHeader, polygonLength, Answers, Few, Workable, PartsRoom}
-use Rattle.frames.proofs.Cutting.{unless-append, unless-bytes, each-append}
+use Rattle.frames.proofs.Cutting.{unless-append, unless-bytes}
 use Rattle.frames.proofs.CutParts.{overlay-length, part-bytes}
 
 -- ---- a part of a multipolygon, by its rectangle

@@ -1,10 +1,9 @@
 -- The rings of an accepted frame are short for its size, and where its rectangle is finite closing closes them all: so the working slices of a size have room for every part. Assumes nothing.
 use mathlib.Core.Path.{_≡_, refl, sym, _∙_, ap, subst}
-use mathlib.Core.Bool.{Bool, true, false, cond}
-use mathlib.Core.List.{List, [], _∷_}
+use mathlib.Core.Bool.{true}
+use mathlib.Core.List.{List, _∷_}
 use Prim.Native.Nat.{ℕ, zero, suc, _+_, _*_, _-_, _≤_}
 use native.Mathlib.Omega.{arith}
-use lib.Dec.{ltb}
 use lib.ListN.{length, drop}
 use Rattle.binary64.specs.Lists.{Every}
 use Rattle.tile.specs.declared.Coord.{Coord}
@@ -14,25 +13,14 @@ use Rattle.sutherland_hodgman.proofs.Growth.{B-mono}
 use Rattle.rings.specs.declared.rectangle.Rect.{Rect}
 use Rattle.rings.specs.declared.rectangle.Rect.the-variants as Rects
 use Rattle.rings.specs.Rectangle.{withRing, withRings, withParts}
-use Rattle.rings.specs.Rings.{larger, largest, allClosed}
-use Rattle.rings.proofs.Closing.{stays-rings, ring-closed}
+use Rattle.rings.specs.Rings.{largest, allClosed}
+use Rattle.rings.proofs.Closing.{stays-parts, ring-closed}
+use Rattle.rings.proofs.LentRings.{larger-most}
 use Rattle.frame_bytes.specs.Frame.{Accepted, mostInRing, countOf, coordsOf, readRing, readMany, readPart, ringsFrom, partAt}
 use Rattle.frame_bytes.proofs.Coordinates.{close-grows}
 use Rattle.frame_bytes.proofs.PartRings.{next-ring, part-rings}
 use Rattle.frames.specs.Parts.{Workable, partsFrom}
 use Rattle.frames.proofs.Listings.{nextPlace, next-part}
-
-larger-most : (m a b : ℕ) → a ≤ m → b ≤ m → larger a b ≤ m
-larger-most m a b ha hb = go (ltb a b)
-  where
-    go : (t : Bool) → cond t b a ≤ m
-    go true = hb
-    go false = ha
-
-stays-parts : (parts : List (List (List Coord))) → withParts Rects.NotFinite parts ≡ Rects.NotFinite
-unfolding withParts
-stays-parts [] = refl
-stays-parts (part ∷ parts) = rw (stays-rings part) (stays-parts parts)
 
 -- m coordinates, closed, are the most that a ring can have behind the head and two counts
 module _ (frame : List ℕ) (m : ℕ) (small : length frame ≤ 47 + 16 * m) where

@@ -17,7 +17,7 @@ use Rattle.tile.specs.Ring.{coords, same, closed, close}
 use Rattle.tile.proofs.Rings.{close-closes}
 use Rattle.rings.specs.declared.rectangle.Rect.{Rect}
 use Rattle.rings.specs.declared.rectangle.Rect.the-variants as R
-use Rattle.rings.specs.Rectangle.{ifFinite, isFiniteCoord, withCoord, withRing, withRings}
+use Rattle.rings.specs.Rectangle.{ifFinite, isFiniteCoord, withCoord, withRing, withRings, withParts}
 use Rattle.rings.specs.Representable.{hugeCoord, anyHuge}
 use Rattle.rings.specs.Rings.{closedRings, allClosed}
 
@@ -210,7 +210,8 @@ not-finite R.Nothing p e = rw e
 not-finite R.NotFinite p e = refl
 not-finite (R.Box w s e′ n) p e = rw e
 
-stays-ring : (c : List Coord) → withRing R.NotFinite c ≡ R.NotFinite
+-- a rectangle that is not finite stays so
+pub stays-ring : (c : List Coord) → withRing R.NotFinite c ≡ R.NotFinite
 unfolding withRing withCoord
 stays-ring [] = refl
 stays-ring (p ∷ c) = stays-ring c
@@ -219,6 +220,11 @@ pub stays-rings : (rings : List (List Coord)) → withRings R.NotFinite rings �
 unfolding withRings
 stays-rings [] = refl
 stays-rings (c ∷ rings) = rw (stays-ring c) (stays-rings rings)
+
+pub stays-parts : (parts : List (List (List Coord))) → withParts R.NotFinite parts ≡ R.NotFinite
+unfolding withParts
+stays-parts [] = refl
+stays-parts (part ∷ parts) = rw (stays-rings part) (stays-parts parts)
 
 pub ring-closed : (r : Rect) (c : List Coord) (rest : List (List Coord)) → (withRings (withRing r (close c)) rest ≡ R.NotFinite → ⊥) → closed (close c) ≡ true
 unfolding close closed withRing

@@ -76,6 +76,9 @@ larger-assoc a b c = omega (arith, larger-sum a (larger b c), larger-sum b c, la
 pub larger-least : (a b : ℕ) → (a ≤ larger a b) × (b ≤ larger a b)
 larger-least a b = let e = larger-sum a b in (omega arith, omega arith)
 
+pub larger-most : (m a b : ℕ) → a ≤ m → b ≤ m → larger a b ≤ m
+larger-most m a b ha hb = omega (arith, larger-sum a b)
+
 pub larger-none : (a : ℕ) → larger 0 a ≡ a
 larger-none a = omega (arith, larger-sum 0 a)
 

@@ -1,7 +1,7 @@
 -- The loop over a ring's coordinates: the rectangle so far, with what is left, is that of the whole; its four numbers are no NaN once a coordinate is in. Assumes nothing.
-use mathlib.Core.Path.{_≡_, refl, _∙_, subst}
+use mathlib.Core.Path.{_≡_, _∙_, subst}
 use mathlib.Core.Bool.{true, false}
-use mathlib.Core.List.{List, [], _∷_}
+use mathlib.Core.List.{List}
 use Prim.Native.Nat.{ℕ, _+_, _*_, _<_, _≤_}
 use native.Mathlib.Numerals.{add-one}
 use native.Mathlib.Omega.{arith}
@@ -31,11 +31,6 @@ ring-first r s n h l =
     let z : Coord = record { x = nan; y = nan } in
     let m = length-front s n h in
     ring-step r (coords (take (2 * n) s)) 0 z (omega arith) ∙ rw (front-at s n 0 z h l)
-
-pub not-finite-stays : (ring : List Coord) → withRing R.NotFinite ring ≡ R.NotFinite
-unfolding withRing withCoord
-not-finite-stays [] = refl
-not-finite-stays (p ∷ ps) = not-finite-stays ps
 
 -- ---- four numbers
 

@@ -10,7 +10,8 @@ use borrow.Author.Needs.{needs}
 use Rattle.rings.specs.declared.rectangle.Rect.{Rect}
 use Rattle.rings.specs.declared.rectangle.Rect.the-variants as Rects
 use Rattle.rings.specs.Rectangle.{isFiniteCoord, withCoord, withRing, Numbers}
-use Rattle.rings.proofs.Rectangles.{not-finite-stays, box-then, box-stop, box-numbers}
+use Rattle.rings.proofs.Closing.{stays-ring}
+use Rattle.rings.proofs.Rectangles.{box-then, box-stop, box-numbers}
 use Rattle.frame_bytes.specs.Frame.{coordOf, coordsOf}
 use Rattle.frame_bytes.proofs.Coordinates.{left, left-none}
 use Rattle.frame_bytes.proofs.Measures.{rect-one, rect-all}
@@ -44,7 +45,7 @@ returns c =
     let p = coordOf (drop (a .at + 16 * l .i) (now (a .frame))) in
     let stop : isFiniteCoord p ≡ false = sym (c .before .is-finite-at .ensures) ∙ not-true (c .before .is-finite-at .result) (c .if1 .taken) in
     let rest = left (now (a .frame)) (a .at) (a .count) (l .i + 1) in
-    sym (l .inv .1 ∙ rect-one (now (a .frame)) (a .at) (a .count) (l .i) _ (c .before .before .loop-test .taken) ∙ ap (λ (r : Rect). withRing r rest) (box-stop (l .west) (l .south) (l .east) (l .north) p stop) ∙ not-finite-stays rest)
+    sym (l .inv .1 ∙ rect-one (now (a .frame)) (a .at) (a .count) (l .i) _ (c .before .before .loop-test .taken) ∙ ap (λ (r : Rect). withRing r rest) (box-stop (l .west) (l .south) (l .east) (l .north) p stop) ∙ stays-ring rest)
 
 coord-at-requires : tie.Need-coord-at-requires Inv-loop μ-loop
 coord-at-requires c κs = omega (arith, c .before .before .loop-test .taken, c .before .before .before .before .before .pre .1)

@@ -7,8 +7,8 @@ use lib.ListN.{drop}
 use borrow.Author.Needs.{needs}
 use Rattle.rings.specs.declared.rectangle.Rect.{Rect}
 use Rattle.rings.specs.Rectangle.{withCoord, withRing}
-use Rattle.rings.proofs.Closing.{Holds, holds-new}
-use Rattle.rings.proofs.Rectangles.{not-finite-stays, corners-numbers}
+use Rattle.rings.proofs.Closing.{Holds, holds-new, stays-ring}
+use Rattle.rings.proofs.Rectangles.{corners-numbers}
 use Rattle.frame_bytes.specs.Frame.{coordsOf}
 use Rattle.frame_bytes.proofs.Measures.{rect-first, rect-none}
 use Rattle.frame_bytes.proofs.measure.with_coords.Statement.{statement}
@@ -56,7 +56,7 @@ returns-3 c =
     let a = c .before .before .before .before .before .before .args in
     let rest = coordsOf (a .n - 1) (drop (a .at + 16) (now (a .frame))) in
     let first = ap (withCoord (a .rect)) (sym (c .before .before .before .coord-at .ensures)) ∙ sym (c .before .before .with-coord .ensures) in
-    sym (rect-first (now (a .frame)) (a .at) (a .n) (a .rect) (omega (arith, c .before .before .before .before .if1 .left)) ∙ ap (λ (r : Rect). withRing r rest) (first ∙ c .enum-told2 .given .1) ∙ not-finite-stays rest)
+    sym (rect-first (now (a .frame)) (a .at) (a .n) (a .rect) (omega (arith, c .before .before .before .before .if1 .left)) ∙ ap (λ (r : Rect). withRing r rest) (first ∙ c .enum-told2 .given .1) ∙ stays-ring rest)
 
 returns-4 : tie.Need-returns-4
 returns-4 c =

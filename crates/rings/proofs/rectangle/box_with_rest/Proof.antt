@@ -14,7 +14,8 @@ use Rattle.tile.proofs.Rings.{length-front, front-at}
 use Rattle.rings.specs.declared.rectangle.Rect.{Rect}
 use Rattle.rings.specs.declared.rectangle.Rect.the-variants as R
 use Rattle.rings.specs.Rectangle.{isFiniteCoord, withCoord, withRing, Numbers}
-use Rattle.rings.proofs.Rectangles.{ring-step, ring-end, not-finite-stays, box-then, box-stop, box-numbers}
+use Rattle.rings.proofs.Closing.{stays-ring}
+use Rattle.rings.proofs.Rectangles.{ring-step, ring-end, box-then, box-stop, box-numbers}
 use Rattle.rings.proofs.rectangle.box_with_rest.Statement.{statement}
 use Rattle.rings.proofs.rectangle.box_with_rest.Tie as tie
 
@@ -51,7 +52,7 @@ returns c =
     let stop : isFiniteCoord p ≡ false = sym (c .before .is-finite-coord .ensures) ∙ not-true (c .before .is-finite-coord .result) (c .if1 .taken) in
     let q : withCoord (R.Box (l .west) (l .south) (l .east) (l .north)) (getD (coords (take (2 * n) s)) (l .i) none) ≡ R.NotFinite = rw f (box-stop (l .west) (l .south) (l .east) (l .north) p stop) in
     let rest = drop (l .i + 1) (coords (take (2 * n) s)) in
-    sym (l .inv .1 ∙ ring-step (R.Box (l .west) (l .south) (l .east) (l .north)) (coords (take (2 * n) s)) (l .i) none (omega arith) ∙ ap (λ (r : Rect). withRing r rest) q ∙ not-finite-stays rest)
+    sym (l .inv .1 ∙ ring-step (R.Box (l .west) (l .south) (l .east) (l .north)) (coords (take (2 * n) s)) (l .i) none (omega arith) ∙ ap (λ (r : Rect). withRing r rest) q ∙ stays-ring rest)
 
 smaller-requires : tie.Need-smaller-requires Inv-loop μ-loop
 smaller-requires c κs = c .before .before .before .before .loop .inv .0 .west

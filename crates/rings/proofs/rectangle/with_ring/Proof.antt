@@ -9,8 +9,8 @@ use Rattle.tile.specs.Ring.{coords}
 use Rattle.tile.proofs.Rings.{length-front}
 use Rattle.rings.specs.declared.rectangle.Rect.{Rect}
 use Rattle.rings.specs.Rectangle.{withCoord, withRing}
-use Rattle.rings.proofs.Closing.{Holds, holds-new}
-use Rattle.rings.proofs.Rectangles.{ring-first, ring-end, not-finite-stays, corners-numbers}
+use Rattle.rings.proofs.Closing.{Holds, holds-new, stays-ring}
+use Rattle.rings.proofs.Rectangles.{ring-first, ring-end, corners-numbers}
 use Rattle.rings.proofs.rectangle.with_ring.Statement.{statement}
 use Rattle.rings.proofs.rectangle.with_ring.Tie as tie
 
@@ -55,7 +55,7 @@ returns-3 c =
     let s = now (a .args .ring) in
     let rest = drop 1 (coords (take (2 * a .args .n) s)) in
     let first = ap (withCoord (a .args .r)) (sym (w .before .coord-at .ensures)) ∙ sym (w .with-coord .ensures) in
-    sym (ring-first (a .args .r) s (a .args .n) (a .pre) (omega (arith, w .before .before .if1 .left)) ∙ ap (λ (r : Rect). withRing r rest) (first ∙ c .enum-told2 .given .1) ∙ not-finite-stays rest)
+    sym (ring-first (a .args .r) s (a .args .n) (a .pre) (omega (arith, w .before .before .if1 .left)) ∙ ap (λ (r : Rect). withRing r rest) (first ∙ c .enum-told2 .given .1) ∙ stays-ring rest)
 
 returns-4 : tie.Need-returns-4
 returns-4 c =
