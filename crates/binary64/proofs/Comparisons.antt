@@ -1,6 +1,7 @@
 -- What the tests of the code say of NaN, of finiteness and of magnitude. Assumes nothing.
 use mathlib.Core.Path.{_≡_, refl, sym, _∙_, subst}
-use mathlib.Core.Bool.{Bool, true, false, _&&_, _||_}
+use mathlib.Core.Bool.{true, false, _&&_, _||_, and-true, and-false, or-false}
+use mathlib.Mathlib.Data.Bool.Basic.{eq-false-of-not-eq-true}
 use Prim.Native.Nat.{ℕ, zero, suc, _+_, _*_, _<_}
 use native.Mathlib.Nat.{mul-pos, zero-lt-suc}
 use native.Mathlib.Decide.{ℕ-discrete}
@@ -20,14 +21,10 @@ unfolding ne eq isNan
 ne-self nan = refl
 ne-self (inf true) = refl
 ne-self (inf false) = refl
-ne-self (fin s m e) = not-true (ne (fin s m e) (fin s m e)) (λ t.
+ne-self (fin s m e) = eq-false-of-not-eq-true (λ t.
     let q : fin s m e ≡ nan = differs-from-itself (fin s m e) (subst T (sym t) tt) in
     let z : _≡_ {A = ℕ} 0 1 = cc in
     omega arith)
-  where
-    not-true : (b : Bool) → (b ≡ true → ⊥) → b ≡ false
-    not-true true h = absurd (h refl)
-    not-true false h = refl
 
 pub finite-test : (x : Float) → lt x (inf false) && lt (inf true) x ≡ finite x
 unfolding lt
@@ -37,14 +34,6 @@ finite-test (inf false) = refl
 finite-test (fin s m e) = refl
 
 -- ---- a magnitude compared with a number t above 0, as two comparisons of the number itself with t and -t
-
-and-true : (b : Bool) → b && true ≡ b
-and-true true = refl
-and-true false = refl
-
-or-false : (b : Bool) → b || false ≡ b
-or-false true = refl
-or-false false = refl
 
 eqb-comm : (a b : ℕ) → eqb a b ≡ eqb b a
 eqb-comm a b =
@@ -60,10 +49,6 @@ above-zero m e d = mul-pos (mul-pos (zero-lt-suc m) (up-pos e)) (down-pos d)
 not-level : (a b : ℕ) → 0 < b → eqb a b && eqb a 0 ≡ false
 not-level zero b h = rw (ne-eqb 0 b (λ q. omega arith))
 not-level (suc a) b h = rw (ne-eqb (suc a) 0 (λ q. omega arith)) (and-false (eqb (suc a) b))
-  where
-    and-false : (c : Bool) → c && false ≡ false
-    and-false true = refl
-    and-false false = refl
 
 pub magnitude-below : (m : ℕ) (e : ℤ) (x : Float) → lt x (fin false (suc m) e) && lt (fin true (suc m) e) x ≡ lt (magnitude x) (fin false (suc m) e)
 unfolding lt magnitude
@@ -81,11 +66,7 @@ magnitude-reaches m e (inf false) = refl
 magnitude-reaches m e (fin false n d) = rw (not-level (n * up d * down e) (suc m * up e * down d) (above-zero m e d)) (or-false _)
 magnitude-reaches m e (fin true n d) =
     let b = suc m * up e * down d in
-    rw (ne-eqb b 0 (λ q. omega (arith, above-zero m e d)), eqb-comm (n * up d * down e) b) (under (eqb b (n * up d * down e)) _)
-  where
-    under : (p q : Bool) → p && false || q ≡ q
-    under true q = refl
-    under false q = refl
+    rw (ne-eqb b 0 (λ q. omega (arith, above-zero m e d)), eqb-comm (n * up d * down e) b, and-false (eqb b (n * up d * down e)))
 
 -- ---- 1e-10 and 1e150, as the code's literals have them
 

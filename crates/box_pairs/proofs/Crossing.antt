@@ -1,29 +1,13 @@
 -- Laws of the crossing test: symmetric, not between boxes that are apart, not where a coordinate is NaN. Nothing above this file unfolds `cross`. Assumes nothing.
 use mathlib.Core.Path.{_≡_, refl, sym, _∙_}
-use mathlib.Core.Bool.{Bool, true, false, not, _&&_, _||_, cond, true≢false, false≢true}
+use mathlib.Core.Bool.{Bool, true, false, not, _||_, cond, and-true, and-false, or-false, and-comm, or-comm}
+use mathlib.Mathlib.Data.Bool.Basic.{eq-false-of-not-eq-true}
 use lib.Ieee.{Float, binary64, isNan, lt, sub, mul}
 use Rattle.binary64.specs.Compare.{minimum, maximum}
+use Rattle.binary64.proofs.Booleans.{both, never-both}
 use Rattle.binary64.proofs.FloatOrder.{lt-not-above, lt-left, lt-right, lt-asym, sub-numbers, mul-numbers, ends, ends-order, ends-low, ends-high}
 use Rattle.tile.specs.declared.Coord.{Coord}
 use Rattle.box_pairs.specs.Cross.{crossProductSign, zero64, aboveBelow, splits, intersectProperly, short, apartOn, apart, cross, lower, higher, separate}
-
--- ---- of flags
-
-and-no : (a : Bool) → (a && false) ≡ false
-and-no true = refl
-and-no false = refl
-
-or-comm : (a b : Bool) → (a || b) ≡ (b || a)
-or-comm true true = refl
-or-comm true false = refl
-or-comm false true = refl
-or-comm false false = refl
-
-and-comm : (a b : Bool) → (a && b) ≡ (b && a)
-and-comm true true = refl
-and-comm true false = refl
-and-comm false true = refl
-and-comm false false = refl
 
 -- ---- symmetric
 
@@ -63,11 +47,6 @@ unfolding aboveBelow
 above-numbers d e h =
     let t = both (lt zero64 d) (lt e zero64) h in
     (lt-right zero64 d (t .0), lt-left e zero64 (t .1))
-  where
-    both : (p q : Bool) → (p && q) ≡ true → (p ≡ true) × (q ≡ true)
-    both true true g = (refl, refl)
-    both true false g = absurd (false≢true g)
-    both false q g = absurd (false≢true g)
 
 sides-numbers : (d e : Float) → (aboveBelow d e || aboveBelow e d) ≡ true → (isNan d ≡ false) × (isNan e ≡ false)
 sides-numbers d e h = go (aboveBelow d e) refl
@@ -88,9 +67,9 @@ record Sides (a b c : Coord) : Type 0 where
 product-numbers : (a b c : Coord) → isNan (crossProductSign a b c) ≡ false → Sides a b c
 unfolding crossProductSign
 product-numbers a b c h =
-    let both = sub-numbers (mul binary64 (sub binary64 (b .x) (a .x)) (sub binary64 (c .y) (a .y))) (mul binary64 (sub binary64 (b .y) (a .y)) (sub binary64 (c .x) (a .x))) h in
-    let one = mul-numbers (sub binary64 (b .x) (a .x)) (sub binary64 (c .y) (a .y)) (both .0) in
-    let two = mul-numbers (sub binary64 (b .y) (a .y)) (sub binary64 (c .x) (a .x)) (both .1) in
+    let terms = sub-numbers (mul binary64 (sub binary64 (b .x) (a .x)) (sub binary64 (c .y) (a .y))) (mul binary64 (sub binary64 (b .y) (a .y)) (sub binary64 (c .x) (a .x))) h in
+    let one = mul-numbers (sub binary64 (b .x) (a .x)) (sub binary64 (c .y) (a .y)) (terms .0) in
+    let two = mul-numbers (sub binary64 (b .y) (a .y)) (sub binary64 (c .x) (a .x)) (terms .1) in
     let x = sub-numbers (b .x) (a .x) (one .0) in
     let y = sub-numbers (c .y) (a .y) (one .1) in
     let z = sub-numbers (b .y) (a .y) (two .0) in
@@ -105,21 +84,9 @@ splits-numbers a b c d h =
     let q = product-numbers a b d (n .1) in
     (record { first = p .ax; second = p .bx; third = p .cx; fourth = q .cx }, record { first = p .ay; second = p .by; third = p .cy; fourth = q .cy })
 
--- a flag that is not true
-pub refuted : (b : Bool) → (b ≡ true → ⊥) → b ≡ false
-refuted true h = absurd (h refl)
-refuted false h = refl
-
-pub never-both : {b : Bool} → b ≡ true → b ≡ false → ⊥
-never-both t f = true≢false (sym t ∙ f)
-
 properly-numbers : (a1 a2 b1 b2 : Coord) → intersectProperly a1 a2 b1 b2 ≡ true → NoNan (a1 .x) (a2 .x) (b1 .x) (b2 .x) × NoNan (a1 .y) (a2 .y) (b1 .y) (b2 .y)
 unfolding intersectProperly
-properly-numbers a1 a2 b1 b2 h = splits-numbers a1 a2 b1 b2 (second (splits b1 b2 a1 a2) (splits a1 a2 b1 b2) h)
-  where
-    second : (p q : Bool) → (p && q) ≡ true → q ≡ true
-    second true q g = g
-    second false q g = absurd (false≢true g)
+properly-numbers a1 a2 b1 b2 h = splits-numbers a1 a2 b1 b2 (both (splits b1 b2 a1 a2) (splits a1 a2 b1 b2) h .1)
 
 -- ---- the boxes of numbers, by one comparison
 
@@ -128,24 +95,20 @@ spread : (la ha lb hb : Float) → isNan la ≡ false → isNan lb ≡ false →
 unfolding lower higher
 spread la ha lb hb na nb nh oa ob = go (lt ha hb) refl (lt lb la) refl
   where
-    or-no : (b : Bool) → (b || false) ≡ b
-    or-no true = refl
-    or-no false = refl
-
     go : (p : Bool) → lt ha hb ≡ p → (q : Bool) → lt lb la ≡ q → lt (cond (lt ha hb) ha hb) (cond (lt lb la) la lb) ≡ lt ha lb || lt hb la
     go true p true q =
-        let x : lt ha lb ≡ false = refuted (lt ha lb) (λ e. never-both (lt-not-above ha lb la na e (lt-asym lb la q)) oa) in
-        let y : lt hb la ≡ false = refuted (lt hb la) (λ e. never-both (lt-not-above ha hb la na p (lt-asym hb la e)) oa) in
+        let x : lt ha lb ≡ false = eq-false-of-not-eq-true (λ e. never-both (lt-not-above ha lb la na e (lt-asym lb la q)) oa) in
+        let y : lt hb la ≡ false = eq-false-of-not-eq-true (λ e. never-both (lt-not-above ha hb la na p (lt-asym hb la e)) oa) in
         rw (p, q, oa, x, y)
     go true p false q =
-        let y : lt hb la ≡ false = refuted (lt hb la) (λ e. never-both (lt-not-above hb la lb nb e q) ob) in
-        rw (p, q, y) (sym (or-no (lt ha lb)))
+        let y : lt hb la ≡ false = eq-false-of-not-eq-true (λ e. never-both (lt-not-above hb la lb nb e q) ob) in
+        rw (p, q, y) (sym (or-false (lt ha lb)))
     go false p true q =
-        let x : lt ha lb ≡ false = refuted (lt ha lb) (λ e. never-both (lt-not-above ha lb hb nh e ob) p) in
+        let x : lt ha lb ≡ false = eq-false-of-not-eq-true (λ e. never-both (lt-not-above ha lb hb nh e ob) p) in
         rw (p, q, x)
     go false p false q =
-        let x : lt ha lb ≡ false = refuted (lt ha lb) (λ e. never-both (lt-not-above ha lb hb nh e ob) p) in
-        let y : lt hb la ≡ false = refuted (lt hb la) (λ e. never-both (lt-not-above hb la lb nb e q) ob) in
+        let x : lt ha lb ≡ false = eq-false-of-not-eq-true (λ e. never-both (lt-not-above ha lb hb nh e ob) p) in
+        let y : lt hb la ≡ false = eq-false-of-not-eq-true (λ e. never-both (lt-not-above hb la lb nb e q) ob) in
         rw (p, q, ob, x, y)
 
 -- the lower and the higher of two are `minimum` and `maximum`, where the first is no NaN
@@ -185,7 +148,7 @@ separate-apart a1 a2 b1 b2 n =
 
 pub not-properly : (a1 a2 b1 b2 : Coord) → intersectProperly a1 a2 b1 b2 ≡ false → cross a1 a2 b1 b2 ≡ false
 unfolding cross
-not-properly a1 a2 b1 b2 h = rw (h, and-no (not (short a1 a2 || short b1 b2))) (and-no (not (apart a1 a2 b1 b2)))
+not-properly a1 a2 b1 b2 h = rw (h, and-false (not (short a1 a2 || short b1 b2))) (and-false (not (apart a1 a2 b1 b2)))
 
 -- edges that the comparison finds apart in an axis do not cross
 pub apart-x : (a1 a2 b1 b2 : Coord) → separate (a1 .x) (a2 .x) (b1 .x) (b2 .x) ≡ true → cross a1 a2 b1 b2 ≡ false
@@ -217,11 +180,7 @@ cross-properly a1 a2 b1 b2 e hx hy =
     let n = properly-numbers a1 a2 b1 b2 e in
     let x : apartOn (a1 .x) (a2 .x) (b1 .x) (b2 .x) ≡ false = sym (separate-apart (a1 .x) (a2 .x) (b1 .x) (b2 .x) (n .0)) ∙ hx in
     let y : apartOn (a1 .y) (a2 .y) (b1 .y) (b2 .y) ≡ false = sym (separate-apart (a1 .y) (a2 .y) (b1 .y) (b2 .y) (n .1)) ∙ hy in
-    rw (x, y, e) (and-yes (not (short a1 a2 || short b1 b2)))
-  where
-    and-yes : (b : Bool) → (b && true) ≡ b
-    and-yes true = refl
-    and-yes false = refl
+    rw (x, y, e) (and-true (not (short a1 a2 || short b1 b2)))
 
 -- "no crossing where a coordinate is NaN": edges that cross hold numbers only
 pub cross-numbers : (a1 a2 b1 b2 : Coord) → cross a1 a2 b1 b2 ≡ true → NoNan (a1 .x) (a2 .x) (b1 .x) (b2 .x) × NoNan (a1 .y) (a2 .y) (b1 .y) (b2 .y)

@@ -1,6 +1,7 @@
 -- The edges of the ring at the front of a slice: the sweep's law holds of their crossings, by their lowest x in the total order. Assumes nothing.
 use mathlib.Core.Path.{_≡_, refl, sym, ap, ap₂, subst, _∙_}
 use mathlib.Core.Bool.{Bool, true, false}
+use mathlib.Mathlib.Data.Bool.Basic.{eq-false-of-not-eq-true}
 use mathlib.Core.List.{List}
 use Prim.Native.Nat.{ℕ, _+_, _*_, _-_, _≤_, _<_}
 use native.Mathlib.Omega.{arith}
@@ -12,6 +13,7 @@ use lib.Seq.{getD-set-same, getD-set-other, drop-set-lt, drop-drop, getD-take}
 use native.Mathlib.Decide.{ℕ-discrete}
 use Rattle.binary64.specs.Compare.{minimum, maximum}
 use Rattle.binary64.specs.TotalOrder.{key}
+use Rattle.binary64.proofs.Booleans.{never-both}
 use Rattle.binary64.proofs.KeyOrder.{key-order}
 use Rattle.binary64.proofs.FloatOrder.{lt-not-above, ends, ends-low}
 use Rattle.tile.specs.declared.Coord.{Coord}
@@ -21,7 +23,7 @@ use Rattle.box_pairs.specs.Cross.{cross}
 use Rattle.box_pairs.specs.Sort.{keyAt, Kept, Sorted}
 use Rattle.box_pairs.specs.Pairs.{front, at, edgesCross, anyBelow, anyPair, selfIntersecting, edgesAt, mayMeetInY, lowX, Noted, Swept}
 use Rattle.box_pairs.specs.Issue.{Unused}
-use Rattle.box_pairs.proofs.Crossing.{cross-mirror, cross-numbers, apart-left, apart-y, minimum-is-number, refuted, never-both}
+use Rattle.box_pairs.proofs.Crossing.{cross-mirror, cross-numbers, apart-left, apart-y, minimum-is-number}
 use Rattle.box_pairs.proofs.Sweep.{Sweeps}
 
 -- the highest x of an edge
@@ -67,7 +69,7 @@ stops r i j = lt (highX r i) (lowX r j)
 -- edges that cross hold numbers, and the one does not start past the other's end
 past-end : (r : List Coord) (i j l : ℕ) → T (fits binary64 (lowX r j)) → T (fits binary64 (lowX r l)) → key (lowX r j) ≤ key (lowX r l) → stops r i j ≡ true → edgesCross r i l ≡ false
 unfolding edgesCross lowX highX
-past-end r i j l fj fl k s = refuted (edgesCross r i l) (λ e.
+past-end r i j l fj fl k s = eq-false-of-not-eq-true (λ e.
     let n = cross-numbers (at r i) (at r (i + 1)) (at r l) (at r (l + 1)) e .0 in
     let number : isNan (lowX r l) ≡ false = minimum-is-number (at r l .x) (at r (l + 1) .x) (n .third) (n .fourth) in
     let beyond : lt (highX r i) (lowX r l) ≡ true = lt-not-above (highX r i) (lowX r j) (lowX r l) number s (key-order (lowX r j) (lowX r l) fj fl k) in

@@ -1,6 +1,6 @@
 -- The frame call: a frame that is read has room for its parts, its answer is the one that its rectangle leads to, and the answer's bytes fit the output. Assumes nothing.
 use mathlib.Core.Path.{_≡_, refl, sym, _∙_, ap, subst}
-use mathlib.Core.Bool.{Bool, true, false, not, cond, _&&_, true≢false}
+use mathlib.Core.Bool.{Bool, true, false, not, cond, _&&_, and-true, true≢false}
 use mathlib.Core.List.{List, [], _∷_}
 use Prim.Native.Nat.{ℕ, suc, _+_, _*_, _≤_}
 use native.Mathlib.Omega.{arith}
@@ -233,15 +233,11 @@ module _ (frame : List ℕ) (head : Head) (out : ℕ) (c : Cuttable frame head o
   pub measured : intersectsBounds rect b ≡ true → unchangedAtOnce head rect b parts ≡ false → answerRead (readFrame frame) ≡ answerMeasured head rect b parts
   measured i j = go (eqb (head .kind) polygon) refl
     where
-      inside-not : (t : Bool) → (t && true) ≡ false → t ≡ false
-      inside-not true e = e
-      inside-not false e = refl
-
       go : (t : Bool) → eqb (head .kind) polygon ≡ t → answerRead (readFrame frame) ≡ answerMeasured head rect b parts
       go true k = of-polygon k ∙ rw k
       go false k =
           let u : (isFullyInside rect b && true) ≡ false = rw (other-kinds false k) at j in
-          of-multipolygon k ∙ rw (i, inside-not (isFullyInside rect b) u, k)
+          of-multipolygon k ∙ rw (i, sym (and-true (isFullyInside rect b)) ∙ u, k)
 
 -- ---- the answer's bytes have room
 

@@ -3,7 +3,7 @@ use mathlib.Core.Path.{_≡_, refl, sym, _∙_, ap}
 use mathlib.Core.Bool.{Bool, true, false, not, cond, true≢false}
 use mathlib.Core.List.{List, [], _∷_, _++_, append-nil}
 use Prim.Native.Nat.{ℕ, zero, suc, _+_, _≤_, _<_}
-use native.Mathlib.Nat.{sub-zero}
+use native.Mathlib.Nat.{sub-zero, pos-of-ne-zero}
 use native.Mathlib.Numerals.{add-one}
 use native.Mathlib.Omega.{arith}
 use lib.Dec.{eqb, leb}
@@ -147,11 +147,7 @@ some-kept (suc n) (b ∷ kept) h k = refl
 
 pub ends-begun : (line : Line) (kept : List ℕ) → length kept ≡ longest → notBegun line ≡ false → endOfInput (stateOf line kept) ≡ endLine (stateOf line kept)
 ends-begun Held.NotDigits kept h e = refl
-ends-begun (Held.Whole n) kept h e = some-kept n kept (positive n (eqb-false n 0 e)) (omega arith)
-  where
-    positive : (n : ℕ) → (n ≡ 0 → ⊥) → 0 < n
-    positive zero f = absurd (f refl)
-    positive (suc n) f = omega arith
+ends-begun (Held.Whole n) kept h e = some-kept n kept (pos-of-ne-zero (eqb-false n 0 e)) (omega arith)
 ends-begun (Held.Half n high) kept h e = refl
 ends-begun (Held.Long odd) kept h e = refl
 

@@ -1,6 +1,6 @@
 -- The room that the calls on edges test is the room that `box_pairs` asks for. Assumes nothing.
-use mathlib.Core.Path.{_≡_, refl, subst}
-use mathlib.Core.Bool.{Bool, true, false, _&&_, false≢true}
+use mathlib.Core.Path.{_≡_, subst}
+use mathlib.Core.Bool.{Bool, true, _&&_}
 use mathlib.Core.List.{List}
 use Prim.Native.Nat.{ℕ, _+_, _-_, _/_, _^_}
 use native.Mathlib.Omega.{arith}
@@ -8,14 +8,10 @@ use lib.Dec.{leb, ltb}
 use lib.Ieee.{Float}
 use lib.ListN.{length}
 use borrow.Author.Tests.{leb-true, ltb-true}
+use Rattle.binary64.proofs.Booleans.{both}
 use Rattle.box_pairs.specs.Pairs.{front, selfIntersecting}
 use Rattle.box_pairs.specs.Issue.{IssueRoom}
 use Rattle.probe.specs.Edges.{hasRoom, flagCode}
-
-both : (p q : Bool) → (p && q) ≡ true → (p ≡ true) × (q ≡ true)
-both true true g = (refl, refl)
-both true false g = absurd (false≢true g)
-both false q g = absurd (false≢true g)
 
 pub room-of : (ring work : List Float) (order : List ℕ) → hasRoom (length ring / 2) work order ≡ true → IssueRoom (length ring / 2) ring work order
 unfolding hasRoom

@@ -1,6 +1,6 @@
 -- Closing a ring changes neither the rectangle nor whether a coordinate is huge, and a rectangle that is finite says that every ring could be closed. Assumes nothing.
 use mathlib.Core.Path.{_≡_, refl, sym, _∙_}
-use mathlib.Core.Bool.{Bool, true, false, cond, _||_, true≢false}
+use mathlib.Core.Bool.{Bool, true, false, cond, _||_, or-assoc, or-false, true≢false}
 use mathlib.Core.List.{List, [], _∷_, _++_}
 use Prim.Native.Nat.{ℕ, _*_}
 use native.Mathlib.Omega.{arith}
@@ -168,14 +168,6 @@ rect-close r (p ∷ c) = go (closed (p ∷ c))
 
 -- ---- huge coordinates
 
-or-assoc : (s t u : Bool) → (s || (t || u)) ≡ ((s || t) || u)
-or-assoc true t u = refl
-or-assoc false t u = refl
-
-or-false : (s : Bool) → (s || false) ≡ s
-or-false true = refl
-or-false false = refl
-
 or-again : (s t : Bool) → ((s || t) || s) ≡ (s || t)
 or-again true t = refl
 or-again false t = or-false t
@@ -183,7 +175,7 @@ or-again false t = or-false t
 huge-append : (c : List Coord) (p : Coord) → anyHuge (c ++ (p ∷ [])) ≡ (anyHuge c || hugeCoord p)
 unfolding anyHuge
 huge-append [] p = or-false (hugeCoord p)
-huge-append (q ∷ c) p = rw (huge-append c p) (or-assoc (hugeCoord q) (anyHuge c) (hugeCoord p))
+huge-append (q ∷ c) p = rw (huge-append c p) (sym (or-assoc (hugeCoord q) (anyHuge c) (hugeCoord p)))
 
 pub huge-close : (c : List Coord) → anyHuge (close c) ≡ anyHuge c
 unfolding close anyHuge

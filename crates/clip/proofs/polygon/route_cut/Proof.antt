@@ -1,8 +1,8 @@
 -- `route_cut` meets its contract: nothing is left, or what is left is judged. Assumes nothing.
+use native.Mathlib.Nat.{pos-of-ne-zero}
 use native.Mathlib.Omega.{arith}
 use denote.Ref.{now}
-use mathlib.Core.Path.{_≡_}
-use Prim.Native.Nat.{ℕ, _*_, _<_}
+use Prim.Native.Nat.{_*_}
 use lib.ListN.{take}
 use borrow.Author.Needs.{needs}
 use Rattle.tile.specs.Ring.{coords, close}
@@ -11,9 +11,6 @@ use Rattle.clip.specs.Polygon.{routeCut}
 use Rattle.clip.proofs.Cuts.{cutter-room, cut-count, cut-fits, closed-written, closed-fits, closed-some, written-stands, written-front, judged-route, judged-stands}
 use Rattle.clip.proofs.polygon.route_cut.Statement.{statement}
 use Rattle.clip.proofs.polygon.route_cut.Tie as tie
-
-some : {n : ℕ} → (n ≡ 0 → ⊥) → 0 < n
-some h = omega arith
 
 clip-ring-requires : tie.Need-clip-ring-requires
 clip-ring-requires c κs = let a = c .before .before .before .before .before .before in cutter-room (a .args .n) (now (a .args .ring)) _ _ (a .pre .room)
@@ -62,7 +59,7 @@ returns-2 : tie.Need-returns-2
 returns-2 c =
     let a = c .before .before .before .before .before .before .before .before .before .before .before .before .before .before .before .before .before .before .before .before .before .before .before .before .before .before in
     let cut = c .before .before .before .before .before .before .before .before .before .before .before .before .before .before .before .before .before .before .before .clip-ring .ensures in
-    let h = some (c .before .before .before .before .before .before .before .before .before .before .before .before .before .before .if1 .left) in
+    let h = pos-of-ne-zero (c .before .before .before .before .before .before .before .before .before .before .before .before .before .before .if1 .left) in
     let ring = close (coords (take (2 * a .args .n) (now (a .args .ring)))) in
     let w = closed-written (a .args .n) (now (a .args .ring)) _ _ (a .pre .room) (a .args .bounds) _ _ cut _ _ (c .before .before .before .before .before .before .before .before .before .before .before .before .close .ensures) in
     let is = c .judge-cut .ensures in

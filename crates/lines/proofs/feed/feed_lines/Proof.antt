@@ -1,6 +1,7 @@
 -- `feed_lines` meets its contract. The invariant: what the characters so far print waits in the output. Assumes nothing.
 use mathlib.Core.Path.{_≡_, refl}
-use Prim.Native.Nat.{ℕ, zero, suc, _-_, _≤_, _<_}
+use Prim.Native.Nat.{_-_, _≤_}
+use native.Mathlib.Nat.{pos-of-ne-zero}
 use native.Mathlib.Omega.{arith}
 use denote.Ref.{now}
 use lib.ListN.{length, take, length-drop}
@@ -17,10 +18,6 @@ Inv-loop block kept₀ out₀ known₀ from₀ waiting₀ kept out known from wa
 
 abbrev μ-loop : tie.MeasureT-loop
 μ-loop block kept₀ out₀ known₀ from₀ waiting₀ kept out known from waiting = length block - from
-
-positive : (n : ℕ) → (n ≡ 0 → ⊥) → 0 < n
-positive zero f = absurd (f refl)
-positive (suc n) f = omega arith
 
 loop-holds : tie.Need-loop-holds Inv-loop μ-loop
 loop-holds c =
@@ -39,7 +36,7 @@ same-length-2 c = search needs
 returns : tie.Need-returns Inv-loop μ-loop
 returns c =
     let l = c .before .before .loop in
-    record { within = l .inv .3; prints = l .inv .4; stops = λ _. omega arith; some = λ _. positive (l .from) (λ e. let none = l .inv .2 e in omega (arith, none)); free = l .inv .0 }
+    record { within = l .inv .3; prints = l .inv .4; stops = λ _. omega arith; some = λ _. pos-of-ne-zero (λ e. let none = l .inv .2 e in omega (arith, none)); free = l .inv .0 }
 
 feed-from-requires : tie.Need-feed-from-requires Inv-loop μ-loop
 feed-from-requires c κs = search needs
