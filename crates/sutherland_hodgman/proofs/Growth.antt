@@ -13,7 +13,7 @@ use Rattle.tile.specs.declared.TileBounds.{TileBounds}
 use Rattle.tile.specs.declared.Edge.{Edge}
 use Rattle.tile.specs.declared.Edge.the-variants.{Left, Right, Bottom, Top}
 use Rattle.tile.specs.Ring.{last, closed, close}
-use Rattle.tile.proofs.Rings.{count-closed, count-open}
+use Rattle.tile.proofs.Rings.{close-most}
 use Rattle.sutherland_hodgman.specs.Lines.{inside, crossing}
 use Rattle.sutherland_hodgman.specs.Clip.{step, steps, leaveOff, around, pass, passes, finish, clipRing}
 use Rattle.sutherland_hodgman.specs.Growth.{halfGrowth, fourHalfGrowths, B, mostCoordinates}
@@ -70,15 +70,11 @@ passes-grow b r =
 
 finish-grows : (r : List Coord) → length (finish r) ≤ suc (length r)
 unfolding finish
-finish-grows r = go (leb 3 (length r)) (closed r) refl
+finish-grows r = go (leb 3 (length r))
   where
-    closing : (c : Bool) → closed r ≡ c → length (close r) ≤ suc (length r)
-    closing true e = omega (arith, count-closed r e)
-    closing false e = omega (arith, count-open r e)
-
-    go : (three c : Bool) → closed r ≡ c → length (cond three (close r) []) ≤ suc (length r)
-    go true c e = closing c e
-    go false c e = zero-le
+    go : (three : Bool) → length (cond three (close r) []) ≤ suc (length r)
+    go true = omega (arith, close-most r)
+    go false = zero-le
 
 pub clipRing-grows : (b : TileBounds) (r : List Coord) → length (clipRing b r) ≤ suc (fourHalfGrowths (length r))
 unfolding clipRing

@@ -14,8 +14,8 @@ use Rattle.tile.specs.declared.Coord.{Coord}
 use Rattle.tile.specs.declared.TileBounds.{TileBounds}
 use Rattle.tile.specs.declared.Edge.{Edge}
 use Rattle.tile.specs.declared.Edge.the-variants.{Top}
-use Rattle.tile.specs.Ring.{coords, flat, last, closed, close, Written}
-use Rattle.tile.proofs.Rings.{length-flat, coords-flat, coords-front, count-closed, count-open}
+use Rattle.tile.specs.Ring.{coords, flat, last, closed, Written}
+use Rattle.tile.proofs.Rings.{length-flat, coords-flat, coords-front, length-close}
 use Rattle.sutherland_hodgman.specs.Lines.{inside, crossing}
 use Rattle.sutherland_hodgman.specs.Clip.{step, steps, leaveOff, around, pass, passes, finish, clipRing}
 use Rattle.sutherland_hodgman.specs.Walk.{threePasses, Stands, Topped}
@@ -103,11 +103,7 @@ module _ (l : Edge) (b : TileBounds) where
 finish-keeps : (r : List Coord) → (length r ≡ 0) ⊎ (3 ≤ length r) → length r ≤ length (finish r)
 unfolding finish
 finish-keeps r (inl e) = omega arith
-finish-keeps r (inr h) = rw (le-leb 3 (length r) h) (go (closed r) refl)
-  where
-    go : (c : Bool) → closed r ≡ c → length r ≤ length (close r)
-    go true e = omega (arith, count-closed r e)
-    go false e = omega (arith, count-open r e)
+finish-keeps r (inr h) = rw (le-leb 3 (length r) h) (length-close r)
 
 -- ---- what stands after the last pass and the closing
 

@@ -23,8 +23,8 @@ use Rattle.tile.specs.declared.Coord.{Coord}
 use Rattle.tile.specs.declared.TileBounds.{TileBounds}
 use Rattle.tile.specs.declared.Edge.{Edge}
 use Rattle.tile.specs.declared.Edge.the-variants.{Left, Right, Bottom, Top}
-use Rattle.tile.specs.Ring.{coords, closed, close}
-use Rattle.tile.proofs.Rings.{coords-take, count-closed, count-open}
+use Rattle.tile.specs.Ring.{coords, close}
+use Rattle.tile.proofs.Rings.{coords-take, length-close}
 use Rattle.sutherland_hodgman.specs.Lines.{fixed, free, place, bound, isLow, inside, crossing}
 use Rattle.sutherland_hodgman.specs.Clip.{pass, passes, finish, clipRing}
 use Rattle.sutherland_hodgman.specs.Promise.{LatitudeInBounds, atMost256, CoordAtMost256, LongitudeNearBounds, Promise}
@@ -176,12 +176,8 @@ vertices : (r : List Coord) → (length (finish r) ≡ 0) ⊎ (3 ≤ length (fin
 unfolding finish
 vertices r = go (leb 3 (length r)) (leb→le 3 (length r))
   where
-    closing : (c : Bool) → closed r ≡ c → length r ≤ length (close r)
-    closing true e = omega (arith, count-closed r e)
-    closing false e = omega (arith, count-open r e)
-
     go : (three : Bool) → (T three → 3 ≤ length r) → (length (cond three (close r) []) ≡ 0) ⊎ (3 ≤ length (cond three (close r) []))
-    go true h = inr (le-trans (h tt) (closing (closed r) refl))
+    go true h = inr (le-trans (h tt) (length-close r))
     go false h = inl refl
 
 -- ---- the demand, whole: what it asks of is held by doubles
