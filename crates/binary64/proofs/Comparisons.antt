@@ -13,7 +13,7 @@ use lib.Ieee.Compare.{differs-from-itself}
 use lib.Ieee.Scale.{finite}
 use lib.Ieee.Fits.{up-pos, down-pos}
 use borrow.Author.Tests.{lt-ltb, eq-eqb, ne-eqb}
-use Rattle.binary64.specs.Compare.{magnitude, tolerance, limit}
+use Rattle.binary64.specs.Compare.{minimum, maximum, lower, higher, magnitude, tolerance, limit}
 
 -- a number differs from itself exactly if it is a NaN
 pub ne-self : (x : Float) → ne x x ≡ isNan x
@@ -25,6 +25,15 @@ ne-self (fin s m e) = eq-false-of-not-eq-true (λ t.
     let q : fin s m e ≡ nan = differs-from-itself (fin s m e) (subst T (sym t) tt) in
     let z : _≡_ {A = ℕ} 0 1 = cc in
     omega arith)
+
+-- the lower and the higher of two are `minimum` and `maximum`, where the first is no NaN
+pub lower-minimum : (a b : Float) → isNan a ≡ false → lower a b ≡ minimum a b
+unfolding lower minimum
+lower-minimum a b n = rw (n, or-false (lt b a))
+
+pub higher-maximum : (a b : Float) → isNan a ≡ false → higher a b ≡ maximum a b
+unfolding higher maximum
+higher-maximum a b n = rw (n, or-false (lt a b))
 
 pub finite-test : (x : Float) → lt x (inf false) && lt (inf true) x ≡ finite x
 unfolding lt

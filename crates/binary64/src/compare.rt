@@ -1,4 +1,4 @@
-// Comparisons of doubles: the minimum and maximum of Rust's `f64::min` and `f64::max`, nearness within 1e-10, finiteness and size.
+// Comparisons of doubles: the minimum and maximum of Rust's `f64::min` and `f64::max`, the lower and the higher of two by one comparison, nearness within 1e-10, finiteness and size.
 ghost use mathlib.Core.Path.{_≡_};
 ghost use lib.Ieee.Scale.{finite};
 ghost use Rattle.binary64.specs.Compare as S;
@@ -28,6 +28,25 @@ pub fn maximum(a: f64, b: f64) -> f64
         return b;
     }
     if a != a {
+        return b;
+    }
+    a
+}
+
+// The lower and the higher of two numbers: `minimum` and `maximum` where the first is no NaN. One comparison, so that each can be one instruction; that is not proved.
+pub fn lower(a: f64, b: f64) -> f64
+    ensures { λ r. ⌜ r ≡ S.lower a b ⌝ }
+{
+    if b < a {
+        return b;
+    }
+    a
+}
+
+pub fn higher(a: f64, b: f64) -> f64
+    ensures { λ r. ⌜ r ≡ S.higher a b ⌝ }
+{
+    if a < b {
         return b;
     }
     a

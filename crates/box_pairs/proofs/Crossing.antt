@@ -3,11 +3,12 @@ use mathlib.Core.Path.{_≡_, refl, sym, _∙_}
 use mathlib.Core.Bool.{Bool, true, false, not, _||_, cond, and-true, and-false, or-false, and-comm, or-comm}
 use mathlib.Mathlib.Data.Bool.Basic.{eq-false-of-not-eq-true}
 use lib.Ieee.{Float, binary64, isNan, lt, sub, mul}
-use Rattle.binary64.specs.Compare.{minimum, maximum}
+use Rattle.binary64.specs.Compare.{minimum, maximum, lower, higher}
 use Rattle.binary64.proofs.Booleans.{both, never-both}
+use Rattle.binary64.proofs.Comparisons.{lower-minimum, higher-maximum}
 use Rattle.binary64.proofs.FloatOrder.{lt-not-above, lt-left, lt-right, lt-asym, sub-numbers, mul-numbers, ends, ends-order, ends-low, ends-high}
 use Rattle.tile.specs.declared.Coord.{Coord}
-use Rattle.box_pairs.specs.Cross.{crossProductSign, zero64, aboveBelow, splits, intersectProperly, short, apartOn, apart, cross, lower, higher, separate}
+use Rattle.box_pairs.specs.Cross.{crossProductSign, zero64, aboveBelow, splits, intersectProperly, short, apartOn, apart, cross, separate}
 
 -- ---- symmetric
 
@@ -110,23 +111,6 @@ spread la ha lb hb na nb nh oa ob = go (lt ha hb) refl (lt lb la) refl
         let x : lt ha lb ≡ false = eq-false-of-not-eq-true (λ e. never-both (lt-not-above ha lb hb nh e ob) p) in
         let y : lt hb la ≡ false = eq-false-of-not-eq-true (λ e. never-both (lt-not-above hb la lb nb e q) ob) in
         rw (p, q, ob, x, y)
-
--- the lower and the higher of two are `minimum` and `maximum`, where the first is no NaN
-pub lower-minimum : (a b : Float) → isNan a ≡ false → lower a b ≡ minimum a b
-unfolding lower minimum
-lower-minimum a b n = go (lt b a) refl
-  where
-    go : (t : Bool) → lt b a ≡ t → cond (lt b a) b a ≡ cond (lt b a || isNan a) b a
-    go true e = rw e
-    go false e = rw (e, n)
-
-pub higher-maximum : (a b : Float) → isNan a ≡ false → higher a b ≡ maximum a b
-unfolding higher maximum
-higher-maximum a b n = go (lt a b) refl
-  where
-    go : (t : Bool) → lt a b ≡ t → cond (lt a b) b a ≡ cond (lt a b || isNan a) b a
-    go true e = rw e
-    go false e = rw (e, n)
 
 pub minimum-is-number : (a b : Float) → isNan a ≡ false → isNan b ≡ false → isNan (minimum a b) ≡ false
 minimum-is-number a b na nb = ends-low (λ z. isNan z ≡ false) (ends a b) na nb

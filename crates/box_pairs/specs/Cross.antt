@@ -1,7 +1,7 @@
 -- When two edges cross (document 01, "Unchanged"; the source's `edges_intersect_properly`, `cross_product_sign`). Definitions only.
-use mathlib.Core.Bool.{Bool, not, cond, _&&_, _||_}
+use mathlib.Core.Bool.{Bool, not, _&&_, _||_}
 use lib.Ieee.{Float, binary64, lt, sub, mul, ofBits}
-use Rattle.binary64.specs.Compare.{minimum, maximum, near}
+use Rattle.binary64.specs.Compare.{minimum, maximum, lower, higher, near}
 use Rattle.tile.specs.declared.Coord.{Coord}
 
 abbrev pub zero64 : Float
@@ -39,14 +39,6 @@ unfoldable pub cross : Coord → Coord → Coord → Coord → Bool
 cross a1 a2 b1 b2 = not (apart a1 a2 b1 b2) && (not (short a1 a2 || short b1 b2) && intersectProperly a1 a2 b1 b2)
 
 -- ---- the test of the boxes in an axis, as it is computed
-
--- the lower of two numbers; a where one of them is NaN
-unfoldable pub lower : Float → Float → Float
-lower a b = cond (lt b a) b a
-
--- the higher of two numbers; a where one of them is NaN
-unfoldable pub higher : Float → Float → Float
-higher a b = cond (lt a b) b a
 
 -- the lower of the two high ends is below the higher of the two low ends; where none of the four is NaN, this is `apartOn`
 unfoldable pub separate : Float → Float → Float → Float → Bool

@@ -1,7 +1,9 @@
 // Whether two edges cross: the source's `edges_intersect_properly`, between edges that are long enough and whose boxes meet.
 ghost use mathlib.Core.Path.{_≡_};
 ghost use Rattle.box_pairs.specs.Cross as S;
+use binary64::compare::higher;
 use binary64::compare::is_near;
+use binary64::compare::lower;
 use tile::Coord;
 
 // Which side of the line from a to b the point c lies on, by the sign.
@@ -37,25 +39,6 @@ pub fn is_short(a: Coord, b: Coord) -> bool
     ensures { λ r. ⌜ r ≡ S.short a b ⌝ }
 {
     is_near(a.x, b.x) && is_near(a.y, b.y)
-}
-
-// The lower and the higher of two numbers. They have this form, and not that of `minimum` and `maximum`, so that each can be one instruction; that is not proved.
-fn lower(a: f64, b: f64) -> f64
-    ensures { λ r. ⌜ r ≡ S.lower a b ⌝ }
-{
-    if b < a {
-        return b;
-    }
-    a
-}
-
-fn higher(a: f64, b: f64) -> f64
-    ensures { λ r. ⌜ r ≡ S.higher a b ⌝ }
-{
-    if a < b {
-        return b;
-    }
-    a
 }
 
 // Whether the numbers from a1 to a2 and those from b1 to b2 are apart, where none of the four is NaN: one branch, which is predicted more often than two.

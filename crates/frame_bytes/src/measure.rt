@@ -14,10 +14,10 @@ use super::ring::COORD;
 use super::ring::COUNT;
 use super::ring::coord_at;
 use super::ring::count_at;
+use binary64::compare::higher;
+use binary64::compare::lower;
 use rings::rectangle::Rect;
 use rings::rectangle::is_finite_coord;
-use rings::rectangle::larger;
-use rings::rectangle::smaller;
 use rings::rectangle::with_coord;
 use rings::representable::is_huge_coord;
 
@@ -51,10 +51,10 @@ fn box_with_coords(w: f64, s: f64, e: f64, n: f64, frame: &[u8], at: usize, coun
             return Rect::NotFinite;
         }
         let p = coord_at(frame, place);
-        west = smaller(west, p.x);
-        south = smaller(south, p.y);
-        east = larger(east, p.x);
-        north = larger(north, p.y);
+        west = lower(west, p.x);
+        south = lower(south, p.y);
+        east = higher(east, p.x);
+        north = higher(north, p.y);
         i += 1;
     }
     Rect::Box(west, south, east, north)

@@ -8,7 +8,8 @@ use native.Mathlib.Omega.{arith}
 use lib.Ieee.{Float, nan}
 use lib.ListN.{length, getD, take, drop, drop-of-length-le}
 use lib.Seq.{drop-cons}
-use Rattle.binary64.specs.Compare.{minimum, maximum}
+use Rattle.binary64.specs.Compare.{lower, higher}
+use Rattle.binary64.proofs.Comparisons.{lower-minimum, higher-maximum}
 use Rattle.tile.specs.declared.Coord.{Coord}
 use Rattle.tile.specs.Ring.{coords, coordAt}
 use Rattle.tile.proofs.Rings.{length-front, front-at}
@@ -38,13 +39,15 @@ pub corners-numbers : (p : Coord) (w s e n : Float) → Corners p w s e n → Nu
 corners-numbers p w s e n h = record { west = h .west .number; south = h .south .number; east = h .east .number; north = h .north .number }
 
 module _ (w s e n : Float) (p : Coord) where
-  pub box-then : isFiniteCoord p ≡ true → withCoord (R.Box w s e n) p ≡ R.Box (minimum w (p .x)) (minimum s (p .y)) (maximum e (p .x)) (maximum n (p .y))
-  unfolding withCoord
-  box-then h = rw h
-
   pub box-stop : isFiniteCoord p ≡ false → withCoord (R.Box w s e n) p ≡ R.NotFinite
   unfolding withCoord
   box-stop h = rw h
 
-  pub box-numbers : isFiniteCoord p ≡ true → Numbers (minimum w (p .x)) (minimum s (p .y)) (maximum e (p .x)) (maximum n (p .y))
-  box-numbers h = corners-numbers p _ _ _ _ (subst (Holds p) (box-then h) (holds-new p (R.Box w s e n)))
+  -- the four numbers with one coordinate more, by one comparison each
+  module _ (h : Numbers w s e n) (f : isFiniteCoord p ≡ true) where
+    pub box-then : withCoord (R.Box w s e n) p ≡ R.Box (lower w (p .x)) (lower s (p .y)) (higher e (p .x)) (higher n (p .y))
+    unfolding withCoord
+    box-then = rw (f, lower-minimum w (p .x) (h .west), lower-minimum s (p .y) (h .south), higher-maximum e (p .x) (h .east), higher-maximum n (p .y) (h .north))
+
+    pub box-numbers : Numbers (lower w (p .x)) (lower s (p .y)) (higher e (p .x)) (higher n (p .y))
+    box-numbers = corners-numbers p _ _ _ _ (subst (Holds p) box-then (holds-new p (R.Box w s e n)))

@@ -1,13 +1,12 @@
 // The rectangle of all rings of a polygon, and where it lies: the source's `intersects_bounds` and `is_fully_inside`, and a step of its `polygon_rect_all_rings`.
 ghost use mathlib.Core.Path.{_≡_};
-ghost use mathlib.Core.Bool.{false};
 ghost use Prim.Native.Nat.{_*_, _≤_};
-ghost use lib.Ieee.{isNan};
 ghost use lib.ListN.{length, take, drop};
-ghost use Rattle.binary64.specs.Compare as C;
 ghost use Rattle.tile.specs.Ring.{coords};
 ghost use Rattle.rings.specs.Rectangle as S;
+use binary64::compare::higher;
 use binary64::compare::is_finite;
+use binary64::compare::lower;
 use binary64::compare::maximum;
 use binary64::compare::minimum;
 use tile::Coord;
@@ -52,29 +51,7 @@ pub fn with_coord(r: Rect, p: Coord) -> Rect
     }
 }
 
-// `minimum` where the first is no NaN: one comparison, which the loop over a ring makes for every coordinate.
-pub fn smaller(a: f64, b: f64) -> f64
-    requires { ⌜ isNan a ≡ false ⌝ }
-    ensures { λ r. ⌜ r ≡ C.minimum a b ⌝ }
-{
-    if b < a {
-        return b;
-    }
-    a
-}
-
-// `maximum` likewise.
-pub fn larger(a: f64, b: f64) -> f64
-    requires { ⌜ isNan a ≡ false ⌝ }
-    ensures { λ r. ⌜ r ≡ C.maximum a b ⌝ }
-{
-    if a < b {
-        return b;
-    }
-    a
-}
-
-// The rectangle of four numbers with the coordinates at the front of a slice, from the second to the nth. The numbers are carried one by one: an enum would be stored and read back for every coordinate.
+// The rectangle of four numbers with the coordinates at the front of a slice, from the second to the nth. The numbers are carried one by one: an enum would be stored and read back for every coordinate. None is a NaN, so `lower` and `higher` are the minimum and the maximum, by one comparison each.
 fn box_with_rest(w: f64, s: f64, e: f64, n: f64, ring: &[f64], count: usize) -> Rect
     requires { ⌜ S.Numbers w s e n × (2 * count ≤ length (now ring)) ⌝ }
     ensures { λ a. ⌜ a ≡ S.withRing (Rect.Box w s e n) (drop 1 (coords (take (2 * count) (now (ring .entry))))) ⌝ }
@@ -89,10 +66,10 @@ fn box_with_rest(w: f64, s: f64, e: f64, n: f64, ring: &[f64], count: usize) -> 
         if !is_finite_coord(p) {
             return Rect::NotFinite;
         }
-        west = smaller(west, p.x);
-        south = smaller(south, p.y);
-        east = larger(east, p.x);
-        north = larger(north, p.y);
+        west = lower(west, p.x);
+        south = lower(south, p.y);
+        east = higher(east, p.x);
+        north = higher(north, p.y);
         i += 1;
     }
     Rect::Box(west, south, east, north)

@@ -50,17 +50,17 @@ returns c =
 coord-at-requires : tie.Need-coord-at-requires Inv-loop μ-loop
 coord-at-requires c κs = omega (arith, c .before .before .loop-test .taken, c .before .before .before .before .before .pre .1)
 
-smaller-requires : tie.Need-smaller-requires Inv-loop μ-loop
-smaller-requires c κs = c .before .before .before .before .loop .inv .0 .west
+lower-requires : tie.Need-lower-requires Inv-loop μ-loop
+lower-requires c κs = search needs
 
-smaller-requires-2 : tie.Need-smaller-requires-2 Inv-loop μ-loop
-smaller-requires-2 c κs = c .before .before .before .before .before .loop .inv .0 .south
+lower-requires-2 : tie.Need-lower-requires-2 Inv-loop μ-loop
+lower-requires-2 c κs = search needs
 
-larger-requires : tie.Need-larger-requires Inv-loop μ-loop
-larger-requires c κs = c .before .before .before .before .before .before .loop .inv .0 .east
+higher-requires : tie.Need-higher-requires Inv-loop μ-loop
+higher-requires c κs = search needs
 
-larger-requires-2 : tie.Need-larger-requires-2 Inv-loop μ-loop
-larger-requires-2 c κs = c .before .before .before .before .before .before .before .loop .inv .0 .north
+higher-requires-2 : tie.Need-higher-requires-2 Inv-loop μ-loop
+higher-requires-2 c κs = search needs
 
 add-i : tie.Need-add-i Inv-loop μ-loop
 add-i c = search needs
@@ -75,10 +75,10 @@ loop-again c =
     let p = c .before .before .before .before .coord-at .result in
     let f : p ≡ coordOf (drop (a .at + 16 * l .i) (now (a .frame))) = c .before .before .before .before .coord-at .ensures in
     let on : isFiniteCoord p ≡ true = ap isFiniteCoord f ∙ sym (c .before .before .before .before .before .before .is-finite-at .ensures) ∙ not-false (c .before .before .before .before .before .before .is-finite-at .result) (c .before .before .before .before .before .if1 .left) in
-    let box = Rects.Box (c .before .before .before .smaller .result) (c .before .before .smaller2 .result) (c .before .larger .result) (c .larger2 .result) in
-    let q : withCoord (Rects.Box (l .west) (l .south) (l .east) (l .north)) p ≡ box = rw (c .before .before .before .smaller .ensures, c .before .before .smaller2 .ensures, c .before .larger .ensures, c .larger2 .ensures) (box-then (l .west) (l .south) (l .east) (l .north) p on) in
+    let box = Rects.Box (c .before .before .before .lower .result) (c .before .before .lower2 .result) (c .before .higher .result) (c .higher2 .result) in
+    let q : withCoord (Rects.Box (l .west) (l .south) (l .east) (l .north)) p ≡ box = rw (c .before .before .before .lower .ensures, c .before .before .lower2 .ensures, c .before .higher .ensures, c .higher2 .ensures) (box-then (l .west) (l .south) (l .east) (l .north) p (l .inv .0) on) in
     let rest = left (now (a .frame)) (a .at) (a .count) (l .i + 1) in (
-      rw (c .before .before .before .smaller .ensures, c .before .before .smaller2 .ensures, c .before .larger .ensures, c .larger2 .ensures) (box-numbers (l .west) (l .south) (l .east) (l .north) p on),
+      rw (c .before .before .before .lower .ensures, c .before .before .lower2 .ensures, c .before .higher .ensures, c .higher2 .ensures) (box-numbers (l .west) (l .south) (l .east) (l .north) p (l .inv .0) on),
       l .inv .1 ∙ rect-one (now (a .frame)) (a .at) (a .count) (l .i) _ (c .before .before .before .before .before .before .before .loop-test .taken) ∙ ap (λ (r : Rect). withRing r rest) (ap (withCoord (Rects.Box (l .west) (l .south) (l .east) (l .north))) (sym f) ∙ q),
     )
 
@@ -100,10 +100,10 @@ box-with-coords-spec =
     is-finite-at-requires
     returns
     coord-at-requires
-    smaller-requires
-    smaller-requires-2
-    larger-requires
-    larger-requires-2
+    lower-requires
+    lower-requires-2
+    higher-requires
+    higher-requires-2
     add-i
     loop-less
     loop-again

@@ -54,17 +54,17 @@ returns c =
     let rest = drop (l .i + 1) (coords (take (2 * n) s)) in
     sym (l .inv .1 ∙ ring-step (R.Box (l .west) (l .south) (l .east) (l .north)) (coords (take (2 * n) s)) (l .i) none (omega arith) ∙ ap (λ (r : Rect). withRing r rest) q ∙ stays-ring rest)
 
-smaller-requires : tie.Need-smaller-requires Inv-loop μ-loop
-smaller-requires c κs = c .before .before .before .before .loop .inv .0 .west
+lower-requires : tie.Need-lower-requires Inv-loop μ-loop
+lower-requires c κs = search needs
 
-smaller-requires-2 : tie.Need-smaller-requires-2 Inv-loop μ-loop
-smaller-requires-2 c κs = c .before .before .before .before .before .loop .inv .0 .south
+lower-requires-2 : tie.Need-lower-requires-2 Inv-loop μ-loop
+lower-requires-2 c κs = search needs
 
-larger-requires : tie.Need-larger-requires Inv-loop μ-loop
-larger-requires c κs = c .before .before .before .before .before .before .loop .inv .0 .east
+higher-requires : tie.Need-higher-requires Inv-loop μ-loop
+higher-requires c κs = search needs
 
-larger-requires-2 : tie.Need-larger-requires-2 Inv-loop μ-loop
-larger-requires-2 c κs = c .before .before .before .before .before .before .before .loop .inv .0 .north
+higher-requires-2 : tie.Need-higher-requires-2 Inv-loop μ-loop
+higher-requires-2 c κs = search needs
 
 add-i : tie.Need-add-i Inv-loop μ-loop
 add-i c = search needs
@@ -84,9 +84,9 @@ loop-again c =
     let m = length-front s n (a .pre .1) in
     let f : getD (coords (take (2 * n) s)) (l .i) none ≡ p = front-at s n (l .i) none (a .pre .1) t ∙ sym (b .before .before .coord-at .ensures) in
     let on : isFiniteCoord p ≡ true = sym (b .before .is-finite-coord .ensures) ∙ not-false (b .before .is-finite-coord .result) (b .if1 .left) in
-    let box = R.Box (c .before .before .before .smaller .result) (c .before .before .smaller2 .result) (c .before .larger .result) (c .larger2 .result) in
-    let q : withCoord (R.Box (l .west) (l .south) (l .east) (l .north)) (getD (coords (take (2 * n) s)) (l .i) none) ≡ box = rw (f, c .before .before .before .smaller .ensures, c .before .before .smaller2 .ensures, c .before .larger .ensures, c .larger2 .ensures) (box-then (l .west) (l .south) (l .east) (l .north) p on) in (
-      rw (c .before .before .before .smaller .ensures, c .before .before .smaller2 .ensures, c .before .larger .ensures, c .larger2 .ensures) (box-numbers (l .west) (l .south) (l .east) (l .north) p on),
+    let box = R.Box (c .before .before .before .lower .result) (c .before .before .lower2 .result) (c .before .higher .result) (c .higher2 .result) in
+    let q : withCoord (R.Box (l .west) (l .south) (l .east) (l .north)) (getD (coords (take (2 * n) s)) (l .i) none) ≡ box = rw (f, c .before .before .before .lower .ensures, c .before .before .lower2 .ensures, c .before .higher .ensures, c .higher2 .ensures) (box-then (l .west) (l .south) (l .east) (l .north) p (l .inv .0) on) in (
+      rw (c .before .before .before .lower .ensures, c .before .before .lower2 .ensures, c .before .higher .ensures, c .higher2 .ensures) (box-numbers (l .west) (l .south) (l .east) (l .north) p (l .inv .0) on),
       l .inv .1 ∙ ring-step (R.Box (l .west) (l .south) (l .east) (l .north)) (coords (take (2 * n) s)) (l .i) none (omega arith) ∙ ap (λ (r : Rect). withRing r (drop (l .i + 1) (coords (take (2 * n) s)))) q,
     )
 
@@ -107,10 +107,10 @@ box-with-rest-spec =
     coord-at-requires
     is-finite-coord-requires
     returns
-    smaller-requires
-    smaller-requires-2
-    larger-requires
-    larger-requires-2
+    lower-requires
+    lower-requires-2
+    higher-requires
+    higher-requires-2
     add-i
     loop-less
     loop-again

@@ -1,7 +1,7 @@
--- `cross::lower` meets its contract. Assumes nothing.
-use Rattle.box_pairs.specs.Cross.{lower}
-use Rattle.box_pairs.proofs.cross.lower.Statement.{statement}
-use Rattle.box_pairs.proofs.cross.lower.Tie as tie
+-- `compare::lower` meets its contract. Assumes nothing.
+use Rattle.binary64.specs.Compare.{lower}
+use Rattle.binary64.proofs.compare.lower.Statement.{statement}
+use Rattle.binary64.proofs.compare.lower.Tie as tie
 
 returns : tie.Need-returns
 unfolding lower

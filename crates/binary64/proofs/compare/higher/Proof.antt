@@ -1,7 +1,7 @@
--- `cross::higher` meets its contract. Assumes nothing.
-use Rattle.box_pairs.specs.Cross.{higher}
-use Rattle.box_pairs.proofs.cross.higher.Statement.{statement}
-use Rattle.box_pairs.proofs.cross.higher.Tie as tie
+-- `compare::higher` meets its contract. Assumes nothing.
+use Rattle.binary64.specs.Compare.{higher}
+use Rattle.binary64.proofs.compare.higher.Statement.{statement}
+use Rattle.binary64.proofs.compare.higher.Tie as tie
 
 returns : tie.Need-returns
 unfolding higher
