@@ -2,8 +2,7 @@
 use mathlib.Core.Path.{_≡_, refl}
 use mathlib.Core.List.{List, [], _∷_, _++_}
 use Prim.Native.Nat.{ℕ, _*_, _^_}
-use lib.IntN.{pos}
-use lib.Ieee.{Float, nan, binary64, ofInt, ofBits, toBits, round, isNan, lt, le, eq, add, sub, mul, div}
+use lib.Ieee.{nan, ofInt, ofBits, toBits, round, isNan, lt, le, eq, add, sub, mul, div}
 use Rattle.binary64.specs.Bytes.{Little, doubleBytes, fromLow, toLow}
 use Rattle.binary64.specs.Compare.{minimum, maximum, magnitude, tolerance, near, limit, huge}
 use Rattle.binary64.specs.Interpolation.{interpolate}
@@ -15,6 +14,7 @@ use Rattle.box_pairs.specs.Pairs.{anyBelow, anyPair, edgesCross, selfIntersecti
 use Rattle.box_pairs.specs.Issue.{repeated, issueOf, hasIssue}
 use Rattle.sutherland_hodgman.specs.Lines.{inside, crossing}
 use Rattle.sutherland_hodgman.specs.Clip.{steps, leaveOff, around, pass, passes, finish, clipRing}
+use Rattle.sutherland_hodgman.proofs.WholeNumbers.{num, at}
 use Rattle.rings.specs.Bridge.{runsAlong, bridgeOf, firstBridge}
 use Rattle.rings.specs.Rectangle.{withCoord, withRing, withRings, reaches, intersectsBounds, liesBetween, isFullyInside, withParts}
 use Rattle.rings.specs.Representable.{hugeCoord, anyHuge, anyHugeRing}
@@ -26,15 +26,6 @@ use Rattle.frames.specs.Answer.{routePart, listParts, ofMultipolygon, an
 use Rattle.frames.specs.Output.{partBytes, answerBytes, frameBytes}
 
 -- ---- coordinates
-
--- a whole number as a double, rounded: 1e150 and 9e149 too
-num : ℕ → Float
-unfolding ofInt
-num n = ofInt binary64 (pos n)
-
-at : ℕ → ℕ → Coord
-unfolding num
-at x y = record { x = num x; y = num y }
 
 -- a NaN in one of the two places
 nanX : ℕ → Coord

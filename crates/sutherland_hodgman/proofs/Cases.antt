@@ -1,9 +1,7 @@
 -- Two cuts at the bounds 0, 0, 10, 10 that document 01 does not work out, and its figures for B, computed from the definitions. The worked rings are in the table of the crate `frames`. Assumes nothing.
 use mathlib.Core.Path.{_≡_, refl}
 use mathlib.Core.List.{List, [], _∷_}
-use Prim.Native.Nat.{ℕ}
-use lib.IntN.{pos}
-use lib.Ieee.{Float, nan, binary64, ofInt, le, eq, add, sub, mul, div}
+use lib.Ieee.{nan, le, eq, add, sub, mul, div}
 use Rattle.binary64.specs.Interpolation.{interpolate}
 use Rattle.tile.specs.declared.Coord.{Coord}
 use Rattle.tile.specs.declared.TileBounds.{TileBounds}
@@ -11,14 +9,7 @@ use Rattle.tile.specs.Ring.{same, last, closed, close}
 use Rattle.sutherland_hodgman.specs.Lines.{inside, crossing}
 use Rattle.sutherland_hodgman.specs.Clip.{steps, leaveOff, around, pass, passes, finish, clipRing}
 use Rattle.sutherland_hodgman.specs.Growth.{halfGrowth, fourHalfGrowths, B}
-
-num : ℕ → Float
-unfolding ofInt
-num n = ofInt binary64 (pos n)
-
-at : ℕ → ℕ → Coord
-unfolding num
-at x y = record { x = num x; y = num y }
+use Rattle.sutherland_hodgman.proofs.WholeNumbers.{num, at}
 
 ten : TileBounds
 unfolding num

@@ -7,3 +7,4 @@ pub mod Promises
 pub mod Stages
 pub mod Turns
 pub mod Walking
+pub mod WholeNumbers
