@@ -3,6 +3,7 @@ use mathlib.Core.Bool.{cond}
 use mathlib.Core.List.{List, [], _∷_}
 use Prim.Native.Nat.{ℕ, suc, _+_}
 use lib.Dec.{eqb}
+use lib.ListN.{getD}
 use Rattle.tile.specs.declared.Coord.{Coord}
 use Rattle.tile.specs.declared.TileBounds.{TileBounds}
 use Rattle.tile.specs.Bounds.{buffered}
@@ -95,8 +96,7 @@ boundsIn head = buffered (head .bounds) (head .buffer)
 
 -- a polygon's only part
 abbrev pub onlyPart : List (List (List Coord)) → List (List Coord)
-onlyPart [] = []
-onlyPart (part ∷ parts) = part
+onlyPart parts = getD parts 0 []
 
 unfoldable pub answerTo : Frame → Answer
 answerTo f = cond (eqb (f .head .kind) polygon) (ofPolygon (P.route (flagsIn (f .head)) (boundsIn (f .head)) (onlyPart (f .parts)))) (ofMultipolygon (flagsIn (f .head)) (boundsIn (f .head)) (f .parts))

@@ -5,7 +5,7 @@ use mathlib.Core.List.{List, [], _∷_}
 use Prim.Native.Nat.{ℕ, _+_, _*_, _≤_}
 use lib.Dec.{ltb}
 use lib.Ieee.{Float}
-use lib.ListN.{length, take, drop}
+use lib.ListN.{length, getD, take, drop}
 use Rattle.tile.specs.declared.Coord.{Coord}
 use Rattle.tile.specs.Ring.{coords, closed, close}
 use Rattle.sutherland_hodgman.specs.Growth.{B, mostCoordinates}
@@ -24,8 +24,7 @@ closedRings [] s = []
 closedRings (n ∷ ns) s = close (coords (take (2 * n) s)) ∷ closedRings ns (drop (2 * n) s)
 
 abbrev pub exterior : List (List Coord) → List Coord
-exterior [] = []
-exterior (r ∷ rs) = r
+exterior rings = getD rings 0 []
 
 -- a number of each ring, or of each part, summed
 unfoldable pub total : {A : Type 0} → (A → ℕ) → List A → ℕ
