@@ -6,7 +6,7 @@ use lib.ListN.{length, drop}
 use Rattle.tile.specs.declared.Coord.{Coord}
 use Rattle.tile.specs.Ring.{close}
 use Rattle.rings.specs.Rings.{mostRings}
-use Rattle.frame_bytes.specs.Frame.{read, Accepted, countOf, coordsOf, readRing, readMany, readPart, ringsIn, partAt, ringsFrom}
+use Rattle.frame_bytes.specs.Frame.{read, Accepted, countOf, coordsOf, readRing, readMany, readPart, allIn, partAt, ringsFrom}
 use Rattle.frame_bytes.proofs.Readings.{taken, ring-reads}
 use Rattle.frame_bytes.proofs.Places.{step, ring-at, part-at}
 
@@ -27,7 +27,7 @@ next-ring frame at k h pos a = let t = taken (readMany readRing k (drop at frame
         let n : readMany readRing (k - 1) (drop (at + 2 + 16 * countOf (drop at frame)) frame) ≡ read (s .others) rest = rw (← r .follows) (s .later) in
         record {
           whole = r .whole;
-          here = ap ringsIn e ∙ s .whole ∙ rw (r .coordinates, n);
+          here = ap allIn e ∙ s .whole ∙ rw (r .coordinates, n);
           later = rw n;
         }
 
@@ -47,7 +47,7 @@ part-rings frame at h a = let t = taken (readPart (drop at frame)) a in go (t .v
     go part rest e =
         let p = part-at frame at part rest h e in
         let r = p .rings in
-        record { whole = p .whole; some = p .some; few = p .few; accepted = rw r; same = ap ringsIn e ∙ sym (ap ringsIn r) }
+        record { whole = p .whole; some = p .some; few = p .few; accepted = rw r; same = ap allIn e ∙ sym (ap allIn r) }
 
 -- the exterior, as it stands in the frame
 abbrev pub exteriorAt : List ℕ → ℕ → List Coord

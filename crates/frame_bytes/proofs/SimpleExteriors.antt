@@ -15,7 +15,7 @@ use Rattle.box_pairs.specs.Issue.{repeated, issueOf, hasIssue}
 use Rattle.box_pairs.specs.declared.Issue.the-variants.{Sound, Repeated}
 use Rattle.box_pairs.proofs.Issues.{few, one-more}
 use Rattle.rings.specs.Rings.{exterior}
-use Rattle.frame_bytes.specs.Frame.{Reading, refused, read, Accepted, coordOf, coordsOf, readPart, ringsIn, partAt}
+use Rattle.frame_bytes.specs.Frame.{Reading, refused, read, Accepted, coordOf, coordsOf, readPart, allIn, partAt}
 use Rattle.frame_bytes.specs.Measure.{soundIfSimple}
 use Rattle.frame_bytes.proofs.Coordinates.{length-coordsOf, close-grows}
 use Rattle.frame_bytes.proofs.PartRings.{exteriorAt, part-here}
@@ -69,7 +69,7 @@ simple-long r h = rw (le-ltb (length r) 4 h) (go (repeated r))
     go true = refl
     go false = refl
 
-sound-read : (x : Reading (List (List Coord))) → Accepted x → soundIfSimple x ≡ not (hasIssue (issueOf true (exterior (ringsIn x))))
+sound-read : (x : Reading (List (List Coord))) → Accepted x → soundIfSimple x ≡ not (hasIssue (issueOf true (exterior (allIn x))))
 sound-read (refused r) e = absurd (let z : _≡_ {A = ℕ} 0 1 = cc in omega arith)
 sound-read (read rings rest) e = refl
 

@@ -186,14 +186,14 @@ abbrev pub walkOf : {A : Type 0} → ℕ → Reading A → Walk
 walkOf size (refused r) = Stops r
 walkOf size (read a rest) = Reaches (size - length rest)
 
--- the rings that are read; of a refusal, none
-abbrev pub ringsIn : Reading (List (List Coord)) → List (List Coord)
-ringsIn (refused r) = []
-ringsIn (read rings rest) = rings
+-- all rings or all parts that are read; of a refusal, none
+abbrev pub allIn : {A : Type 0} → Reading (List A) → List A
+allIn (refused r) = []
+allIn (read all rest) = all
 
 -- the rings of the part at a place, and so many rings from a place on
 abbrev pub partAt : List ℕ → ℕ → List (List Coord)
-partAt frame at = ringsIn (readPart (drop at frame))
+partAt frame at = allIn (readPart (drop at frame))
 
 abbrev pub ringsFrom : List ℕ → ℕ → ℕ → List (List Coord)
-ringsFrom frame at k = ringsIn (readMany readRing k (drop at frame))
+ringsFrom frame at k = allIn (readMany readRing k (drop at frame))

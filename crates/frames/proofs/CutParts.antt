@@ -19,7 +19,7 @@ use Rattle.rings.proofs.LentRings.{larger-least}
 use Rattle.clip.specs.Polygon.{unlessNone, cutExterior, cutHoles, cutRings, cut, overlay, reasonNumber, Stands, ExteriorRoom}
 use Rattle.clip.specs.declared.polygon.Reason.{Reason}
 use Rattle.clip.proofs.Cuts.{cut-fits-room, cut-rings}
-use Rattle.frame_bytes.specs.Frame.{Reading, refused, read, countOf, coordsOf, ringsIn, partAt}
+use Rattle.frame_bytes.specs.Frame.{Reading, refused, read, countOf, coordsOf, allIn, partAt}
 use Rattle.frame_bytes.specs.Room.{partRoom}
 use Rattle.frame_bytes.specs.Encoding.{each, countBytes, coordBytes, ringBytes}
 use Rattle.frame_bytes.specs.Measure.{hugeOf}
@@ -112,7 +112,7 @@ pub overlay-room : (rings : List (List Coord)) (out to : ℕ) → to + partRoom 
 unfolding partRoom
 overlay-room rings out to h = omega (arith, h)
 
-pub huge-in : (x : Reading (List (List Coord))) → hugeOf x ≡ anyHugeRing (ringsIn x)
+pub huge-in : (x : Reading (List (List Coord))) → hugeOf x ≡ anyHugeRing (allIn x)
 unfolding anyHugeRing
 huge-in (refused r) = refl
 huge-in (read rings rest) = refl

@@ -22,7 +22,7 @@ use Rattle.clip.specs.Polygon as P
 use Rattle.frame_bytes.specs.declared.head.Head.{Head}
 use Rattle.frame_bytes.specs.declared.reader.FrameRefusal.{FrameRefusal}
 use Rattle.frame_bytes.specs.declared.reader.FrameCheck.the-variants.{Fails}
-use Rattle.frame_bytes.specs.Frame.{Reading, refused, read, checkOf, Accepted, polygon, multipolygon, longest, mostParts, mostInRing, headBytes, readPart, Frame, kindOf, partCountOf, wrongKind, wrongPartCount, headOf, readFrame, partAt}
+use Rattle.frame_bytes.specs.Frame.{Reading, refused, read, checkOf, Accepted, polygon, multipolygon, longest, mostParts, mostInRing, headBytes, readPart, Frame, kindOf, partCountOf, wrongKind, wrongPartCount, headOf, readFrame, allIn, partAt}
 use Rattle.frame_bytes.specs.Room.{leastRoom, coordinateBytes, partRoom, room, frameRoom, readCall}
 use Rattle.frame_bytes.specs.Encoding.{each, coordBytes, headerBytes}
 use Rattle.frame_bytes.specs.Measure.{frameRect, soundIfSimple}
@@ -34,7 +34,7 @@ use Rattle.frames.specs.declared.entry.FrameAnswer.the-variants.{Refused
 use Rattle.frames.specs.Answer.{Part, Answer, Nothing, Unchanged, ofPolygon, routePart, listedBefore, listParts, ofParts, ifBox, ofMultipolygon, flagsIn, boundsIn, onlyPart, answerTo}
 use Rattle.frames.specs.Output.{partBytes, answerBytes, frameBytes, outputAfter, callOutput}
 use Rattle.frames.specs.Part.{PartRoom}
-use Rattle.frames.specs.Parts.{partsIn, partsFrom, ofListing, Answers}
+use Rattle.frames.specs.Parts.{partsFrom, ofListing, Answers}
 use Rattle.frames.specs.Entry.{answerOfReading, callAnswer, partsOf, answerRead, answerMeasured, unchangedAtOnce, PartsReady, Answerable, Cuttable}
 use Rattle.frames.proofs.Listings.{routed-as, listed-append, routed-fits, listed-fits, NextPart, next-part, part-next, part-room}
 use Rattle.frames.proofs.Sizes.{parts-fit}
@@ -75,7 +75,7 @@ holds frame a = let t = taken (readFrame frame) a in go (t .value) (t .rest) (t 
         let r = frame-read frame f rest e in
         record {
           long = r .long;
-          parts-from = ap partsIn (r .parts) ∙ sym (ap partsOf e);
+          parts-from = ap allIn (r .parts) ∙ sym (ap partsOf e);
           rect = rw e;
           fits = rw e;
           kinds = other-kind (kindOf frame) (r .kind);

@@ -23,7 +23,7 @@ use Rattle.clip.specs.declared.polygon.Route.the-variants as To
 use Rattle.clip.specs.Polygon as P
 use Rattle.clip.specs.Polygon.{answerOf, guardCount}
 use Rattle.clip.proofs.Cuts.{cut-fits-room, hole-fits-room}
-use Rattle.frame_bytes.specs.Frame.{Reading, read, Accepted, mostParts, readPart, readMany, ringsIn, partAt}
+use Rattle.frame_bytes.specs.Frame.{Reading, read, Accepted, mostParts, readPart, readMany, allIn, partAt}
 use Rattle.frame_bytes.specs.Room.{partRoom}
 use Rattle.frame_bytes.specs.Encoding.{each, countBytes, coordBytes, headerBytes, ringBytes}
 use Rattle.frame_bytes.specs.Measure.{measuredOf}
@@ -34,7 +34,7 @@ use Rattle.frames.specs.declared.parts.Listing as L
 use Rattle.frames.specs.Answer.{Part, Answer, Nothing, Dropped, Unchanged, Listed, listedBefore, Listing, addPart, listParts, ofParts, ofPolygon, routePart}
 use Rattle.frames.specs.Output.{partBytes, answerBytes}
 use Rattle.frames.specs.Part.{writtenPart, partAnswer, PartRoom}
-use Rattle.frames.specs.Parts.{routePartAs, partsIn, partsFrom, unchangedBytes, withPart, Lists, listingOf, finishedHeader, finishedLength, polygonHeader, polygonLength, Answers, Few, Workable, PartsRoom}
+use Rattle.frames.specs.Parts.{routePartAs, partsFrom, unchangedBytes, withPart, Lists, listingOf, finishedHeader, finishedLength, polygonHeader, polygonLength, Answers, Few, Workable, PartsRoom}
 use Rattle.frames.proofs.Cutting.{unless-append, unless-bytes}
 use Rattle.frames.proofs.CutParts.{overlay-length, part-bytes}
 
@@ -182,14 +182,14 @@ next-part frame at k h pos a = let t = taken (readMany readPart k (drop at frame
         let s = step readPart part-reads frame at k all rest h pos e in
         let f = s .first in
         let n : nextPlace frame at ≡ s .next = ap (λ (x : Reading (List (List Coord))). measuredOf (length frame) Rects.Nothing x .next) f ∙ omega (arith, length-drop (s .next) frame, s .within) in
-        let p : partAt frame at ≡ s .value = ap ringsIn f in
+        let p : partAt frame at ≡ s .value = ap allIn f in
         let l : readMany readPart (k - 1) (drop (nextPlace frame at) frame) ≡ read (s .others) rest = rw n (s .later) in
         record {
           accepted = rw f;
           rect = ap (λ (x : Reading (List (List Coord))). measuredOf (length frame) Rects.Nothing x .rect) f ∙ rw p;
           onward = rw n (s .onward);
           within = rw n (s .within);
-          here = ap partsIn e ∙ s .whole ∙ rw (p, l);
+          here = ap allIn e ∙ s .whole ∙ rw (p, l);
           later = rw l;
         }
 

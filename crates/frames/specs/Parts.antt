@@ -15,7 +15,7 @@ use Rattle.rings.specs.Rings.{largest, total}
 use Rattle.clip.specs.declared.polygon.Flags.{Flags}
 use Rattle.clip.specs.Polygon as P
 use Rattle.clip.specs.Polygon.{answerOf, guardCount}
-use Rattle.frame_bytes.specs.Frame.{Reading, refused, read, Accepted, mostParts, readPart, readMany}
+use Rattle.frame_bytes.specs.Frame.{Accepted, mostParts, readPart, readMany, allIn}
 use Rattle.frame_bytes.specs.Room.{leastRoom, coordinateBytes, partRoom}
 use Rattle.frame_bytes.specs.Encoding.{each, coordBytes, headerBytes}
 use Rattle.frames.specs.declared.part.PartAnswer.{PartAnswer}
@@ -29,13 +29,9 @@ use Rattle.frames.specs.Part.{Working}
 unfoldable pub routePartAs : Flags → Rect → TileBounds → List (List Coord) → P.Routed
 routePartAs flags rect b rings = ofPart rect b (P.routeMeasured flags rect b rings)
 
--- the parts that are read; of a refusal, none
-abbrev pub partsIn : Reading (List (List (List Coord))) → List (List (List Coord))
-partsIn (refused r) = []
-partsIn (read parts rest) = parts
-
+-- so many parts from a place on
 abbrev pub partsFrom : List ℕ → ℕ → ℕ → List (List (List Coord))
-partsFrom frame at k = partsIn (readMany readPart k (drop at frame))
+partsFrom frame at k = allIn (readMany readPart k (drop at frame))
 
 -- ---- what is listed
 
