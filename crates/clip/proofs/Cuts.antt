@@ -10,8 +10,8 @@ use lib.ListN.{length, take, drop}
 use lib.Seq.{take-at, length-take-le}
 use Rattle.tile.specs.declared.Coord.{Coord}
 use Rattle.tile.specs.declared.TileBounds.{TileBounds}
-use Rattle.tile.specs.Ring.{coords, flat, close, Written}
-use Rattle.tile.proofs.Rings.{length-front, length-flat, coords-flat, coords-front, length-close, close-most}
+use Rattle.tile.specs.Ring.{coords, close, Stands, Written}
+use Rattle.tile.proofs.Rings.{length-front, coords-flat, length-close, close-most}
 use Rattle.box_pairs.specs.declared.Issue.{Issue}
 use Rattle.box_pairs.specs.Issue.{hasIssue, issueOf}
 use Rattle.sutherland_hodgman.specs.Growth.{B}
@@ -25,7 +25,7 @@ use Rattle.clip.specs.declared.polygon.Flags.{Flags}
 use Rattle.clip.specs.declared.polygon.Reason.the-variants as Because
 use Rattle.clip.specs.declared.polygon.Route.{Route}
 use Rattle.clip.specs.declared.polygon.Route.the-variants as To
-use Rattle.clip.specs.Polygon.{overlayIfIssue, bridgeUnlessSkipped, overlayIfBridge, cutExterior, routeCut, leftOut, cutHole, RingRoom, Stands, CutStands, cutRings, unlessNone, cutHoles}
+use Rattle.clip.specs.Polygon.{overlayIfIssue, bridgeUnlessSkipped, overlayIfBridge, cutExterior, routeCut, leftOut, cutHole, RingRoom, CutStands, cutRings, unlessNone, cutHoles}
 
 -- ---- room
 
@@ -56,15 +56,6 @@ hole-fits-room b r = go (leftOut (clipRing b r))
     go false = cut-fits-room b r
 
 -- ---- what a slice holds
-
-pub written-front : (ring : List Coord) (before after : List Float) (r : ℕ) → Written ring before r after → coords (take (2 * r) after) ≡ ring
-written-front ring before after r w = coords-front ring (drop (2 * r) before) after r (w .count) (w .numbers)
-
-pub written-stands : (ring : List Coord) (before after : List Float) (r : ℕ) → Written ring before r after → Stands ring r after
-written-stands ring before after r w = record {
-  count = w .count;
-  numbers = rw (w .numbers) (take-at (flat ring) (drop (2 * r) before) (2 * r) (length-flat ring ∙ rw (w .count)));
-}
 
 pub copied-front : (k : ℕ) (from to to′ : List Float) → k ≤ length from → to′ ≡ take k from ++ drop k to → take k to′ ≡ take k from
 copied-front k from to to′ h e = rw e (take-at (take k from) (drop k to) k (length-take-le k from h))

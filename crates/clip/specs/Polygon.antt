@@ -10,7 +10,7 @@ use Rattle.tile.specs.declared.Coord.{Coord}
 use Rattle.tile.specs.declared.TileBounds.{TileBounds}
 use Rattle.tile.specs.declared.Edge.{Edge}
 use Rattle.tile.specs.declared.Edge.the-variants.{Left, Right, Bottom, Top}
-use Rattle.tile.specs.Ring.{coords, flat, closed, close}
+use Rattle.tile.specs.Ring.{coords, closed, close, Stands}
 use Rattle.box_pairs.specs.declared.Issue.{Issue}
 use Rattle.box_pairs.specs.Issue.{issueOf, hasIssue}
 use Rattle.sutherland_hodgman.specs.Growth.{B, mostCoordinates}
@@ -177,11 +177,6 @@ pub record RingRoom (n : ℕ) (ring : List Float) (a b : ℕ) : Type 0 where
 pub record ExteriorRoom (n : ℕ) (ring : List Float) (a b order : ℕ) : Type 0 where
   pub room : RingRoom n ring a b
   pub positions : B (length (close (coords (take (2 * n) ring)))) ≤ order
-
--- a ring stands at the front of a slice, r coordinates long; what lies past it is left open
-pub record Stands (ring : List Coord) (r : ℕ) (after : List Float) : Type 0 where
-  pub count : r ≡ length ring
-  pub numbers : take (2 * r) after ≡ flat ring
 
 -- where the route is a cut, the cut exterior, which has coordinates, stands at the front of the slice
 abbrev pub CutStands : TileBounds → List Coord → Route → List Float → Type 0

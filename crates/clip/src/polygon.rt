@@ -201,7 +201,7 @@ pub fn route_exterior(
 // Cuts a hole, to the front of b, and answers how many coordinates it has; one that is left out has none.
 pub fn clip_hole(ring: &[f64], n: usize, bounds: TileBounds, a: &mut [f64], b: &mut [f64]) -> usize
     requires { ⌜ S.RingRoom n (now ring) (length (now a)) (length (now b)) ⌝ }
-    ensures { λ r. ⌜ S.Stands (S.cutHole bounds (T.close (T.coords (take (2 * n) (now (ring .entry)))))) r (now (b .exit)) ⌝ }
+    ensures { λ r. ⌜ T.Stands (S.cutHole bounds (T.close (T.coords (take (2 * n) (now (ring .entry)))))) r (now (b .exit)) ⌝ }
 {
     let clipped = clip_ring(ring, n, bounds, a, b);
     if clipped < 4 {

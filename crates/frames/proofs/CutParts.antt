@@ -9,14 +9,14 @@ use lib.Seq.{sets}
 use Rattle.binary64.proofs.Fill.{sets-append}
 use Rattle.tile.specs.declared.Coord.{Coord}
 use Rattle.tile.specs.declared.TileBounds.{TileBounds}
-use Rattle.tile.specs.Ring.{coords, flat, close}
-use Rattle.tile.proofs.Rings.{coords-flat}
+use Rattle.tile.specs.Ring.{coords, flat, close, Stands}
+use Rattle.tile.proofs.Rings.{stands-front}
 use Rattle.sutherland_hodgman.specs.Growth.{B}
 use Rattle.sutherland_hodgman.proofs.Growth.{B-mono}
 use Rattle.rings.specs.Rings.{exterior, largest, total, mostRings}
 use Rattle.rings.specs.Representable.{anyHugeRing}
 use Rattle.rings.proofs.LentRings.{larger-least}
-use Rattle.clip.specs.Polygon.{unlessNone, cutExterior, cutHoles, cutRings, cut, overlay, reasonNumber, Stands, ExteriorRoom}
+use Rattle.clip.specs.Polygon.{unlessNone, cutExterior, cutHoles, cutRings, cut, overlay, reasonNumber, ExteriorRoom}
 use Rattle.clip.specs.declared.polygon.Reason.{Reason}
 use Rattle.clip.proofs.Cuts.{cut-fits-room, cut-rings}
 use Rattle.frame_bytes.specs.Frame.{Reading, refused, read, countOf, coordsOf, allIn, partAt}
@@ -55,7 +55,7 @@ module _ (bounds : TileBounds) (frame : List ℕ) (at m ring a : ℕ) (b : List 
       (omega (arith, stands-here .count, working-here .second), omega (arith, stands-here .count, output-here))
 
   pub exterior-ring : coords (take (2 * m) b) ≡ cutExterior bounds (exteriorAt frame at)
-  exterior-ring = rw (stands-here .numbers) (coords-flat (cutExterior bounds (exteriorAt frame at)))
+  exterior-ring = stands-front stands-here
 
   module _ (p r : Written) (o o′ : List ℕ) (put : PutRings (unlessNone (cutExterior bounds (exteriorAt frame at)) []) p o r o′) (e : p .next ≡ to + 6) (z : p .rings ≡ 0) where
     pub holes-room : RingsRoom frame (at + 2 + 2 + 16 * countOf (drop (at + 2) frame)) (countOf (drop at frame) - 1) ring a (length b) out r

@@ -10,13 +10,13 @@ use Rattle.binary64.proofs.Fill.{sets-append}
 use Rattle.binary64.proofs.Booleans.{both}
 use Rattle.tile.specs.declared.Coord.{Coord}
 use Rattle.tile.specs.declared.TileBounds.{TileBounds}
-use Rattle.tile.specs.Ring.{coords, flat, closed, close}
-use Rattle.tile.proofs.Rings.{coords-flat, length-close}
+use Rattle.tile.specs.Ring.{coords, flat, closed, close, Stands}
+use Rattle.tile.proofs.Rings.{stands-front, length-close}
 use Rattle.sutherland_hodgman.specs.Growth.{B}
 use Rattle.sutherland_hodgman.proofs.Growth.{B-mono}
 use Rattle.rings.specs.Rings.{largest, allClosed, total, ringRoom}
 use Rattle.rings.proofs.LentRings.{larger-least}
-use Rattle.clip.specs.Polygon.{cutHole, unlessNone, cutHoles, RingRoom, Stands}
+use Rattle.clip.specs.Polygon.{cutHole, unlessNone, cutHoles, RingRoom}
 use Rattle.clip.proofs.Cuts.{hole-fits-room}
 use Rattle.frame_bytes.specs.Frame.{countOf, coordsOf, readMany, ringsFrom}
 use Rattle.frame_bytes.specs.Encoding.{each, coordBytes, ringBytes}
@@ -138,7 +138,7 @@ module _ (bounds : TileBounds) (frame : List ℕ) (at k ring a b out : ℕ) (p :
     cut-room e = let f = hole-fits-room bounds ringHere in (omega (arith, st .count, second-here), omega (arith, st .count, output-here))
 
     pub cut-ring : coords (take (2 * m) after) ≡ cutHole bounds ringHere
-    cut-ring = rw (st .numbers) (coords-flat (cutHole bounds ringHere))
+    cut-ring = stands-front st
 
   pub next-room : (o : List ℕ) (r : Written) (o′ : List ℕ) → PutRings (unlessNone (cutHole bounds ringHere) []) p o r o′ → RingsRoom frame (at + 2 + 16 * countOf (drop at frame)) (k - 1) ring a b out r
   unfolding total

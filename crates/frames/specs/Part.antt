@@ -8,6 +8,7 @@ use lib.ListN.{length, drop}
 use lib.Seq.{sets}
 use Rattle.tile.specs.declared.Coord.{Coord}
 use Rattle.tile.specs.declared.TileBounds.{TileBounds}
+use Rattle.tile.specs.Ring.{Stands}
 use Rattle.sutherland_hodgman.specs.Growth.{B}
 use Rattle.rings.specs.Rings.{largest, allClosed, total, ringRoom, exterior}
 use Rattle.clip.specs.declared.polygon.Route.{Route}
@@ -75,7 +76,7 @@ pub record CutRoom (bounds : TileBounds) (frame : List ℕ) (at m ring a : ℕ) 
   pub accepted : Accepted (readPart (drop at frame))
   pub working : Working (partAt frame at) ring a (length b)
   pub output : to + partRoom coordinateBytes (partAt frame at) ≤ out
-  pub stands : P.Stands (P.cutExterior bounds (exterior (partAt frame at))) m b
+  pub stands : Stands (P.cutExterior bounds (exterior (partAt frame at))) m b
   pub whole : 0 < m
 
 -- a part whose exterior has this route is there and has room; where the route is a cut, the cut exterior stands at the front of b

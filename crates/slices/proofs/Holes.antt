@@ -11,12 +11,12 @@ use Rattle.binary64.proofs.Fill.{sets-append, whole-over}
 use Rattle.binary64.proofs.Booleans.{both}
 use Rattle.tile.specs.declared.Coord.{Coord}
 use Rattle.tile.specs.declared.TileBounds.{TileBounds}
-use Rattle.tile.specs.Ring.{coords, flat, closed, close}
+use Rattle.tile.specs.Ring.{coords, flat, closed, close, Stands}
 use Rattle.tile.proofs.Rings.{length-flat}
 use Rattle.sutherland_hodgman.proofs.Growth.{B-le}
 use Rattle.rings.specs.Rings.{exterior, sum, closedRings, total, largest, ringRoom, allClosed}
 use Rattle.rings.proofs.LentRings.{larger-least, rings-end, length-closed}
-use Rattle.clip.specs.Polygon.{cutHole, unlessNone, cutExterior, cutHoles, cutRings, cut, RingRoom, Stands}
+use Rattle.clip.specs.Polygon.{cutHole, unlessNone, cutExterior, cutHoles, cutRings, cut, RingRoom}
 use Rattle.clip.proofs.Cuts.{cut-fits-room, hole-fits-room, cut-rings}
 use Rattle.slices.specs.declared.call.Placed.{Placed}
 use Rattle.slices.specs.Slice.{numbersOf, lengthsOf, nonePlaced, lengthUnlessNone, PutRoom, Put, RingsRoom, PutHoles, Filled, CutRoom}

@@ -12,7 +12,7 @@ use Rattle.binary64.specs.Slices.{zeros, over}
 use Rattle.tile.specs.declared.Coord.{Coord}
 use Rattle.tile.specs.declared.TileBounds.{TileBounds}
 use Rattle.tile.specs.Bounds.{buffered}
-use Rattle.tile.specs.Ring.{flat}
+use Rattle.tile.specs.Ring.{flat, Stands}
 use Rattle.sutherland_hodgman.specs.declared.call.Refusal.the-variants.{Lengths, Coordinates, Scratch, Output}
 use Rattle.sutherland_hodgman.specs.declared.call.Check.{Check}
 use Rattle.sutherland_hodgman.specs.declared.call.Check.the-variants.{Fails, Passes}
@@ -23,7 +23,7 @@ use Rattle.clip.specs.declared.polygon.Flags.{Flags}
 use Rattle.clip.specs.declared.polygon.Route.{Route}
 use Rattle.clip.specs.declared.polygon.PolygonAnswer.{PolygonAnswer}
 use Rattle.clip.specs.declared.polygon.PolygonAnswer.the-variants as Is
-use Rattle.clip.specs.Polygon.{Routed, nothing, dropped, unchanged, cut, overlay, cutExterior, route, Stands, CutStands, answerOf, answerNumber, answerReason}
+use Rattle.clip.specs.Polygon.{Routed, nothing, dropped, unchanged, cut, overlay, cutExterior, route, CutStands, answerOf, answerNumber, answerReason}
 use Rattle.slices.specs.declared.call.Placed.{Placed}
 use Rattle.slices.specs.declared.call.SliceAnswer.{SliceAnswer}
 use Rattle.slices.specs.declared.call.SliceAnswer.the-variants.{Refused, Answered}

@@ -14,8 +14,8 @@ use Rattle.binary64.specs.Slices.{zeros}
 use Rattle.binary64.proofs.Booleans.{neither}
 use Rattle.tile.specs.declared.Coord.{Coord}
 use Rattle.tile.specs.declared.TileBounds.{TileBounds}
-use Rattle.tile.specs.Ring.{coords, flat}
-use Rattle.tile.proofs.Rings.{length-coords, coords-flat, coords-front}
+use Rattle.tile.specs.Ring.{coords, Stands, Written}
+use Rattle.tile.proofs.Rings.{length-coords, coords-flat, written-front}
 use Rattle.sutherland_hodgman.specs.declared.call.Refusal.{Refusal}
 use Rattle.sutherland_hodgman.specs.declared.call.Refusal.the-variants.{Lengths, Coordinates, Scratch, Output}
 use Rattle.sutherland_hodgman.specs.declared.call.Check.{Check}
@@ -25,7 +25,7 @@ use Rattle.sutherland_hodgman.specs.Growth.{halfGrowth, fourHalfGrowths,
 use Rattle.sutherland_hodgman.specs.Clip.{clipRing}
 use Rattle.sutherland_hodgman.specs.Promise.{Promise}
 use Rattle.sutherland_hodgman.specs.Cutter.{Cut}
-use Rattle.sutherland_hodgman.specs.Walk.{threePasses, Stands, Topped}
+use Rattle.sutherland_hodgman.specs.Walk.{threePasses, Topped}
 use Rattle.sutherland_hodgman.specs.Call.{refuse, checked, answered, ringAnswer, Done, ClippedTo, scratchAfter}
 use Rattle.sutherland_hodgman.proofs.Growth.{clipRing-grows}
 use Rattle.sutherland_hodgman.proofs.Promises.{HeldBounds, held-front}
@@ -98,11 +98,8 @@ module _ (ring : List Float) (bounds : TileBounds) (numbers : 2 * (length ring /
 
   pub cut-clipped : (out out′ cut : List Float) (r : ℕ) → Cut bounds (coords ring) r cut → out′ ≡ take (2 * r) cut ++ drop (2 * r) out → ClippedTo ring bounds out r out′
   cut-clipped out out′ cut r c ho =
-      let o : out′ ≡ flat (clipRing bounds (coords ring)) ++ drop (2 * r) out = ho ∙ rw (c .numbers) in
-      record {
-        written = record { count = c .count; numbers = o };
-        promise = rw (coords-front (clipRing bounds (coords ring)) (drop (2 * r) out) out′ r (c .count) o, ← cut-ring r cut c) (c .promise);
-      }
+      let w : Written (clipRing bounds (coords ring)) out r out′ = record { count = c .count; numbers = ho ∙ rw (c .numbers) } in
+      record { written = w; promise = rw (written-front w, ← cut-ring r cut c) (c .promise) }
 
   pub topped-clipped : (k : ℕ) (d out out′ : List Float) (r : ℕ) → HeldBounds bounds → ((i : ℕ) → T (fits binary64 (getD ring i nan))) → 4 ≤ k
       → Stands (threePasses bounds (coords (take (2 * (length ring / 2)) ring))) k d → Topped bounds (coords (take (2 * k) d)) out r out′ → ClippedTo ring bounds out r out′

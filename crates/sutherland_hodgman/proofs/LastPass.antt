@@ -7,18 +7,18 @@ use Prim.Native.Nat.{ℕ, suc, _+_, _*_, _-_, _≤_, _<_}
 use native.Mathlib.Omega.{arith}
 use lib.Ieee.{Float}
 use lib.ListN.{length, take, drop, length-append}
-use lib.Seq.{length-take-le, take-at, drop-append-add, drop-drop}
+use lib.Seq.{length-take-le, drop-append-add, drop-drop}
 use borrow.Author.Tests.{le-leb}
 use Rattle.binary64.specs.Lists.{Every}
 use Rattle.tile.specs.declared.Coord.{Coord}
 use Rattle.tile.specs.declared.TileBounds.{TileBounds}
 use Rattle.tile.specs.declared.Edge.{Edge}
 use Rattle.tile.specs.declared.Edge.the-variants.{Top}
-use Rattle.tile.specs.Ring.{coords, flat, last, closed, Written}
-use Rattle.tile.proofs.Rings.{length-flat, coords-flat, coords-front, length-close}
+use Rattle.tile.specs.Ring.{coords, flat, last, closed, Stands, Written}
+use Rattle.tile.proofs.Rings.{length-flat, stands-front, written-stands, written-front, length-close}
 use Rattle.sutherland_hodgman.specs.Lines.{inside, crossing}
 use Rattle.sutherland_hodgman.specs.Clip.{step, steps, leaveOff, around, pass, passes, finish, clipRing}
-use Rattle.sutherland_hodgman.specs.Walk.{threePasses, Stands, Topped}
+use Rattle.sutherland_hodgman.specs.Walk.{threePasses, Topped}
 use Rattle.sutherland_hodgman.specs.Growth.{halfGrowth}
 use Rattle.sutherland_hodgman.specs.Cutter.{Cut}
 use Rattle.sutherland_hodgman.proofs.Growth.{pass-grows}
@@ -116,15 +116,12 @@ drop-past a d m n e h =
 pub topped : (b : TileBounds) (r : List Coord) (d d₁ d₂ : List Float) (k₁ k₂ : ℕ) → Written (pass Top b r) d k₁ d₁ → Written (finish (coords (take (2 * k₁) d₁))) d₁ k₂ d₂ → Topped b r d k₂ d₂
 topped b r d d₁ d₂ k₁ k₂ w f =
     let P = pass Top b r in
-    let e : coords (take (2 * k₁) d₁) ≡ P = coords-front P (drop (2 * k₁) d) d₁ k₁ (w .count) (w .numbers) in
-    let c : k₂ ≡ length (finish P) = f .count ∙ rw e in
-    let n : d₂ ≡ flat (finish P) ++ drop (2 * k₂) d₁ = f .numbers ∙ rw e in
+    let g : Written (finish P) d₁ k₂ d₂ = rw (written-front w) at f in
     record {
-      count = c;
-      numbers = rw n (take-at (flat (finish P)) (drop (2 * k₂) d₁) (2 * k₂) (length-flat (finish P) ∙ rw c));
+      stands = written-stands g;
       rest = λ h. record {
-        count = c;
-        numbers = n ∙ rw (w .numbers, drop-past (flat P) d (2 * k₁) (2 * k₂) (length-flat P ∙ rw (w .count)) (omega (arith, w .count, finish-keeps P (none-or-three Top b r h))));
+        count = g .count;
+        numbers = g .numbers ∙ rw (w .numbers, drop-past (flat P) d (2 * k₁) (2 * k₂) (length-flat P ∙ rw (w .count)) (omega (arith, w .count, finish-keeps P (none-or-three Top b r h))));
       };
     }
 
@@ -142,11 +139,10 @@ pub topped-cut : (b : TileBounds) (ring : List Coord) (k : ℕ) (d d₀ d′ : L
     → Cut b ring r d′
 unfolding clipRing passes threePasses
 topped-cut b ring k d d₀ d′ r hb hr s t =
-    let e : finish (pass Top b (coords (take (2 * k) d))) ≡ clipRing b ring = rw (s .front) in
-    let n : take (2 * r) d′ ≡ flat (clipRing b ring) = t .numbers ∙ rw e in
-    record { count = t .count ∙ rw e; numbers = n; promise = rw (n, coords-flat (clipRing b ring)) (promise b ring hb hr) }
+    let c : Stands (clipRing b ring) r d′ = rw (stands-front s) at (t .stands) in
+    record { count = c .count; numbers = c .numbers; promise = rw (stands-front c) (promise b ring hb hr) }
 
 pub topped-written : (b : TileBounds) (ring : List Coord) (k : ℕ) (d d₀ d′ : List Float) (r : ℕ) → 4 ≤ k → Stands (threePasses b ring) k d → Topped b (coords (take (2 * k) d)) d₀ r d′
     → Written (clipRing b ring) d₀ r d′
 unfolding clipRing passes threePasses
-topped-written b ring k d d₀ d′ r h s t = let n = ap length (s .front) in rw (s .front) at (t .rest (omega (arith, s .count)))
+topped-written b ring k d d₀ d′ r h s t = let n = ap length (stands-front s) in rw (stands-front s) at (t .rest (omega (arith, s .count)))

@@ -1,42 +1,39 @@
 -- The passes in turn over two slices: after each the ring so far stands at the front of a slice, within its growth. Assumes nothing.
-use mathlib.Core.Path.{_≡_, refl, sym, _∙_, ap}
+use mathlib.Core.Path.{_≡_, refl, sym}
 use mathlib.Core.List.{List}
 use Prim.Native.Nat.{ℕ, suc, _+_, _*_, _≤_, _<_}
 use native.Mathlib.Nat.{le-trans, le-of-eq}
 use native.Mathlib.Omega.{arith}
 use lib.Ieee.{Float}
-use lib.ListN.{length, take, drop}
+use lib.ListN.{length, take}
 use Rattle.tile.specs.declared.Coord.{Coord}
 use Rattle.tile.specs.declared.TileBounds.{TileBounds}
 use Rattle.tile.specs.declared.Edge.{Edge}
 use Rattle.tile.specs.declared.Edge.the-variants.{Left, Right, Bottom}
-use Rattle.tile.specs.Ring.{coords, Written}
-use Rattle.tile.proofs.Rings.{length-front, coords-front}
+use Rattle.tile.specs.Ring.{coords, Stands, Written}
+use Rattle.tile.proofs.Rings.{length-front, flat-front, stands-front, written-stands}
 use Rattle.sutherland_hodgman.specs.Clip.{pass}
-use Rattle.sutherland_hodgman.specs.Walk.{threePasses, Stands}
+use Rattle.sutherland_hodgman.specs.Walk.{threePasses}
 use Rattle.sutherland_hodgman.specs.Growth.{halfGrowth, B}
 use Rattle.sutherland_hodgman.proofs.Growth.{pass-grows, halfGrowth-mono, grown, grown-four, room-pass, room-more, grown-some}
 
 -- after j passes over n vertices: the ring r, k vertices long, at the front of d
 pub record Stage (j n : ℕ) (r : List Coord) (d : List Float) (k : ℕ) : Type 0 where
-  pub count : k ≡ length r
+  pub stands : Stands r k d
   pub bounded : k ≤ grown j n
-  pub front : coords (take (2 * k) d) ≡ r
 
 pub stage-start : (n : ℕ) (d : List Float) → 2 * n ≤ length d → Stage 0 n (coords (take (2 * n) d)) d n
 unfolding grown
-stage-start n d h = record { count = sym (length-front d n h); bounded = le-of-eq refl; front = refl }
+stage-start n d h = record { stands = record { count = sym (length-front d n h); numbers = sym (flat-front d n h) }; bounded = le-of-eq refl }
 
 pub stage-next : (l : Edge) (b : TileBounds) {j n : ℕ} {r : List Coord} {d : List Float} {k : ℕ} (d0 d′ : List Float) (k′ : ℕ) → Stage j n r d k
     → Written (pass l b (coords (take (2 * k) d))) d0 k′ d′ → Stage (suc j) n (pass l b r) d′ k′
 unfolding grown
-stage-next l b {r = r} {d = d} {k = k} d0 d′ k′ s w =
-    let e : pass l b (coords (take (2 * k) d)) ≡ pass l b r = ap (pass l b) (s .front) in
-    let c : k′ ≡ length (pass l b r) = w .count ∙ ap length e in
+stage-next l b {r = r} d0 d′ k′ s w =
+    let p : Written (pass l b r) d0 k′ d′ = rw (stands-front (s .stands)) at w in
     record {
-      count = c;
-      bounded = le-trans (le-of-eq c) (le-trans (pass-grows l b r) (halfGrowth-mono (le-trans (le-of-eq (sym (s .count))) (s .bounded))));
-      front = coords-front (pass l b r) (drop (2 * k′) d0) d′ k′ c (w .numbers ∙ rw e);
+      stands = written-stands p;
+      bounded = le-trans (le-of-eq (p .count)) (le-trans (pass-grows l b r) (halfGrowth-mono (le-trans (le-of-eq (sym (s .stands .count))) (s .bounded))));
     }
 
 -- the room for the next pass
@@ -51,9 +48,8 @@ stage-room {j} {n} {k = k} here there h p q s = (
 pub stage-three : (b : TileBounds) (r : List Coord) (n : ℕ) (d : List Float) (k : ℕ) → length r ≡ n → Stands (threePasses b r) k d → Stage 3 n (threePasses b r) d k
 unfolding grown threePasses
 stage-three b r n d k e t = record {
-  count = t .count;
+  stands = t;
   bounded = le-trans (le-of-eq (t .count)) (le-trans (pass-grows Bottom b _) (halfGrowth-mono (le-trans (pass-grows Right b _) (halfGrowth-mono (le-trans (pass-grows Left b r) (halfGrowth-mono (le-of-eq e)))))));
-  front = t .front;
 }
 
 -- the room for the last pass and the closing

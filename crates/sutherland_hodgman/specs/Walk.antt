@@ -4,13 +4,13 @@ use mathlib.Core.Bool.{Bool}
 use mathlib.Core.List.{List}
 use Prim.Native.Nat.{ℕ, zero, suc, _+_, _*_, _-_, _≤_}
 use lib.Ieee.{Float, nan}
-use lib.ListN.{length, getD, take, drop}
+use lib.ListN.{length, getD, drop}
 use lib.Seq.{sets}
 use Rattle.tile.specs.declared.Coord.{Coord}
 use Rattle.tile.specs.declared.TileBounds.{TileBounds}
 use Rattle.tile.specs.declared.Edge.{Edge}
 use Rattle.tile.specs.declared.Edge.the-variants.{Left, Right, Bottom, Top}
-use Rattle.tile.specs.Ring.{coords, flat, Written}
+use Rattle.tile.specs.Ring.{flat, Stands, Written}
 use Rattle.sutherland_hodgman.specs.Clip.{steps, pass, finish}
 
 abbrev pub none : Coord
@@ -34,13 +34,7 @@ pub record Onward (l : Edge) (b : TileBounds) (r : List Coord) (v : Bool) (i k :
 unfoldable pub threePasses : TileBounds → List Coord → List Coord
 threePasses b r = pass Bottom b (pass Right b (pass Left b r))
 
--- the ring r, k vertices long, stands at the front of d
-pub record Stands (r : List Coord) (k : ℕ) (d : List Float) : Type 0 where
-  pub count : k ≡ length r
-  pub front : coords (take (2 * k) d) ≡ r
-
 -- What the last pass and the closing make of the ring r stands at the front of the slice, k vertices long. Past it the slice is as it was, if r has four vertices or more.
 pub record Topped (b : TileBounds) (r : List Coord) (d : List Float) (k : ℕ) (d′ : List Float) : Type 0 where
-  pub count : k ≡ length (finish (pass Top b r))
-  pub numbers : take (2 * k) d′ ≡ flat (finish (pass Top b r))
+  pub stands : Stands (finish (pass Top b r)) k d′
   pub rest : 4 ≤ length r → Written (finish (pass Top b r)) d k d′

@@ -3,7 +3,7 @@ ghost use mathlib.Core.Path.{_≡_};
 ghost use mathlib.Core.Bool.{true, false, not};
 ghost use Prim.Native.Nat.{_+_, _*_, _≤_, _<_};
 ghost use lib.ListN.{length, take};
-ghost use Rattle.tile.specs.Ring.{coords, coordAt, Written};
+ghost use Rattle.tile.specs.Ring.{coords, coordAt, Stands, Written};
 ghost use Rattle.sutherland_hodgman.specs.Lines as L;
 ghost use Rattle.sutherland_hodgman.specs.Clip as S;
 ghost use Rattle.sutherland_hodgman.specs.Walk as W;
@@ -256,7 +256,7 @@ fn clip_three_edges(
     b: &mut [f64],
 ) -> Pass
     requires { ⌜ Room n (length (now ring)) (length (now a)) (length (now b)) ⌝ }
-    ensures { λ r. ⌜ W.Stands (W.threePasses bounds (coords (take (2 * n) (now (ring .entry))))) (r .len) (now (a .exit)) ⌝ }
+    ensures { λ r. ⌜ Stands (W.threePasses bounds (coords (take (2 * n) (now (ring .entry))))) (r .len) (now (a .exit)) ⌝ }
 {
     let left = clip_ring_against_edge(ring, n, Edge::Left, bounds, a);
     let right = clip_ring_against_edge(a, left.len, Edge::Right, bounds, b);

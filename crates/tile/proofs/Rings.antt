@@ -5,11 +5,11 @@ use mathlib.Core.List.{List, [], _∷_, _++_}
 use Prim.Native.Nat.{ℕ, zero, suc, _+_, _*_, _-_, _<_, _≤_}
 use native.Mathlib.Numerals.{add-one}
 use native.Mathlib.Omega.{arith}
-use lib.ListN.{length, getD, take, length-append, take-append-drop}
+use lib.ListN.{length, getD, take, drop, length-append, take-append-drop}
 use lib.Seq.{sets, sets-eq, take-take, getD-take, length-take-le, take-at}
 use lib.Ieee.{Float, nan}
 use Rattle.tile.specs.declared.Coord.{Coord}
-use Rattle.tile.specs.Ring.{coords, flat, coordAt, same, last, closed, close, Written}
+use Rattle.tile.specs.Ring.{coords, flat, coordAt, same, last, closed, close, Stands, Written}
 
 -- ---- flat lists
 
@@ -68,6 +68,20 @@ front-front s k n h = sym (ap coords (take-take (2 * k) (2 * n) s (omega arith))
 -- the front of a slice that starts with the numbers of a ring is that ring
 pub coords-front : (l : List Coord) (rest s : List Float) (n : ℕ) → n ≡ length l → s ≡ flat l ++ rest → coords (take (2 * n) s) ≡ l
 coords-front l rest s n hn hs = rw (hs, take-at (flat l) rest (2 * n) (length-flat l ∙ rw hn)) (coords-flat l)
+
+-- ---- a ring that stands at the front of a slice
+
+pub stands-front : {ring : List Coord} {r : ℕ} {after : List Float} → Stands ring r after → coords (take (2 * r) after) ≡ ring
+stands-front {ring} s = rw (s .numbers) (coords-flat ring)
+
+pub written-stands : {ring : List Coord} {before : List Float} {r : ℕ} {after : List Float} → Written ring before r after → Stands ring r after
+written-stands {ring} {before} {r} w = record {
+  count = w .count;
+  numbers = rw (w .numbers) (take-at (flat ring) (drop (2 * r) before) (2 * r) (length-flat ring ∙ rw (w .count)));
+}
+
+pub written-front : {ring : List Coord} {before : List Float} {r : ℕ} {after : List Float} → Written ring before r after → coords (take (2 * r) after) ≡ ring
+written-front w = stands-front (written-stands w)
 
 -- ---- a coordinate by its place
 

@@ -4,7 +4,7 @@ use mathlib.Core.Bool.{Bool, true, _&&_, cond}
 use mathlib.Core.List.{List, [], _∷_, _++_}
 use Prim.Native.Nat.{ℕ, _+_, _*_}
 use lib.Ieee.{Float, nan, eq}
-use lib.ListN.{length, getD, drop}
+use lib.ListN.{length, getD, take, drop}
 use Rattle.tile.specs.declared.Coord.{Coord}
 
 -- the coordinates of x, y numbers; a number that is left over is passed over
@@ -40,6 +40,11 @@ closed (p ∷ r) = same p (last p r)
 unfoldable pub close : List Coord → List Coord
 close [] = []
 close (p ∷ r) = cond (closed (p ∷ r)) (p ∷ r) ((p ∷ r) ++ (p ∷ []))
+
+-- a ring stands at the front of a slice, r coordinates long; what lies past it is left open
+pub record Stands (ring : List Coord) (r : ℕ) (after : List Float) : Type 0 where
+  pub count : r ≡ length ring
+  pub numbers : take (2 * r) after ≡ flat ring
 
 -- a ring stands at the front of a slice, r coordinates long, and past it the slice is as it was
 pub record Written (ring : List Coord) (before : List Float) (r : ℕ) (after : List Float) : Type 0 where

@@ -44,7 +44,7 @@ returns c =
     let s1 = stage-next Left (a .args .bounds) _ _ _ s0 (c .before .before .before .before .before .before .before .before .before .before .before .before .clip-ring-against-edge .ensures) in
     let s2 = stage-next Right (a .args .bounds) _ _ _ s1 (c .before .before .before .before .before .before .before .clip-ring-against-edge2 .ensures) in
     let s3 = stage-next Bottom (a .args .bounds) _ _ _ s2 (c .before .before .clip-ring-against-edge3 .ensures) in
-    record { count = s3 .count; front = s3 .front }
+    s3 .stands
 
 pub clip-three-edges-spec : {M : Type 1} → statement M
 clip-three-edges-spec =

@@ -5,8 +5,9 @@ use mathlib.Core.Path.{refl}
 use borrow.Author.Tests.{lt-ltb, le-ltb}
 use borrow.Author.Needs.{needs}
 use Rattle.tile.specs.Ring.{flat}
+use Rattle.tile.proofs.Rings.{written-stands}
 use Rattle.clip.specs.Polygon.{cutHole}
-use Rattle.clip.proofs.Cuts.{cutter-room, cut-count, cut-fits, closed-written, written-stands}
+use Rattle.clip.proofs.Cuts.{cutter-room, cut-count, cut-fits, closed-written}
 use Rattle.clip.proofs.polygon.clip_hole.Statement.{statement}
 use Rattle.clip.proofs.polygon.clip_hole.Tie as tie
 
@@ -44,7 +45,7 @@ unfolding cutHole
 returns-2 c =
     let a = c .before .before .before .before .before .before .before .before .before .before .before .before .before .before .before in
     let e = cut-count (a .args .n) (now (a .args .ring)) _ _ (a .pre) (a .args .bounds) _ _ (c .before .before .before .before .before .before .before .before .before .clip-ring .ensures) in
-    rw (← e, le-ltb _ _ (c .before .before .before .before .if1 .left)) (written-stands _ _ _ _ (closed-written (a .args .n) (now (a .args .ring)) _ _ (a .pre) (a .args .bounds) _ _ (c .before .before .before .before .before .before .before .before .before .clip-ring .ensures) _ _ (c .before .before .close .ensures)))
+    rw (← e, le-ltb _ _ (c .before .before .before .before .if1 .left)) (written-stands (closed-written (a .args .n) (now (a .args .ring)) _ _ (a .pre) (a .args .bounds) _ _ (c .before .before .before .before .before .before .before .before .before .clip-ring .ensures) _ _ (c .before .before .close .ensures)))
 
 pub clip-hole-spec : {M : Type 1} → statement M
 clip-hole-spec =

@@ -6,9 +6,9 @@ use mathlib.Core.Path.{_≡_, _∙_, sym}
 use lib.ListN.{length, take}
 use borrow.Author.Needs.{needs}
 use Rattle.tile.specs.Ring.{coords, close}
-use Rattle.tile.proofs.Rings.{close-closed, count-open, length-front}
+use Rattle.tile.proofs.Rings.{close-closed, count-open, length-front, written-front}
 use Rattle.sutherland_hodgman.proofs.Growth.{le-B}
-use Rattle.clip.proofs.Cuts.{lent-count, written-front, copied-front}
+use Rattle.clip.proofs.Cuts.{lent-count, copied-front}
 use Rattle.clip.proofs.polygon.closed_issue.Statement.{statement}
 use Rattle.clip.proofs.polygon.closed_issue.Tie as tie
 
@@ -82,7 +82,7 @@ returns-2 c =
     let s = now (c .before .before .before .before .before .before .before .before .before .before .before .before .before .before .before .before .before .before .before .before .before .before .args .ring) in
     let n = c .before .before .before .before .before .before .before .before .before .before .before .before .before .before .before .before .before .before .before .before .before .before .args .n in
     let e = copied-front (2 * n) s (now (c .before .before .before .before .before .before .before .before .before .before .before .before .before .before .before .before .before .before .before .before .before .before .args .b)) _ (p .room .lent) (c .before .before .before .before .before .before .before .before .before .before .before .before .before .before .copy .ensures) in
-    let f = written-front _ _ _ _ (c .before .before .before .before .before .before .before .before .before .before .close .ensures) in
+    let f = written-front (c .before .before .before .before .before .before .before .before .before .before .close .ensures) in
     c .before .before .before .before .find-issue2 .ensures .0 ∙ rw (f, e)
 
 pub closed-issue-spec : {M : Type 1} → statement M

@@ -6,9 +6,10 @@ use Prim.Native.Nat.{_*_}
 use lib.ListN.{take}
 use borrow.Author.Needs.{needs}
 use Rattle.tile.specs.Ring.{coords, close}
+use Rattle.tile.proofs.Rings.{written-stands, written-front}
 use Rattle.sutherland_hodgman.proofs.Growth.{B-le}
 use Rattle.clip.specs.Polygon.{routeCut}
-use Rattle.clip.proofs.Cuts.{cutter-room, cut-count, cut-fits, closed-written, closed-fits, closed-some, written-stands, written-front, judged-route, judged-stands}
+use Rattle.clip.proofs.Cuts.{cutter-room, cut-count, cut-fits, closed-written, closed-fits, closed-some, judged-route, judged-stands}
 use Rattle.clip.proofs.polygon.route_cut.Statement.{statement}
 use Rattle.clip.proofs.polygon.route_cut.Tie as tie
 
@@ -63,7 +64,7 @@ returns-2 c =
     let ring = close (coords (take (2 * a .args .n) (now (a .args .ring)))) in
     let w = closed-written (a .args .n) (now (a .args .ring)) _ _ (a .pre .room) (a .args .bounds) _ _ cut _ _ (c .before .before .before .before .before .before .before .before .before .before .before .before .close .ensures) in
     let is = c .judge-cut .ensures in
-    (judged-route (a .args .flags) (a .args .bounds) ring _ _ _ _ is (omega (arith, cut-count (a .args .n) (now (a .args .ring)) _ _ (a .pre .room) (a .args .bounds) _ _ cut, h)) (written-front _ _ _ _ w) (c .before .before .before .before .before .before .find-issue .ensures .0) (w .count), judged-stands (a .args .flags) (a .args .bounds) ring _ _ _ _ is _ (written-stands _ _ _ _ w) (closed-some (a .args .n) (now (a .args .ring)) _ _ (a .pre .room) (a .args .bounds) _ _ cut _ _ (c .before .before .before .before .before .before .before .before .before .before .before .before .close .ensures) h))
+    (judged-route (a .args .flags) (a .args .bounds) ring _ _ _ _ is (omega (arith, cut-count (a .args .n) (now (a .args .ring)) _ _ (a .pre .room) (a .args .bounds) _ _ cut, h)) (written-front w) (c .before .before .before .before .before .before .find-issue .ensures .0) (w .count), judged-stands (a .args .flags) (a .args .bounds) ring _ _ _ _ is _ (written-stands w) (closed-some (a .args .n) (now (a .args .ring)) _ _ (a .pre .room) (a .args .bounds) _ _ cut _ _ (c .before .before .before .before .before .before .before .before .before .before .before .before .close .ensures) h))
 
 pub route-cut-spec : {M : Type 1} → statement M
 route-cut-spec =

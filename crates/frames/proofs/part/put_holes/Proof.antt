@@ -6,9 +6,9 @@ use native.Mathlib.Omega.{arith}
 use denote.Ref.{now}
 use lib.ListN.{length, drop}
 use borrow.Author.Needs.{needs}
-use Rattle.tile.specs.Ring.{close}
+use Rattle.tile.specs.Ring.{close, Stands}
 use Rattle.rings.specs.Rings.{mostRings}
-use Rattle.clip.specs.Polygon.{cutHole, unlessNone, cutHoles, Stands}
+use Rattle.clip.specs.Polygon.{cutHole, unlessNone, cutHoles}
 use Rattle.frame_bytes.specs.Frame.{countOf, coordsOf, ringsFrom}
 use Rattle.frames.specs.Part.{PutRings, RingsRoom}
 use Rattle.frames.proofs.Cutting.{ring-read-in, Ahead, ahead-start, ahead-then, ahead-hole, ahead-none, hole-whole, hole-room, cut-room, cut-ring, next-room, holes-end, same-room, unless-count}

@@ -6,10 +6,10 @@ use denote.Ref.{now}
 use lib.ListN.{length, getD, take, drop}
 use borrow.Author.Needs.{needs}
 use Rattle.binary64.proofs.Fill.{tail-part}
-use Rattle.tile.specs.Ring.{coords as coordinates, close}
+use Rattle.tile.specs.Ring.{coords as coordinates, close, Stands}
 use Rattle.rings.specs.Rings.{closedRings}
 use Rattle.rings.proofs.LentRings.{Left, left-start, left-ring, left-next, rings-step}
-use Rattle.clip.specs.Polygon.{cutHole, cutHoles, Stands}
+use Rattle.clip.specs.Polygon.{cutHole, cutHoles}
 use Rattle.clip.proofs.Cuts.{hole-fits-room}
 use Rattle.slices.specs.Slice.{RingsRoom}
 use Rattle.slices.proofs.Holes.{Ahead, ahead-start, ahead-then, ahead-ring, ahead-end, hole-room, put-room, next-room, room-here, room-there, same-room}
