@@ -1,5 +1,9 @@
 // Answers as they cross in the exported calls: an i64, here by its bits, so that minus a refusal's number is a number from the top.
-ghost use Prim.Native.Nat.{_≤_};
+ghost use mathlib.Core.Path.{_≡_};
+ghost use Prim.Native.Nat.{_^_, _<_};
+ghost use Rattle.sutherland_hodgman.specs.Call as C;
+ghost use Rattle.slices.specs.Slice as P;
+ghost use Rattle.replay.specs.Code as S;
 use clip::polygon::PolygonAnswer;
 use clip::polygon::reason_number;
 use slices::call::SliceAnswer;
@@ -16,11 +20,15 @@ pub enum Outcome {
 // The largest code that is no refusal.
 const LARGEST: u64 = 0x7fff_ffff_ffff_ffff;
 
-pub fn is_refusal(code: u64) -> bool {
+pub fn is_refusal(code: u64) -> bool
+    ensures { λ r. ⌜ r ≡ S.isRefusal code ⌝ }
+{
     code > LARGEST
 }
 
-fn of_refusal(refusal: Refusal) -> u64 {
+fn of_refusal(refusal: Refusal) -> u64
+    ensures { λ r. ⌜ r ≡ S.bitsOf (C.code (RingAnswer.Refused refusal)) ⌝ }
+{
     match refusal {
         Refusal::Lengths => u64::MAX - 18,
         Refusal::Coordinates => u64::MAX - 19,
@@ -29,7 +37,9 @@ fn of_refusal(refusal: Refusal) -> u64 {
     }
 }
 
-pub fn of_ring(answer: RingAnswer) -> u64 {
+pub fn of_ring(answer: RingAnswer) -> u64
+    ensures { λ r. ⌜ r ≡ S.bitsOf (C.code answer) ⌝ }
+{
     match answer {
         RingAnswer::Refused(refusal) => of_refusal(refusal),
         RingAnswer::Clipped(n) => n as u64,
@@ -37,34 +47,32 @@ pub fn of_ring(answer: RingAnswer) -> u64 {
 }
 
 // The numbers that a ring call with this answer writes.
-pub fn numbers_of(code: u64) -> usize {
-    if code > LARGEST {
+pub fn numbers_of(code: u64) -> usize
+    ensures { λ r. ⌜ r ≡ S.numbersOf code ⌝ }
+{
+    if is_refusal(code) {
         return 0;
     }
     (2 * code) as usize
 }
 
-// 65,536 times a count of rings. One that has no room there gives 0, which no vector expects: a cut has a ring.
-fn rings_part(rings: usize) -> u64
-    ensures { λ r. ⌜ r ≤ 4294901760 ⌝ }
+fn of_polygon(answer: PolygonAnswer) -> u64
+    requires { ⌜ P.answerCode answer < 2 ^ 64 ⌝ }
+    ensures { λ r. ⌜ r ≡ P.answerCode answer ⌝ }
 {
-    if rings > 65535 {
-        return 0;
-    }
-    65536 * rings as u64
-}
-
-fn of_polygon(answer: PolygonAnswer) -> u64 {
     match answer {
         PolygonAnswer::Nothing => 0,
         PolygonAnswer::Dropped => 1,
         PolygonAnswer::Unchanged => 2,
-        PolygonAnswer::Cut(rings) => 4 + rings_part(rings),
+        PolygonAnswer::Cut(rings) => 4 + 65536 * rings as u64,
         PolygonAnswer::Overlay(reason) => 5 + 256 * reason_number(reason) as u64,
     }
 }
 
-pub fn of_slice(answer: SliceAnswer) -> u64 {
+pub fn of_slice(answer: SliceAnswer) -> u64
+    requires { ⌜ S.bitsOf (P.code answer) < 2 ^ 64 ⌝ }
+    ensures { λ r. ⌜ r ≡ S.bitsOf (P.code answer) ⌝ }
+{
     match answer {
         SliceAnswer::Refused(refusal) => of_refusal(refusal),
         SliceAnswer::Answered(polygon) => of_polygon(polygon),
@@ -72,7 +80,9 @@ pub fn of_slice(answer: SliceAnswer) -> u64 {
 }
 
 // The rings that a slice call with this answer writes.
-pub fn rings_of(code: u64) -> usize {
+pub fn rings_of(code: u64) -> usize
+    ensures { λ r. ⌜ r ≡ S.ringsOf code ⌝ }
+{
     if is_refusal(code) {
         return 0;
     }

@@ -1,4 +1,9 @@
 // What the lent slices hold before a call, and whether they hold afterwards what they must.
+ghost use mathlib.Core.Path.{_≡_};
+ghost use lib.Dec.{eqb};
+ghost use lib.Ieee.{binary64, toBits};
+ghost use Rattle.replay.specs.Lent as S;
+ghost use Rattle.replay.specs.Calls as K;
 use binary64::bytes::to_bits;
 
 // The most numbers that a polygon or a ring is lent with: two more than a call takes.
@@ -13,20 +18,28 @@ pub const MARK: f64 = 7.25;
 pub const WHOLE_MARK: u32 = 77;
 
 // Whether two numbers have the same bits; a NaN's bits are free.
-fn is_same(x: f64, y: f64) -> bool {
+fn is_same(x: f64, y: f64) -> bool
+    ensures { λ r. ⌜ r ≡ eqb (toBits binary64 x) (toBits binary64 y) ⌝ }
+{
     to_bits(x) == to_bits(y)
 }
 
 // What scratch holds after a call, and the order slice.
-pub fn scratch_after(refused: bool) -> f64 {
+fn scratch_after(refused: bool) -> f64
+    ensures { λ r. ⌜ toBits binary64 r ≡ S.scratchAfter refused ⌝ }
+{
     if refused { MARK } else { 0.0 }
 }
 
-pub fn order_after(refused: bool) -> u32 {
+fn order_after(refused: bool) -> u32
+    ensures { λ r. ⌜ r ≡ S.orderAfter refused ⌝ }
+{
     if refused { WHOLE_MARK } else { 0 }
 }
 
-pub fn are_all(s: &[f64], x: f64) -> bool {
+fn are_all(s: &[f64], x: f64) -> bool
+    ensures { λ r. ⌜ r ≡ S.areAll (S.bits (now (s .entry))) (toBits binary64 x) ⌝ }
+{
     let mut i = 0usize;
     while i < s.len() {
         if !is_same(s[i], x) {
@@ -37,7 +50,9 @@ pub fn are_all(s: &[f64], x: f64) -> bool {
     true
 }
 
-pub fn are_all_wholes(s: &[u32], x: u32) -> bool {
+fn are_all_wholes(s: &[u32], x: u32) -> bool
+    ensures { λ r. ⌜ r ≡ S.areAll (now (s .entry)) x ⌝ }
+{
     let mut i = 0usize;
     while i < s.len() {
         if s[i] != x {
@@ -48,53 +63,61 @@ pub fn are_all_wholes(s: &[u32], x: u32) -> bool {
     true
 }
 
-fn starts_with(s: &[f64], front: &[f64]) -> bool {
-    if s.len() < front.len() {
+// Whether a slice holds these numbers at its front, and past them what it held before the call.
+fn holds(s: &[f64], front: &[f64]) -> bool
+    ensures { λ r. ⌜ r ≡ S.holds S.mark (S.bits (now (front .entry))) (S.bits (now (s .entry))) ⌝ }
+{
+    let n = front.len();
+    if s.len() < n {
         return false;
     }
     let mut i = 0usize;
-    while i < front.len() {
+    while i < n {
         if !is_same(s[i], front[i]) {
             return false;
         }
         i += 1;
     }
-    true
+    are_all(&s[n..], MARK)
 }
 
-fn starts_with_wholes(s: &[u32], front: &[u32]) -> bool {
-    if s.len() < front.len() {
+fn holds_wholes(s: &[u32], front: &[u32]) -> bool
+    ensures { λ r. ⌜ r ≡ S.holds S.wholeMark (now (front .entry)) (now (s .entry)) ⌝ }
+{
+    let n = front.len();
+    if s.len() < n {
         return false;
     }
     let mut i = 0usize;
-    while i < front.len() {
+    while i < n {
         if s[i] != front[i] {
             return false;
         }
         i += 1;
     }
-    true
-}
-
-// Whether a slice holds these numbers at its front, and past them what it held before the call.
-pub fn holds(s: &[f64], front: &[f64]) -> bool {
-    let n = front.len();
-    if s.len() < n {
-        return false;
-    }
-    if !starts_with(s, front) {
-        return false;
-    }
-    are_all(&s[n..], MARK)
-}
-
-pub fn holds_wholes(s: &[u32], front: &[u32]) -> bool {
-    let n = front.len();
-    if s.len() < n {
-        return false;
-    }
-    if !starts_with_wholes(s, front) {
-        return false;
-    }
     are_all_wholes(&s[n..], WHOLE_MARK)
+}
+
+// Whether a call has left the scratch slices and the output as it has to. It reads them only: where they are lent to be written, each return is proved to keep all their lengths.
+pub fn numbers_agree(refused: bool, a: &[f64], b: &[f64], out: &[f64], expected: &[f64]) -> bool
+    ensures { λ r. ⌜ r ≡ K.numbersAgree refused (now (a .entry)) (now (b .entry)) (now (out .entry)) (now (expected .entry)) ⌝ }
+{
+    let scratch = scratch_after(refused);
+    if !are_all(a, scratch) {
+        return false;
+    }
+    if !are_all(b, scratch) {
+        return false;
+    }
+    holds(out, expected)
+}
+
+// The same of the order slice and the second length slice.
+pub fn wholes_agree(refused: bool, order: &[u32], out_lengths: &[u32], expected: &[u32]) -> bool
+    ensures { λ r. ⌜ r ≡ K.wholesAgree refused (now (order .entry)) (now («out_lengths» .entry)) (now (expected .entry)) ⌝ }
+{
+    if !are_all_wholes(order, order_after(refused)) {
+        return false;
+    }
+    holds_wholes(out_lengths, expected)
 }

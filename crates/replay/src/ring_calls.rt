@@ -1,6 +1,7 @@
 // Ring calls, each held to its answer and to what that answer leaves in the lent slices.
 ghost use mathlib.Core.Path.{_≡_};
 ghost use lib.ListN.{length};
+ghost use Rattle.replay.specs.Calls as S;
 use super::code::Outcome;
 use super::code::is_refusal;
 use super::code::numbers_of;
@@ -8,9 +9,7 @@ use super::code::of_ring;
 use super::lent::MARK;
 use super::lent::MOST_NUMBERS;
 use super::lent::ROOM;
-use super::lent::are_all;
-use super::lent::holds;
-use super::lent::scratch_after;
+use super::lent::numbers_agree;
 use super::stream::Code;
 use super::stream::count_at;
 use super::stream::fill;
@@ -58,18 +57,13 @@ fn agrees(
     b: &mut [f64],
     out: &mut [f64],
     expected: &[f64],
-) -> bool {
+) -> bool
+    ensures { λ r. ⌜ r ≡ S.ringAgrees code (now (expected .entry)) (now (lent .entry)) bounds (now (a .entry)) (now (b .entry)) (now (out .entry)) ⌝ }
+{
     if of_ring(ring(lent, bounds, a, b, out)) != code {
         return false;
     }
-    let scratch = scratch_after(is_refusal(code));
-    if !are_all(a, scratch) {
-        return false;
-    }
-    if !are_all(b, scratch) {
-        return false;
-    }
-    holds(out, expected)
+    numbers_agree(is_refusal(code), a, b, out, expected)
 }
 
 fn call(head: Head, code: u64, lent: &[f64], expected: &[f64]) -> Outcome {

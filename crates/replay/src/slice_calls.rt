@@ -1,7 +1,9 @@
 // Slice calls, each held to its answer and to what that answer leaves in the lent slices.
 ghost use mathlib.Core.Path.{_≡_};
+ghost use mathlib.Core.Bool.{_&&_};
 ghost use Prim.Native.Nat.{_^_, _<_, _≤_};
 ghost use lib.ListN.{length};
+ghost use Rattle.replay.specs.Calls as S;
 use super::code::Outcome;
 use super::code::is_refusal;
 use super::code::of_slice;
@@ -10,12 +12,8 @@ use super::lent::MARK;
 use super::lent::MOST_NUMBERS;
 use super::lent::ROOM;
 use super::lent::WHOLE_MARK;
-use super::lent::are_all;
-use super::lent::are_all_wholes;
-use super::lent::holds;
-use super::lent::holds_wholes;
-use super::lent::order_after;
-use super::lent::scratch_after;
+use super::lent::numbers_agree;
+use super::lent::wholes_agree;
 use super::stream::Code;
 use super::stream::Count;
 use super::stream::count_at;
@@ -84,7 +82,7 @@ fn read_head(bytes: &[u8]) -> Head
     }
 }
 
-// Whether a call has left the scratch, order and output slices as it has to. It reads them only: where they are lent to be written, each return is proved to keep all their lengths.
+// Whether a call has left the lent slices as it has to.
 fn leaves(
     refused: bool,
     a: &[f64],
@@ -94,20 +92,13 @@ fn leaves(
     out_lengths: &[u32],
     expected: &[f64],
     expected_lengths: &[u32],
-) -> bool {
-    if !are_all(a, scratch_after(refused)) {
+) -> bool
+    ensures { λ r. ⌜ r ≡ S.numbersAgree refused (now (a .entry)) (now (b .entry)) (now (out .entry)) (now (expected .entry)) && S.wholesAgree refused (now (order .entry)) (now («out_lengths» .entry)) (now («expected_lengths» .entry)) ⌝ }
+{
+    if !numbers_agree(refused, a, b, out, expected) {
         return false;
     }
-    if !are_all(b, scratch_after(refused)) {
-        return false;
-    }
-    if !are_all_wholes(order, order_after(refused)) {
-        return false;
-    }
-    if !holds(out, expected) {
-        return false;
-    }
-    holds_wholes(out_lengths, expected_lengths)
+    wholes_agree(refused, order, out_lengths, expected_lengths)
 }
 
 fn agrees(
@@ -122,7 +113,9 @@ fn agrees(
     out_lengths: &mut [u32],
     expected: &[f64],
     expected_lengths: &[u32],
-) -> bool {
+) -> bool
+    ensures { λ r. ⌜ r ≡ S.sliceAgrees code (now (expected .entry)) (now («expected_lengths» .entry)) (head .flags) (head .bounds) (head .buffer) (now (coords .entry)) (now (lengths .entry)) (now (a .entry)) (now (b .entry)) (now (order .entry)) (now (out .entry)) (now («out_lengths» .entry)) ⌝ }
+{
     let answer = polygon(
         head.flags,
         head.bounds,

@@ -1,18 +1,23 @@
--- `are_all_wholes` is safe and ends: the places read lie in the slice. Assumes nothing.
-use Prim.Native.Nat.{_-_, _≤_}
+-- `are_all_wholes` meets its contract. The invariant: what is left to compare gives the answer. Assumes nothing.
+use mathlib.Core.Path.{sym}
+use Prim.Native.Nat.{_-_}
+use native.Mathlib.Omega.{arith}
 use borrow.Author.Needs.{needs}
+use denote.Ref.{now}
 use lib.ListN.{length}
+use borrow.Author.Tests.{eq-eqb, ne-eqb}
+use Rattle.replay.proofs.Compared.{AllFrom, all-start, all-step, all-miss, all-end}
 use Rattle.replay.proofs.lent.are_all_wholes.Statement.{statement}
 use Rattle.replay.proofs.lent.are_all_wholes.Tie as tie
 
 abbrev Inv-loop : tie.InvT-loop
-Inv-loop s x i₀ i = i ≤ length s
+Inv-loop s x i₀ i = AllFrom s x i
 
 abbrev μ-loop : tie.MeasureT-loop
 μ-loop s x i₀ i = length s - i
 
 loop-holds : tie.Need-loop-holds Inv-loop μ-loop
-loop-holds c = search needs
+loop-holds c = all-start _ _
 
 mul-if1 : tie.Need-mul-if1 Inv-loop μ-loop
 mul-if1 c = search needs
@@ -21,7 +26,7 @@ shared-slice-read-if1 : tie.Need-shared-slice-read-if1 Inv-loop μ-loop
 shared-slice-read-if1 c = search needs
 
 returns : tie.Need-returns Inv-loop μ-loop
-returns c = search needs
+returns c = sym (all-miss _ _ _ (c .before .before .loop-test .taken) (ne-eqb _ _ (c .if1 .taken)) (c .before .before .before .loop .inv))
 
 add-i : tie.Need-add-i Inv-loop μ-loop
 add-i c = search needs
@@ -30,10 +35,10 @@ loop-less : tie.Need-loop-less Inv-loop μ-loop
 loop-less c = search needs
 
 loop-again : tie.Need-loop-again Inv-loop μ-loop
-loop-again c = search needs
+loop-again c = all-step _ _ _ (c .before .before .loop-test .taken) (eq-eqb _ _ (c .if1 .left)) (c .before .before .before .loop .inv)
 
 returns-2 : tie.Need-returns-2 Inv-loop μ-loop
-returns-2 c = search needs
+returns-2 c = sym (all-end _ _ _ (c .loop-test .left) (c .before .loop .inv))
 
 pub are-all-wholes-spec : {M : Type 1} → statement M
 are-all-wholes-spec =

@@ -1,0 +1,23 @@
+-- The code of a slice call's answer has 64 bits. Assumes nothing.
+use mathlib.Core.Path.{_≡_, sym}
+use mathlib.Core.List.{List}
+use Prim.Native.Nat.{ℕ, _^_, _<_}
+use native.Mathlib.Omega.{arith}
+use lib.Dec.{lit<}
+use lib.Ieee.{Float}
+use Rattle.tile.specs.declared.TileBounds.{TileBounds}
+use Rattle.sutherland_hodgman.specs.declared.call.Refusal.the-variants.{Lengths, Coordinates, Scratch, Output}
+use Rattle.clip.specs.declared.polygon.Flags.{Flags}
+use Rattle.slices.specs.declared.call.SliceAnswer.{SliceAnswer}
+use Rattle.slices.specs.declared.call.SliceAnswer.the-variants.{Refused, Answered}
+use Rattle.slices.specs.Slice.{answered, checked, routeLent, code}
+use Rattle.slices.proofs.Answers.{answer-below}
+use Rattle.replay.specs.Code.{bitsOf}
+
+module _ (flags : Flags) (bounds : TileBounds) (buffer : Float) (s : List Float) (ns : List ℕ) (a b order out lens : ℕ) where
+  pub slice-fits : (r : SliceAnswer) → r ≡ answered (checked s ns a b order out lens) (routeLent flags bounds buffer s ns) → bitsOf (code r) < 2 ^ 64
+  slice-fits (Refused Lengths) e = lit< tt
+  slice-fits (Refused Coordinates) e = lit< tt
+  slice-fits (Refused Scratch) e = lit< tt
+  slice-fits (Refused Output) e = lit< tt
+  slice-fits (Answered answer) e = omega (arith, answer-below flags bounds buffer s ns a b order out lens answer (sym e))

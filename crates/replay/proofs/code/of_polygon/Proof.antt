@@ -1,0 +1,74 @@
+-- `of_polygon` meets its contract: each arm knows its answer. Assumes nothing.
+use native.Mathlib.Omega.{arith}
+use borrow.Author.Needs.{needs}
+use Rattle.replay.proofs.code.of_polygon.Statement.{statement}
+use Rattle.replay.proofs.code.of_polygon.Tie as tie
+
+enum-told : tie.Need-enum-told
+enum-told c = search needs
+
+enum-told-2 : tie.Need-enum-told-2
+enum-told-2 c = search needs
+
+enum-told-3 : tie.Need-enum-told-3
+enum-told-3 c = search needs
+
+enum-known-answer : tie.Need-enum-known-answer
+enum-known-answer c = search needs
+
+mul-result : tie.Need-mul-result
+mul-result c = let b = rw (c .before .answer .given .1) at (c .before .before .before .pre) in omega arith
+
+add-result : tie.Need-add-result
+add-result c = let b = rw (c .before .answer .given .1) at (c .before .before .before .pre) in omega arith
+
+enum-known-answer-2 : tie.Need-enum-known-answer-2
+enum-known-answer-2 c = search needs
+
+reason-number-requires : tie.Need-reason-number-requires
+reason-number-requires c κs = search needs
+
+cast-result : tie.Need-cast-result
+cast-result c = search needs
+
+mul-result-2 : tie.Need-mul-result-2
+mul-result-2 c = search needs
+
+add-result-2 : tie.Need-add-result-2
+add-result-2 c = search needs
+
+returns : tie.Need-returns
+returns c = rw (c .enum-told .given .1)
+
+returns-2 : tie.Need-returns-2
+returns-2 c = rw (c .enum-told2 .given .1)
+
+returns-3 : tie.Need-returns-3
+returns-3 c = rw (c .enum-told3 .given .1)
+
+returns-4 : tie.Need-returns-4
+returns-4 c = rw (c .before .answer .given .1) (omega arith)
+
+returns-5 : tie.Need-returns-5
+returns-5 c = rw (c .before .before .answer2 .given .1) (omega (arith, c .reason-number .ensures))
+
+pub of-polygon-spec : {M : Type 1} → statement M
+of-polygon-spec =
+    tie.close
+    (tie.spec
+    enum-told
+    enum-told-2
+    enum-told-3
+    enum-known-answer
+    mul-result
+    add-result
+    enum-known-answer-2
+    reason-number-requires
+    cast-result
+    mul-result-2
+    add-result-2
+    returns
+    returns-2
+    returns-3
+    returns-4
+    returns-5)

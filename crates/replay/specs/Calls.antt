@@ -1,0 +1,41 @@
+-- Whether what a call answers and leaves in the lent slices, by its definition, is what was kept of the unchanged Rust. Definitions only.
+use mathlib.Core.Bool.{Bool, _&&_}
+use mathlib.Core.List.{List}
+use Prim.Native.Nat.{ℕ}
+use lib.Dec.{eqb}
+use lib.Ieee.{Float}
+use lib.ListN.{length, replicate}
+use Rattle.binary64.specs.Slices.{zeros, over}
+use Rattle.tile.specs.declared.TileBounds.{TileBounds}
+use Rattle.tile.specs.Ring as T
+use Rattle.sutherland_hodgman.specs.Clip.{clipRing}
+use Rattle.sutherland_hodgman.specs.Call as C
+use Rattle.clip.specs.declared.polygon.Flags.{Flags}
+use Rattle.slices.specs.Slice as P
+use Rattle.replay.specs.Code.{bitsOf, isRefusal}
+use Rattle.replay.specs.Lent.{bits, mark, wholeMark, areAll, holds, scratchAfter, orderAfter}
+
+-- the numbers after a call: both scratch slices, and the output, at whose front the kept numbers stand
+unfoldable pub numbersAgree : Bool → List Float → List Float → List Float → List Float → Bool
+numbersAgree refused a b out expected =
+    areAll (bits a) (scratchAfter refused) && (areAll (bits b) (scratchAfter refused) && holds mark (bits expected) (bits out))
+
+-- the whole numbers after a slice call: the order slice, and the second length slice, at whose front the kept lengths stand
+unfoldable pub wholesAgree : Bool → List ℕ → List ℕ → List ℕ → Bool
+wholesAgree refused order outLengths expected = areAll order (orderAfter refused) && holds wholeMark expected outLengths
+
+-- a ring call
+unfoldable pub ringAgrees : ℕ → List Float → List Float → TileBounds → List Float → List Float → List Float → Bool
+ringAgrees code expected ring bounds a b out =
+    let answer = C.ringAnswer ring bounds (length a) (length b) (length out) in
+    eqb (bitsOf (C.code answer)) code
+    && numbersAgree (isRefusal code) (C.scratchAfter answer a) (C.scratchAfter answer b) (C.outputAfter answer (clipRing bounds (T.coords ring)) out) expected
+
+-- a slice call
+unfoldable pub sliceAgrees : ℕ → List Float → List ℕ → Flags → TileBounds → Float → List Float → List ℕ → List Float → List Float → List ℕ → List Float → List ℕ → Bool
+sliceAgrees code expected expectedLengths flags bounds buffer coords lengths a b order out outLengths =
+    let check = P.checked coords lengths (length a) (length b) (length order) (length out) (length outLengths) in
+    let to = P.routeLent flags bounds buffer coords lengths in
+    eqb (bitsOf (P.code (P.answered check to))) code
+    && (numbersAgree (isRefusal code) (P.ifPassed check a (zeros (length a))) (P.ifPassed check b (zeros (length b))) (P.ifPassed check out (over (P.numbersOf (P.writtenRings to)) out)) expected
+    && wholesAgree (isRefusal code) (P.ifPassed check order (replicate (length order) 0)) (P.ifPassed check outLengths (over (P.lengthsOf (P.writtenRings to)) outLengths)) expectedLengths)

@@ -1,0 +1,36 @@
+-- What the lent slices hold before a call, and what they must hold afterwards. Definitions only.
+use mathlib.Core.Bool.{Bool, true, false, cond, _&&_}
+use mathlib.Core.List.{List, [], _∷_}
+use Prim.Native.Nat.{ℕ}
+use lib.Dec.{eqb}
+use lib.Ieee.{Float, binary64, toBits}
+
+-- numbers by their bits; the logic has one NaN, so that a NaN's bits are free
+unfoldable pub bits : List Float → List ℕ
+bits [] = []
+bits (x ∷ l) = toBits binary64 x ∷ bits l
+
+-- what a slice that is lent to be written holds everywhere before a call: 7.25 by its bits, or 77
+abbrev pub mark : ℕ
+mark = 0x401d_0000_0000_0000
+
+abbrev pub wholeMark : ℕ
+wholeMark = 77
+
+-- whether every element is x
+unfoldable pub areAll : List ℕ → ℕ → Bool
+areAll [] x = true
+areAll (y ∷ l) x = eqb y x && areAll l x
+
+-- whether a list has these at its front, and past them the mark everywhere
+unfoldable pub holds : ℕ → List ℕ → List ℕ → Bool
+holds mark [] l = areAll l mark
+holds mark (x ∷ front) [] = false
+holds mark (x ∷ front) (y ∷ l) = eqb y x && holds mark front l
+
+-- what scratch, and the order slice, hold everywhere after a call: a refusal changes nothing, another answer leaves zeros
+abbrev pub scratchAfter : Bool → ℕ
+scratchAfter refused = cond refused mark 0
+
+abbrev pub orderAfter : Bool → ℕ
+orderAfter refused = cond refused wholeMark 0
