@@ -15,12 +15,14 @@ use Rattle.slices.specs.Slice as P
 use Rattle.replay.specs.Code.{bitsOf, isRefusal}
 use Rattle.replay.specs.Lent.{bits, mark, wholeMark, areAll, holds, scratchAfter, orderAfter}
 
--- the numbers after a call: both scratch slices, and the output, at whose front the kept numbers stand
-unfoldable pub numbersAgree : Bool → List Float → List Float → List Float → List Float → Bool
-numbersAgree refused a b out expected =
-    areAll (bits a) (scratchAfter refused) && (areAll (bits b) (scratchAfter refused) && holds mark (bits expected) (bits out))
+-- the code of an answer, and after the call both scratch slices and the output, at whose front the kept numbers stand
+unfoldable pub answerAgrees : ℕ → ℕ → List Float → List Float → List Float → List Float → Bool
+answerAgrees given code a b out expected =
+    eqb given code
+    && (areAll (bits a) (scratchAfter (isRefusal code))
+    && (areAll (bits b) (scratchAfter (isRefusal code)) && holds mark (bits expected) (bits out)))
 
--- the whole numbers after a slice call: the order slice, and the second length slice, at whose front the kept lengths stand
+-- after a slice call the order slice and the second length slice, at whose front the kept lengths stand
 unfoldable pub wholesAgree : Bool → List ℕ → List ℕ → List ℕ → Bool
 wholesAgree refused order outLengths expected = areAll order (orderAfter refused) && holds wholeMark expected outLengths
 
@@ -28,14 +30,12 @@ wholesAgree refused order outLengths expected = areAll order (orderAfter refused
 unfoldable pub ringAgrees : ℕ → List Float → List Float → TileBounds → List Float → List Float → List Float → Bool
 ringAgrees code expected ring bounds a b out =
     let answer = C.ringAnswer ring bounds (length a) (length b) (length out) in
-    eqb (bitsOf (C.code answer)) code
-    && numbersAgree (isRefusal code) (C.scratchAfter answer a) (C.scratchAfter answer b) (C.outputAfter answer (clipRing bounds (T.coords ring)) out) expected
+    answerAgrees (bitsOf (C.code answer)) code (C.scratchAfter answer a) (C.scratchAfter answer b) (C.outputAfter answer (clipRing bounds (T.coords ring)) out) expected
 
 -- a slice call
 unfoldable pub sliceAgrees : ℕ → List Float → List ℕ → Flags → TileBounds → Float → List Float → List ℕ → List Float → List Float → List ℕ → List Float → List ℕ → Bool
 sliceAgrees code expected expectedLengths flags bounds buffer coords lengths a b order out outLengths =
     let check = P.checked coords lengths (length a) (length b) (length order) (length out) (length outLengths) in
     let to = P.routeLent flags bounds buffer coords lengths in
-    eqb (bitsOf (P.code (P.answered check to))) code
-    && (numbersAgree (isRefusal code) (P.ifPassed check a (zeros (length a))) (P.ifPassed check b (zeros (length b))) (P.ifPassed check out (over (P.numbersOf (P.writtenRings to)) out)) expected
-    && wholesAgree (isRefusal code) (P.ifPassed check order (replicate (length order) 0)) (P.ifPassed check outLengths (over (P.lengthsOf (P.writtenRings to)) outLengths)) expectedLengths)
+    answerAgrees (bitsOf (P.code (P.answered check to))) code (P.ifPassed check a (zeros (length a))) (P.ifPassed check b (zeros (length b))) (P.ifPassed check out (over (P.numbersOf (P.writtenRings to)) out)) expected
+    && wholesAgree (isRefusal code) (P.ifPassed check order (replicate (length order) 0)) (P.ifPassed check outLengths (over (P.lengthsOf (P.writtenRings to)) outLengths)) expectedLengths

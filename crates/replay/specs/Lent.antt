@@ -1,9 +1,10 @@
 -- What the lent slices hold before a call, and what they must hold afterwards. Definitions only.
 use mathlib.Core.Bool.{Bool, true, false, cond, _&&_}
 use mathlib.Core.List.{List, [], _∷_}
-use Prim.Native.Nat.{ℕ}
-use lib.Dec.{eqb}
+use Prim.Native.Nat.{ℕ, _+_, _*_}
+use lib.Dec.{eqb, leb}
 use lib.Ieee.{Float, binary64, toBits}
+use Rattle.rings.specs.Rings.{sum}
 
 -- numbers by their bits; the logic has one NaN, so that a NaN's bits are free
 unfoldable pub bits : List Float → List ℕ
@@ -34,3 +35,11 @@ scratchAfter refused = cond refused mark 0
 
 abbrev pub orderAfter : Bool → ℕ
 orderAfter refused = cond refused wholeMark 0
+
+-- the longest slice that is lent to be written
+abbrev pub room : ℕ
+room = 4096
+
+-- the count of numbers of rings with these lengths; where they have no room, one more than that
+abbrev pub numbersIn : List ℕ → ℕ
+numbersIn lengths = cond (leb (2 * sum lengths) room) (2 * sum lengths) (room + 1)

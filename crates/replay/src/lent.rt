@@ -4,6 +4,7 @@ ghost use lib.Dec.{eqb};
 ghost use lib.Ieee.{binary64, toBits};
 ghost use Rattle.replay.specs.Lent as S;
 ghost use Rattle.replay.specs.Calls as K;
+use super::code::is_refusal;
 use binary64::bytes::to_bits;
 
 // The most numbers that a polygon or a ring is lent with: two more than a call takes.
@@ -98,11 +99,21 @@ fn holds_wholes(s: &[u32], front: &[u32]) -> bool
     are_all_wholes(&s[n..], WHOLE_MARK)
 }
 
-// Whether a call has left the scratch slices and the output as it has to. It reads them only: where they are lent to be written, each return is proved to keep all their lengths.
-pub fn numbers_agree(refused: bool, a: &[f64], b: &[f64], out: &[f64], expected: &[f64]) -> bool
-    ensures { λ r. ⌜ r ≡ K.numbersAgree refused (now (a .entry)) (now (b .entry)) (now (out .entry)) (now (expected .entry)) ⌝ }
+// Whether the code of an answer is the kept one, and the call has left the scratch slices and the output as it has to. It reads them only: where they are lent to be written, each return is proved to keep all their lengths.
+pub fn answer_agrees(
+    given: u64,
+    code: u64,
+    a: &[f64],
+    b: &[f64],
+    out: &[f64],
+    expected: &[f64],
+) -> bool
+    ensures { λ r. ⌜ r ≡ K.answerAgrees given code (now (a .entry)) (now (b .entry)) (now (out .entry)) (now (expected .entry)) ⌝ }
 {
-    let scratch = scratch_after(refused);
+    if given != code {
+        return false;
+    }
+    let scratch = scratch_after(is_refusal(code));
     if !are_all(a, scratch) {
         return false;
     }
@@ -112,7 +123,7 @@ pub fn numbers_agree(refused: bool, a: &[f64], b: &[f64], out: &[f64], expected:
     holds(out, expected)
 }
 
-// The same of the order slice and the second length slice.
+// Whether a call has left the order slice and the second length slice as it has to.
 pub fn wholes_agree(refused: bool, order: &[u32], out_lengths: &[u32], expected: &[u32]) -> bool
     ensures { λ r. ⌜ r ≡ K.wholesAgree refused (now (order .entry)) (now («out_lengths» .entry)) (now (expected .entry)) ⌝ }
 {

@@ -24,6 +24,12 @@ const REFUSALS: usize = 5;
 
 const DIFFER: usize = 9;
 
+// Which call a vector is of.
+enum Kind {
+    Ring,
+    Slice,
+}
+
 // Minus 1 is the number at the top, minus 19 the one 18 below it.
 fn refusal_row(code: u64) -> usize {
     match u64::MAX - code {
@@ -65,10 +71,25 @@ fn add_to(counts: &mut [u64], row: usize) {
     }
 }
 
-fn count_ring(counts: &mut [u64]) -> bool {
-    match replay_ring() {
+fn replay_one(kind: Kind) -> Outcome {
+    match kind {
+        Kind::Ring => replay_ring(),
+        Kind::Slice => replay_slice(),
+    }
+}
+
+fn row(kind: Kind, code: u64) -> usize {
+    match kind {
+        Kind::Ring => ring_row(code),
+        Kind::Slice => slice_row(code),
+    }
+}
+
+// Whether the vector is whole.
+fn count_one(kind: Kind, counts: &mut [u64]) -> bool {
+    match replay_one(kind) {
         Outcome::Same(code) => {
-            add_to(counts, ring_row(code));
+            add_to(counts, row(kind, code));
             true
         }
         Outcome::Differs => {
@@ -79,42 +100,14 @@ fn count_ring(counts: &mut [u64]) -> bool {
     }
 }
 
-fn count_slice(counts: &mut [u64]) -> bool {
-    match replay_slice() {
-        Outcome::Same(code) => {
-            add_to(counts, slice_row(code));
-            true
-        }
-        Outcome::Differs => {
-            add_to(counts, DIFFER);
-            true
-        }
-        Outcome::Broken => false,
-    }
-}
-
-// Whether the vectors are whole.
-fn count_rings(counts: &mut [u64]) -> bool {
+// Whether the vectors of a file are whole.
+fn count_all(kind: Kind, counts: &mut [u64]) -> bool {
     let Count::Is(n) = read_count() else {
         return false;
     };
     let mut i = 0usize;
     while i < n {
-        if !count_ring(counts) {
-            return false;
-        }
-        i += 1;
-    }
-    true
-}
-
-fn count_slices(counts: &mut [u64]) -> bool {
-    let Count::Is(n) = read_count() else {
-        return false;
-    };
-    let mut i = 0usize;
-    while i < n {
-        if !count_slice(counts) {
+        if !count_one(kind, counts) {
             return false;
         }
         i += 1;
@@ -141,7 +134,7 @@ fn print_last_rows(counts: &[u64])
 
 fn replay_rings() -> bool {
     let mut counts = [0u64; ROWS];
-    let whole = count_rings(&mut counts);
+    let whole = count_all(Kind::Ring, &mut counts);
     print_row(b"ring", counts[0]);
     print_row(b"empty", counts[1]);
     print_last_rows(&counts);
@@ -150,7 +143,7 @@ fn replay_rings() -> bool {
 
 fn replay_slices() -> bool {
     let mut counts = [0u64; ROWS];
-    let whole = count_slices(&mut counts);
+    let whole = count_all(Kind::Slice, &mut counts);
     print_row(b"nothing", counts[0]);
     print_row(b"dropped", counts[1]);
     print_row(b"unchanged", counts[2]);

@@ -3,13 +3,12 @@ ghost use mathlib.Core.Path.{_≡_};
 ghost use lib.ListN.{length};
 ghost use Rattle.replay.specs.Calls as S;
 use super::code::Outcome;
-use super::code::is_refusal;
 use super::code::numbers_of;
 use super::code::of_ring;
 use super::lent::MARK;
 use super::lent::MOST_NUMBERS;
 use super::lent::ROOM;
-use super::lent::numbers_agree;
+use super::lent::answer_agrees;
 use super::stream::Code;
 use super::stream::count_at;
 use super::stream::fill;
@@ -60,10 +59,8 @@ fn agrees(
 ) -> bool
     ensures { λ r. ⌜ r ≡ S.ringAgrees code (now (expected .entry)) (now (lent .entry)) bounds (now (a .entry)) (now (b .entry)) (now (out .entry)) ⌝ }
 {
-    if of_ring(ring(lent, bounds, a, b, out)) != code {
-        return false;
-    }
-    numbers_agree(is_refusal(code), a, b, out, expected)
+    let given = of_ring(ring(lent, bounds, a, b, out));
+    answer_agrees(given, code, a, b, out, expected)
 }
 
 fn call(head: Head, code: u64, lent: &[f64], expected: &[f64]) -> Outcome {
@@ -96,15 +93,8 @@ fn call(head: Head, code: u64, lent: &[f64], expected: &[f64]) -> Outcome {
     Outcome::Differs
 }
 
-fn replay_with(head: Head) -> Outcome {
-    let n = head.numbers;
-    if n > MOST_NUMBERS {
-        return Outcome::Broken;
-    }
-    let mut lent = [0.0f64; MOST_NUMBERS];
-    if !read_numbers(head.stored, &mut lent) {
-        return Outcome::Broken;
-    }
+// From the answer on: the numbers of its ring follow it.
+fn replay_answer(head: Head, lent: &[f64]) -> Outcome {
     let Code::Is(code) = read_code() else {
         return Outcome::Broken;
     };
@@ -116,7 +106,20 @@ fn replay_with(head: Head) -> Outcome {
     if !read_numbers(m, &mut expected) {
         return Outcome::Broken;
     }
-    call(head, code, &lent[..n], &expected[..m])
+    call(head, code, lent, &expected[..m])
+}
+
+// From the numbers of the ring on.
+fn replay_with(head: Head) -> Outcome {
+    let n = head.numbers;
+    if n > MOST_NUMBERS {
+        return Outcome::Broken;
+    }
+    let mut lent = [0.0f64; MOST_NUMBERS];
+    if !read_numbers(head.stored, &mut lent) {
+        return Outcome::Broken;
+    }
+    replay_answer(head, &lent[..n])
 }
 
 pub fn replay_ring() -> Outcome {

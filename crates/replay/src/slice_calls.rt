@@ -1,8 +1,10 @@
 // Slice calls, each held to its answer and to what that answer leaves in the lent slices.
 ghost use mathlib.Core.Path.{_≡_};
 ghost use mathlib.Core.Bool.{_&&_};
-ghost use Prim.Native.Nat.{_^_, _<_, _≤_};
+ghost use Prim.Native.Nat.{_^_, _<_};
 ghost use lib.ListN.{length};
+ghost use Rattle.replay.specs.Code.{isRefusal};
+ghost use Rattle.replay.specs.Lent as L;
 ghost use Rattle.replay.specs.Calls as S;
 use super::code::Outcome;
 use super::code::is_refusal;
@@ -12,7 +14,7 @@ use super::lent::MARK;
 use super::lent::MOST_NUMBERS;
 use super::lent::ROOM;
 use super::lent::WHOLE_MARK;
-use super::lent::numbers_agree;
+use super::lent::answer_agrees;
 use super::lent::wholes_agree;
 use super::stream::Code;
 use super::stream::Count;
@@ -82,9 +84,10 @@ fn read_head(bytes: &[u8]) -> Head
     }
 }
 
-// Whether a call has left the lent slices as it has to.
-fn leaves(
-    refused: bool,
+// Whether the code of an answer is the kept one, and the call has left the lent slices as it has to.
+fn slices_agree(
+    given: u64,
+    code: u64,
     a: &[f64],
     b: &[f64],
     order: &[u32],
@@ -93,12 +96,12 @@ fn leaves(
     expected: &[f64],
     expected_lengths: &[u32],
 ) -> bool
-    ensures { λ r. ⌜ r ≡ S.numbersAgree refused (now (a .entry)) (now (b .entry)) (now (out .entry)) (now (expected .entry)) && S.wholesAgree refused (now (order .entry)) (now («out_lengths» .entry)) (now («expected_lengths» .entry)) ⌝ }
+    ensures { λ r. ⌜ r ≡ S.answerAgrees given code (now (a .entry)) (now (b .entry)) (now (out .entry)) (now (expected .entry)) && S.wholesAgree (isRefusal code) (now (order .entry)) (now («out_lengths» .entry)) (now («expected_lengths» .entry)) ⌝ }
 {
-    if !numbers_agree(refused, a, b, out, expected) {
+    if !answer_agrees(given, code, a, b, out, expected) {
         return false;
     }
-    wholes_agree(refused, order, out_lengths, expected_lengths)
+    wholes_agree(is_refusal(code), order, out_lengths, expected_lengths)
 }
 
 fn agrees(
@@ -128,12 +131,9 @@ fn agrees(
         out,
         out_lengths,
     );
-    if of_slice(answer) != code {
-        return false;
-    }
-    let refused = is_refusal(code);
-    leaves(
-        refused,
+    slices_agree(
+        of_slice(answer),
+        code,
         a,
         b,
         order,
@@ -196,25 +196,51 @@ fn call(
 }
 
 fn wide(x: u32) -> usize
-    ensures { λ r. ⌜ r < 2 ^ 32 ⌝ }
+    ensures { λ r. ⌜ (r ≡ x) × (r < 2 ^ 32) ⌝ }
 {
     x as usize
 }
 
 // The numbers of rings with these lengths; where they have no room, one more than that.
 fn numbers_in(lengths: &[u32]) -> usize
-    ensures { λ r. ⌜ r ≤ 4097 ⌝ }
+    ensures { λ r. ⌜ r ≡ L.numbersIn (now (lengths .entry)) ⌝ }
 {
     let mut sum = 0usize;
     let mut i = 0usize;
     while i < lengths.len() {
         sum += wide(lengths[i]);
-        if sum > 2048 {
+        if sum > ROOM / 2 {
             return ROOM + 1;
         }
         i += 1;
     }
     2 * sum
+}
+
+// From a cut's numbers on.
+fn replay_expected(
+    head: Head,
+    code: u64,
+    coords: &[f64],
+    lengths: &[u32],
+    expected_lengths: &[u32],
+) -> Outcome {
+    let m = numbers_in(expected_lengths);
+    if m > ROOM {
+        return Outcome::Broken;
+    }
+    let mut expected = [0.0f64; ROOM];
+    if !read_numbers(m, &mut expected) {
+        return Outcome::Broken;
+    }
+    call(
+        head,
+        code,
+        coords,
+        lengths,
+        &expected[..m],
+        expected_lengths,
+    )
 }
 
 // From the answer on: a cut's lengths and numbers follow it.
@@ -230,22 +256,7 @@ fn replay_answer(head: Head, coords: &[f64], lengths: &[u32]) -> Outcome {
     if !read_wholes(k, &mut expected_lengths) {
         return Outcome::Broken;
     }
-    let m = numbers_in(&expected_lengths[..k]);
-    if m > ROOM {
-        return Outcome::Broken;
-    }
-    let mut expected = [0.0f64; ROOM];
-    if !read_numbers(m, &mut expected) {
-        return Outcome::Broken;
-    }
-    call(
-        head,
-        code,
-        coords,
-        lengths,
-        &expected[..m],
-        &expected_lengths[..k],
-    )
+    replay_expected(head, code, coords, lengths, &expected_lengths[..k])
 }
 
 // From the count of numbers on.

@@ -7,7 +7,9 @@ use binary64::bytes::read_u64;
 use libc::STDIN_FILENO;
 
 // The most doubles that are read at a time.
-pub const MOST_READ: usize = 4096;
+const MOST_READ: usize = 4096;
+
+const MOST_BYTES: usize = 8 * MOST_READ;
 
 pub enum Count {
     Is(usize),
@@ -95,7 +97,7 @@ pub fn read_numbers(n: usize, to: &mut [f64]) -> bool {
     if n > MOST_READ {
         return false;
     }
-    let mut bytes = [0u8; 32768];
+    let mut bytes = [0u8; MOST_BYTES];
     if !fill_front(&mut bytes, 8 * n) {
         return false;
     }
@@ -111,7 +113,7 @@ pub fn read_wholes(n: usize, to: &mut [u32]) -> bool {
     if n > MOST_READ {
         return false;
     }
-    let mut bytes = [0u8; 32768];
+    let mut bytes = [0u8; MOST_BYTES];
     if !fill_front(&mut bytes, 4 * n) {
         return false;
     }

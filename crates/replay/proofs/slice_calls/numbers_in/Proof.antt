@@ -1,18 +1,34 @@
--- `numbers_in` is safe and ends: the sum stays below what has room, and a length adds less than 2^32. Assumes nothing.
-use Prim.Native.Nat.{_-_, _≤_}
+-- `numbers_in` meets its contract. The invariant: the sum so far has room, and with the lengths that are left it is the whole sum. Assumes nothing.
+use mathlib.Core.Path.{_≡_}
+use mathlib.Core.List.{List}
+use Prim.Native.Nat.{ℕ, _+_, _*_, _-_, _<_, _≤_}
+use native.Mathlib.Numerals.{add-one}
+use native.Mathlib.Omega.{arith}
 use borrow.Author.Needs.{needs}
-use lib.ListN.{length}
+use borrow.Author.Tests.{le-leb, lt-leb}
+use denote.Ref.{now}
+use lib.ListN.{length, getD, drop, drop-of-length-le}
+use lib.Seq.{drop-cons}
+use Rattle.rings.specs.Rings as R
 use Rattle.replay.proofs.slice_calls.numbers_in.Statement.{statement}
 use Rattle.replay.proofs.slice_calls.numbers_in.Tie as tie
 
+sum-at : (l : List ℕ) (i : ℕ) → i < length l → R.sum (drop i l) ≡ getD l i 0 + R.sum (drop (i + 1) l)
+unfolding R.sum
+sum-at l i h = rw (add-one i, drop-cons l i 0 h)
+
+sum-end : (l : List ℕ) (i : ℕ) → length l ≤ i → R.sum (drop i l) ≡ 0
+unfolding R.sum
+sum-end l i h = rw (drop-of-length-le l h)
+
 abbrev Inv-loop : tie.InvT-loop
-Inv-loop lengths sum₀ i₀ sum i = (i ≤ length lengths) × (sum ≤ 2048)
+Inv-loop lengths sum₀ i₀ sum i = (i ≤ length lengths) × (sum ≤ 2048) × (sum + R.sum (drop i lengths) ≡ R.sum lengths)
 
 abbrev μ-loop : tie.MeasureT-loop
 μ-loop lengths sum₀ i₀ sum i = length lengths - i
 
 loop-holds : tie.Need-loop-holds Inv-loop μ-loop
-loop-holds c = search needs
+loop-holds c = (omega arith, omega arith, omega arith)
 
 mul-wide : tie.Need-mul-wide Inv-loop μ-loop
 mul-wide c = search needs
@@ -30,7 +46,11 @@ add-result : tie.Need-add-result Inv-loop μ-loop
 add-result c = search needs
 
 returns : tie.Need-returns Inv-loop μ-loop
-returns c = search needs
+returns c =
+    let s = now (c .before .before .before .before .before .before .args .lengths) in
+    let l = c .before .before .before .before .loop in
+    let q : 4096 < 2 * R.sum s = omega (arith, sum-at s (l .i) (c .before .before .before .loop-test .taken), l .inv .2, c .before .wide .ensures .0) in
+    rw (lt-leb (2 * R.sum s) 4096 q)
 
 add-i : tie.Need-add-i Inv-loop μ-loop
 add-i c = search needs
@@ -39,13 +59,20 @@ loop-less : tie.Need-loop-less Inv-loop μ-loop
 loop-less c = search needs
 
 loop-again : tie.Need-loop-again Inv-loop μ-loop
-loop-again c = search needs
+loop-again c =
+    let l = c .before .before .before .before .loop in
+    (search needs, search needs, omega (arith, sum-at (now (c .before .before .before .before .before .before .args .lengths)) (l .i) (c .before .before .before .loop-test .taken), l .inv .2, c .before .wide .ensures .0))
 
 mul-result : tie.Need-mul-result Inv-loop μ-loop
 mul-result c = search needs
 
 returns-2 : tie.Need-returns-2 Inv-loop μ-loop
-returns-2 c = search needs
+returns-2 c =
+    let s = now (c .before .before .before .args .lengths) in
+    let l = c .before .loop in
+    let z = sum-end s (l .i) (c .loop-test .left) in
+    let q : 2 * R.sum s ≤ 4096 = omega (arith, z, l .inv .1, l .inv .2) in
+    rw (le-leb (2 * R.sum s) 4096 q) (omega (arith, z, l .inv .2))
 
 pub numbers-in-spec : {M : Type 1} → statement M
 numbers-in-spec =

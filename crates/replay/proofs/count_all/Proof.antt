@@ -1,16 +1,16 @@
--- `count_slices` is safe and ends: the turns are counted up to the count that was read. Assumes nothing.
+-- `count_all` is safe and ends: the turns are counted up to the count that was read. Assumes nothing.
 use mathlib.Core.Path.{_≡_}
 use Prim.Native.Nat.{_-_}
 use borrow.Author.Needs.{needs}
 use lib.ListN.{length}
-use Rattle.replay.proofs.count_slices.Statement.{statement}
-use Rattle.replay.proofs.count_slices.Tie as tie
+use Rattle.replay.proofs.count_all.Statement.{statement}
+use Rattle.replay.proofs.count_all.Tie as tie
 
 abbrev Inv-loop : tie.InvT-loop
-Inv-loop counts₀ n i₀ counts i = length counts ≡ length counts₀
+Inv-loop kind counts₀ n i₀ counts i = length counts ≡ length counts₀
 
 abbrev μ-loop : tie.MeasureT-loop
-μ-loop counts₀ n i₀ counts i = n - i
+μ-loop kind counts₀ n i₀ counts i = n - i
 
 read-count-requires : tie.Need-read-count-requires Inv-loop μ-loop
 read-count-requires c κs = search needs
@@ -27,8 +27,8 @@ returns c = search needs
 loop-holds : tie.Need-loop-holds Inv-loop μ-loop
 loop-holds c = search needs
 
-count-slice-requires : tie.Need-count-slice-requires Inv-loop μ-loop
-count-slice-requires c κs = search needs
+count-one-requires : tie.Need-count-one-requires Inv-loop μ-loop
+count-one-requires c κs = search needs
 
 same-length : tie.Need-same-length Inv-loop μ-loop
 same-length c = search needs
@@ -51,8 +51,8 @@ same-length-2 c = search needs
 returns-3 : tie.Need-returns-3 Inv-loop μ-loop
 returns-3 c = search needs
 
-pub count-slices-spec : {M : Type 1} → statement M
-count-slices-spec =
+pub count-all-spec : {M : Type 1} → statement M
+count-all-spec =
     tie.close
     (tie.spec
     Inv-loop
@@ -62,7 +62,7 @@ count-slices-spec =
     enum-told
     returns
     loop-holds
-    count-slice-requires
+    count-one-requires
     same-length
     returns-2
     add-i

@@ -1,0 +1,48 @@
+-- `replay_expected` is safe: what is passed on is the front of an array. Assumes nothing.
+use mathlib.Core.Path.{sym}
+use native.Mathlib.Omega.{arith}
+use lib.Seq.{length-take-le}
+use borrow.Author.Needs.{needs}
+use Rattle.replay.proofs.slice_calls.replay_expected.Statement.{statement}
+use Rattle.replay.proofs.slice_calls.replay_expected.Tie as tie
+
+numbers-in-requires : tie.Need-numbers-in-requires
+numbers-in-requires c κs = search needs
+
+returns : tie.Need-returns
+returns c = search needs
+
+slice-aggregate-read-numbers : tie.Need-slice-aggregate-read-numbers
+slice-aggregate-read-numbers c = search needs
+
+read-numbers-requires : tie.Need-read-numbers-requires
+read-numbers-requires c κs = search needs
+
+returns-2 : tie.Need-returns-2
+returns-2 c = search needs
+
+array-share-prefix-expected : tie.Need-array-share-prefix-expected
+array-share-prefix-expected c = search needs
+
+slice-aggregate-call : tie.Need-slice-aggregate-call
+slice-aggregate-call c = sym (length-take-le _ _ (omega arith))
+
+call-requires : tie.Need-call-requires
+call-requires c κs = search needs
+
+returns-3 : tie.Need-returns-3
+returns-3 c = search needs
+
+pub replay-expected-spec : {M : Type 1} → statement M
+replay-expected-spec =
+    tie.close
+    (tie.spec
+    numbers-in-requires
+    returns
+    slice-aggregate-read-numbers
+    read-numbers-requires
+    returns-2
+    array-share-prefix-expected
+    slice-aggregate-call
+    call-requires
+    returns-3)
