@@ -3,7 +3,8 @@ use mathlib.Core.Bool.{Bool, true, false, cond, _&&_}
 use mathlib.Core.List.{List, [], _∷_}
 use Prim.Native.Nat.{ℕ, _+_, _*_}
 use lib.Dec.{eqb, leb}
-use lib.Ieee.{Float, binary64, toBits}
+use lib.Ieee.{Float, binary64, ofBits, toBits}
+use lib.ListN.{replicate}
 use Rattle.rings.specs.Rings.{sum}
 
 -- numbers by their bits; the logic has one NaN, so that a NaN's bits are free
@@ -17,6 +18,13 @@ mark = 0x401d_0000_0000_0000
 
 abbrev pub wholeMark : ℕ
 wholeMark = 77
+
+-- such a slice of length n
+unfoldable pub marks : ℕ → List Float
+marks n = replicate n (ofBits binary64 mark)
+
+unfoldable pub wholeMarks : ℕ → List ℕ
+wholeMarks n = replicate n wholeMark
 
 -- whether every element is x
 unfoldable pub areAll : List ℕ → ℕ → Bool

@@ -14,9 +14,22 @@ pub const MOST_NUMBERS: usize = 131074;
 pub const ROOM: usize = 4096;
 
 // Such a slice holds this everywhere before a call.
-pub const MARK: f64 = 7.25;
+const MARK: f64 = 7.25;
 
-pub const WHOLE_MARK: u32 = 77;
+const WHOLE_MARK: u32 = 77;
+
+// Such slices, as long as they can be.
+pub fn marks() -> [f64; ROOM]
+    ensures { λ r. ⌜ r ≡ S.marks S.room ⌝ }
+{
+    [MARK; ROOM]
+}
+
+pub fn whole_marks() -> [u32; ROOM]
+    ensures { λ r. ⌜ r ≡ S.wholeMarks S.room ⌝ }
+{
+    [WHOLE_MARK; ROOM]
+}
 
 // Whether two numbers have the same bits; a NaN's bits are free.
 fn is_same(x: f64, y: f64) -> bool

@@ -5,10 +5,10 @@ ghost use Rattle.replay.specs.Calls as S;
 use super::code::Outcome;
 use super::code::numbers_of;
 use super::code::of_ring;
-use super::lent::MARK;
 use super::lent::MOST_NUMBERS;
 use super::lent::ROOM;
 use super::lent::answer_agrees;
+use super::lent::marks;
 use super::stream::Code;
 use super::stream::count_at;
 use super::stream::fill;
@@ -63,22 +63,31 @@ fn agrees(
     answer_agrees(given, code, a, b, out, expected)
 }
 
-fn call(head: Head, code: u64, lent: &[f64], expected: &[f64]) -> Outcome {
+// Whether the slices that are lent to be written have room.
+fn has_room(head: Head) -> bool
+    ensures { λ r. ⌜ r ≡ S.ringRoom head ⌝ }
+{
+    if head.a > ROOM {
+        return false;
+    }
+    if head.b > ROOM {
+        return false;
+    }
+    head.out <= ROOM
+}
+
+fn call(head: Head, code: u64, lent: &[f64], expected: &[f64]) -> Outcome
+    ensures { λ r. ⌜ r ≡ S.ringOutcome head code (now (lent .entry)) (now (expected .entry)) ⌝ }
+{
+    if !has_room(head) {
+        return Outcome::Broken;
+    }
     let a_length = head.a;
     let b_length = head.b;
     let out_length = head.out;
-    if a_length > ROOM {
-        return Outcome::Broken;
-    }
-    if b_length > ROOM {
-        return Outcome::Broken;
-    }
-    if out_length > ROOM {
-        return Outcome::Broken;
-    }
-    let mut a = [MARK; ROOM];
-    let mut b = [MARK; ROOM];
-    let mut out = [MARK; ROOM];
+    let mut a = marks();
+    let mut b = marks();
+    let mut out = marks();
     if agrees(
         code,
         lent,

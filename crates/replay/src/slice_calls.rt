@@ -10,11 +10,11 @@ use super::code::Outcome;
 use super::code::is_refusal;
 use super::code::of_slice;
 use super::code::rings_of;
-use super::lent::MARK;
 use super::lent::MOST_NUMBERS;
 use super::lent::ROOM;
-use super::lent::WHOLE_MARK;
 use super::lent::answer_agrees;
+use super::lent::marks;
+use super::lent::whole_marks;
 use super::lent::wholes_agree;
 use super::stream::Code;
 use super::stream::Count;
@@ -144,6 +144,25 @@ fn agrees(
     )
 }
 
+// Whether the slices that are lent to be written have room.
+fn has_room(head: Head) -> bool
+    ensures { λ r. ⌜ r ≡ S.sliceRoom head ⌝ }
+{
+    if head.a > ROOM {
+        return false;
+    }
+    if head.b > ROOM {
+        return false;
+    }
+    if head.order > ROOM {
+        return false;
+    }
+    if head.out > ROOM {
+        return false;
+    }
+    head.out_lengths <= ROOM
+}
+
 fn call(
     head: Head,
     code: u64,
@@ -151,32 +170,22 @@ fn call(
     lengths: &[u32],
     expected: &[f64],
     expected_lengths: &[u32],
-) -> Outcome {
+) -> Outcome
+    ensures { λ r. ⌜ r ≡ S.sliceOutcome head code (now (coords .entry)) (now (lengths .entry)) (now (expected .entry)) (now («expected_lengths» .entry)) ⌝ }
+{
+    if !has_room(head) {
+        return Outcome::Broken;
+    }
     let a_length = head.a;
     let b_length = head.b;
     let order_length = head.order;
     let out_length = head.out;
     let lengths_length = head.out_lengths;
-    if a_length > ROOM {
-        return Outcome::Broken;
-    }
-    if b_length > ROOM {
-        return Outcome::Broken;
-    }
-    if order_length > ROOM {
-        return Outcome::Broken;
-    }
-    if out_length > ROOM {
-        return Outcome::Broken;
-    }
-    if lengths_length > ROOM {
-        return Outcome::Broken;
-    }
-    let mut a = [MARK; ROOM];
-    let mut b = [MARK; ROOM];
-    let mut order = [WHOLE_MARK; ROOM];
-    let mut out = [MARK; ROOM];
-    let mut out_lengths = [WHOLE_MARK; ROOM];
+    let mut a = marks();
+    let mut b = marks();
+    let mut order = whole_marks();
+    let mut out = marks();
+    let mut out_lengths = whole_marks();
     if agrees(
         code,
         head,

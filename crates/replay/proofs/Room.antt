@@ -1,0 +1,63 @@
+-- Slices that have room: each is the front of an array of marks. Assumes nothing.
+use mathlib.Core.Path.{_≡_, refl, sym}
+use mathlib.Core.Bool.{true, _&&_}
+use mathlib.Core.List.{List, _∷_}
+use Prim.Native.Nat.{ℕ, zero, suc, _≤_}
+use native.Mathlib.Omega.{arith}
+use borrow.Author.Tests.{leb-true}
+use lib.Dec.{leb}
+use lib.Ieee.{Float}
+use lib.ListN.{length, take, replicate, length-replicate}
+use lib.Seq.{length-take-le}
+use Rattle.binary64.proofs.Booleans.{both}
+use Rattle.replay.specs.declared.ring_calls.Head as RingHead
+use Rattle.replay.specs.declared.slice_calls.Head as SliceHead
+use Rattle.replay.specs.Lent.{marks, wholeMarks, room}
+use Rattle.replay.specs.Calls.{ringRoom, sliceRoom}
+
+take-replicate : {A : Type 0} (n m : ℕ) (x : A) → n ≤ m → take n (replicate m x) ≡ replicate n x
+take-replicate zero m x h = refl
+take-replicate (suc n) zero x h = absurd (omega arith)
+take-replicate (suc n) (suc m) x h = rw (take-replicate n m x (omega arith))
+
+-- the front of an array that holds x everywhere
+replicated-within : {A : Type 0} (m : List A) (n k : ℕ) (x : A) → m ≡ replicate k x → n ≤ k → n ≤ length m
+replicated-within m n k x e h = rw (e, length-replicate k x) h
+
+pub record Front (m : List Float) (n : ℕ) : Type 0 where
+  pub within : n ≤ length m
+  pub here : n ≡ length (take n m)
+  pub is : take n m ≡ marks n
+
+pub front : (m : List Float) (n : ℕ) → m ≡ marks room → n ≤ room → Front m n
+unfolding marks
+front m n e h =
+    let w = replicated-within m n room _ e h in
+    record { within = w; here = sym (length-take-le n m w); is = rw e (take-replicate n room _ h) }
+
+pub record WholeFront (m : List ℕ) (n : ℕ) : Type 0 where
+  pub within : n ≤ length m
+  pub here : n ≡ length (take n m)
+  pub is : take n m ≡ wholeMarks n
+
+pub whole-front : (m : List ℕ) (n : ℕ) → m ≡ wholeMarks room → n ≤ room → WholeFront m n
+unfolding wholeMarks
+whole-front m n e h =
+    let w = replicated-within m n room _ e h in
+    record { within = w; here = sym (length-take-le n m w); is = rw e (take-replicate n room _ h) }
+
+pub ring-room : (head : RingHead.Head) → ringRoom head ≡ true → (head .a ≤ room) × (head .b ≤ room) × (head .out ≤ room)
+unfolding ringRoom
+ring-room head e =
+    let p = both (leb (head .a) room) _ e in
+    let q = both (leb (head .b) room) _ (p .1) in
+    (leb-true _ _ (p .0), leb-true _ _ (q .0), leb-true _ _ (q .1))
+
+pub slice-room : (head : SliceHead.Head) → sliceRoom head ≡ true → (head .a ≤ room) × (head .b ≤ room) × (head .order ≤ room) × (head .out ≤ room) × (head .«out_lengths» ≤ room)
+unfolding sliceRoom
+slice-room head e =
+    let p = both (leb (head .a) room) _ e in
+    let q = both (leb (head .b) room) _ (p .1) in
+    let r = both (leb (head .order) room) _ (q .1) in
+    let s = both (leb (head .out) room) _ (r .1) in
+    (leb-true _ _ (p .0), leb-true _ _ (q .0), leb-true _ _ (r .0), leb-true _ _ (s .0), leb-true _ _ (s .1))

@@ -1,0 +1,12 @@
+-- `whole_marks` meets its contract. Assumes nothing.
+use mathlib.Core.Path.{refl}
+use Rattle.replay.specs.Lent as S
+use Rattle.replay.proofs.lent.whole_marks.Statement.{statement}
+use Rattle.replay.proofs.lent.whole_marks.Tie as tie
+
+returns : tie.Need-returns
+unfolding S.wholeMarks
+returns c = refl
+
+pub whole-marks-spec : {M : Type 1} → statement M
+whole-marks-spec = tie.close (tie.spec returns)
