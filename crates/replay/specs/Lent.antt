@@ -44,6 +44,10 @@ scratchAfter refused = cond refused mark 0
 abbrev pub orderAfter : Bool → ℕ
 orderAfter refused = cond refused wholeMark 0
 
+-- the most numbers that a polygon or a ring is lent with
+abbrev pub mostNumbers : ℕ
+mostNumbers = 131074
+
 -- the longest slice that is lent to be written
 abbrev pub room : ℕ
 room = 4096

@@ -2,6 +2,7 @@
 ghost use mathlib.Core.Path.{_≡_};
 ghost use lib.Dec.{eqb};
 ghost use lib.Ieee.{binary64, toBits};
+ghost use lib.ListN.{length};
 ghost use Rattle.replay.specs.Lent as S;
 ghost use Rattle.replay.specs.Calls as K;
 use super::code::is_refusal;
@@ -29,6 +30,13 @@ pub fn whole_marks() -> [u32; ROOM]
     ensures { λ r. ⌜ r ≡ S.wholeMarks S.room ⌝ }
 {
     [WHOLE_MARK; ROOM]
+}
+
+// Room for the numbers of a polygon or a ring: a function of its own, so that no caller has the array written out in its proof.
+pub fn no_numbers() -> [f64; MOST_NUMBERS]
+    ensures { λ r. ⌜ length r ≡ S.mostNumbers ⌝ }
+{
+    [0.0; MOST_NUMBERS]
 }
 
 // Whether two numbers have the same bits; a NaN's bits are free.

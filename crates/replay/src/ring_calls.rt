@@ -9,6 +9,7 @@ use super::lent::MOST_NUMBERS;
 use super::lent::ROOM;
 use super::lent::answer_agrees;
 use super::lent::marks;
+use super::lent::no_numbers;
 use super::stream::Code;
 use super::stream::count_at;
 use super::stream::fill;
@@ -124,7 +125,7 @@ fn replay_with(head: Head) -> Outcome {
     if n > MOST_NUMBERS {
         return Outcome::Broken;
     }
-    let mut lent = [0.0f64; MOST_NUMBERS];
+    let mut lent = no_numbers();
     if !read_numbers(head.stored, &mut lent) {
         return Outcome::Broken;
     }

@@ -14,6 +14,7 @@ use super::lent::MOST_NUMBERS;
 use super::lent::ROOM;
 use super::lent::answer_agrees;
 use super::lent::marks;
+use super::lent::no_numbers;
 use super::lent::whole_marks;
 use super::lent::wholes_agree;
 use super::stream::Code;
@@ -279,7 +280,7 @@ fn replay_numbers(head: Head, lengths: &[u32]) -> Outcome {
     if n > MOST_NUMBERS {
         return Outcome::Broken;
     }
-    let mut coords = [0.0f64; MOST_NUMBERS];
+    let mut coords = no_numbers();
     if !read_numbers(stored, &mut coords) {
         return Outcome::Broken;
     }

@@ -9,6 +9,9 @@ use Rattle.replay.proofs.ring_calls.replay_with.Tie as tie
 returns : tie.Need-returns
 returns c = search needs
 
+no-numbers-requires : tie.Need-no-numbers-requires
+no-numbers-requires c κs = search needs
+
 slice-aggregate-read-numbers : tie.Need-slice-aggregate-read-numbers
 slice-aggregate-read-numbers c = search needs
 
@@ -35,6 +38,7 @@ replay-with-spec =
     tie.close
     (tie.spec
     returns
+    no-numbers-requires
     slice-aggregate-read-numbers
     read-numbers-requires
     returns-2

@@ -33,6 +33,9 @@ returns-2 c = search needs
 returns-3 : tie.Need-returns-3
 returns-3 c = search needs
 
+no-numbers-requires : tie.Need-no-numbers-requires
+no-numbers-requires c κs = search needs
+
 slice-aggregate-read-numbers : tie.Need-slice-aggregate-read-numbers
 slice-aggregate-read-numbers c = search needs
 
@@ -67,6 +70,7 @@ replay-numbers-spec =
     enum-told-2
     returns-2
     returns-3
+    no-numbers-requires
     slice-aggregate-read-numbers
     read-numbers-requires
     returns-4
