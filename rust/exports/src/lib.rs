@@ -1,0 +1,110 @@
+//! Holds what C and Rust programs declare to what the Rattle crates export.
+//!
+//! Nothing in Rattle calls an export, and contracts go by the parameters' names. So a flag that crosses as a u32 where the header
+//! says `uint8_t`, two parameters exchanged, or a `requires` that no caller is held to would be proved all the same. Here the
+//! texts are compared instead: each export is written out as C and as Rust would declare it, and that is what must stand there.
+
+mod declared;
+mod exported;
+mod words;
+
+use std::collections::BTreeMap;
+use std::path::Path;
+use std::{fs, io};
+
+use declared::Declaration;
+use exported::Export;
+
+/// Files by their paths from the repository's root.
+pub type Files = BTreeMap<String, String>;
+
+const CRATES: &str = "crates";
+const CALLS: &str = "crates/ringcut_calls/";
+const HEADER: &str = "include/ringcut.h";
+const RAW: &str = "rust/ringcut/src/raw.rs";
+
+/// The files that are compared: the header, the Rust declarations, and the code of every crate.
+pub fn read(root: &Path) -> io::Result<Files> {
+    let mut files = Files::new();
+    for path in [HEADER, RAW] {
+        files.insert(path.to_string(), fs::read_to_string(root.join(path))?);
+    }
+    read_rattle(root, CRATES, &mut files)?;
+    Ok(files)
+}
+
+fn read_rattle(root: &Path, folder: &str, files: &mut Files) -> io::Result<()> {
+    for entry in fs::read_dir(root.join(folder))? {
+        let entry = entry?;
+        let path = format!("{folder}/{}", entry.file_name().to_string_lossy());
+        if entry.file_type()?.is_dir() {
+            read_rattle(root, &path, files)?;
+        } else if path.ends_with(".rt") {
+            files.insert(path, fs::read_to_string(entry.path())?);
+        }
+    }
+    Ok(())
+}
+
+/// What is wrong, each with its file, its function and, where it is one's, its parameter.
+pub fn mistakes(files: &Files) -> Vec<String> {
+    let mut mistakes = Vec::new();
+    let mut calls = Vec::new();
+    for (path, text) in files.iter().filter(|(path, _)| path.ends_with(".rt")) {
+        for export in exported::exports(text) {
+            match export {
+                Err(why) => mistakes.push(format!("{path}: {why}")),
+                Ok(export) => {
+                    if export.has_requires {
+                        mistakes.push(format!(
+                            "{path}: {}: it has a `requires`, and nothing proves that a caller meets it",
+                            export.name
+                        ));
+                    }
+                    if path.starts_with(CALLS) {
+                        calls.push(export);
+                    }
+                }
+            }
+        }
+    }
+    let in_c = calls.iter().map(Export::in_c).collect::<Vec<_>>();
+    let in_rust = calls.iter().map(Export::in_rust).collect::<Vec<_>>();
+    mistakes.extend(compare(HEADER, declared::in_header(&files[HEADER]), &in_c));
+    mistakes.extend(compare(RAW, declared::in_extern_blocks(&files[RAW]), &in_rust));
+    mistakes
+}
+
+fn compare(path: &str, declared: Vec<Result<Declaration, String>>, exported: &[Declaration]) -> Vec<String> {
+    let mut mistakes = Vec::new();
+    let mut missing = exported.iter().map(|export| &export.name).collect::<Vec<_>>();
+    for declaration in declared {
+        let mistake = declaration.and_then(|declaration| {
+            missing.retain(|name| **name != declaration.name);
+            agree(&declaration, exported)
+        });
+        mistakes.extend(mistake.err().map(|why| format!("{path}: {why}")));
+    }
+    mistakes
+        .extend(missing.iter().map(|name| format!("{path}: {name}: {CALLS} exports it, and it is not declared here")));
+    mistakes
+}
+
+/// Only the first difference is told: behind a parameter that is left out every other one stands at a wrong place.
+fn agree(declaration: &Declaration, exported: &[Declaration]) -> Result<(), String> {
+    let name = &declaration.name;
+    let Some(export) = exported.iter().find(|export| export.name == *name) else {
+        return Err(format!("{name}: it is declared here, and {CALLS} does not export it"));
+    };
+    for place in 0..declaration.parameters.len().max(export.parameters.len()) {
+        let [here, there] =
+            [declaration, export].map(|function| function.parameters.get(place).map_or("missing", String::as_str));
+        if here != there {
+            return Err(format!("{name}: parameter {} is `{here}`, by the export it is `{there}`", place + 1));
+        }
+    }
+    if declaration.result != export.result {
+        return Err(format!("{name}: it returns `{}`, by the export `{}`", declaration.result, export.result));
+    }
+    Ok(())
+}
