@@ -5,8 +5,10 @@ use ringcut::{cut_polygon, room_for_ring, Answer, Bounds, Edge, Flags, PolygonBu
 
 const BOUNDS: Bounds = Bounds { west: 0., south: 0., east: 10., north: 10. };
 
-/// What a lent number that no call has written holds here.
-const UNWRITTEN: u32 = 77;
+/// What a lent number that no call has written holds here, by its bits: a NaN, of whose bits no contract says that they stay.
+const UNWRITTEN: u64 = 0xfff4_dead_beef_0001;
+/// The same of a lent whole number.
+const WHOLE_UNWRITTEN: u32 = 77;
 
 /// The slices lent to a call: numbers in scratch, positions, numbers and lengths of output.
 #[derive(Clone, Copy)]
@@ -44,10 +46,10 @@ fn cut_to(
     lengths: &[u32],
     room: Room,
 ) -> Result<(Answer, Vec<Vec<f64>>), Refusal> {
-    let unwritten = f64::from(UNWRITTEN);
+    let unwritten = f64::from_bits(UNWRITTEN);
     let (mut scratch_a, mut scratch_b) = (vec![unwritten; room.scratch_a], vec![unwritten; room.scratch_b]);
-    let mut order = vec![UNWRITTEN; room.order];
-    let (mut out, mut out_lengths) = (vec![unwritten; room.out], vec![UNWRITTEN; room.out_lengths]);
+    let mut order = vec![WHOLE_UNWRITTEN; room.order];
+    let (mut out, mut out_lengths) = (vec![unwritten; room.out], vec![WHOLE_UNWRITTEN; room.out_lengths]);
     let lent = PolygonBuffers {
         scratch_a: &mut scratch_a,
         scratch_b: &mut scratch_b,
@@ -57,12 +59,12 @@ fn cut_to(
     };
     let answered = cut_polygon(flags, bounds, buffer, coords, lengths, lent);
 
-    let working = if answered.is_ok() { 0 } else { UNWRITTEN };
-    assert!(scratch_a.iter().chain(&scratch_b).all(|&number| number == f64::from(working)));
-    assert!(order.iter().all(|&position| position == working));
+    let (working, whole_working) = if answered.is_ok() { (0, 0) } else { (UNWRITTEN, WHOLE_UNWRITTEN) };
+    assert!(scratch_a.iter().chain(&scratch_b).all(|number| number.to_bits() == working));
+    assert!(order.iter().all(|&position| position == whole_working));
     let count = if let Ok(Answer::Cut { rings }) = answered { rings } else { 0 };
     let (written, beyond) = out_lengths.split_at(count);
-    assert!(beyond.iter().all(|&length| length == UNWRITTEN));
+    assert!(beyond.iter().all(|&length| length == WHOLE_UNWRITTEN));
     let mut rest = out.as_slice();
     let mut rings = Vec::new();
     for &length in written {
@@ -70,7 +72,7 @@ fn cut_to(
         rings.push(ring.to_vec());
         rest = behind;
     }
-    assert!(rest.iter().all(|&number| number == unwritten));
+    assert!(rest.iter().all(|number| number.to_bits() == UNWRITTEN));
     answered.map(|answer| (answer, rings))
 }
 

@@ -6,8 +6,8 @@ use ringcut::{cut_ring, room_for_ring, Bounds, Refusal, RingBuffers};
 const BOUNDS: Bounds = Bounds { west: 0., south: 0., east: 10., north: 10. };
 const ACROSS_EAST: &[f64] = &[5., 5., 15., 5., 15., 8., 5., 8.];
 
-/// What a lent number that no call has written holds here.
-const UNWRITTEN: f64 = 77.;
+/// What a lent number that no call has written holds here, by its bits: a NaN, of whose bits no contract says that they stay.
+const UNWRITTEN: u64 = 0xfff4_dead_beef_0001;
 
 /// The cut ring, with two scratch slices and an output of these lengths; what the call must clear or leave as it was is
 /// looked at.
@@ -16,13 +16,14 @@ fn cut(ring: &[f64], lengths: [usize; 3]) -> Result<Vec<f64>, Refusal> {
 }
 
 fn cut_to(bounds: Bounds, ring: &[f64], [a, b, out]: [usize; 3]) -> Result<Vec<f64>, Refusal> {
-    let (mut scratch_a, mut scratch_b, mut out) = (vec![UNWRITTEN; a], vec![UNWRITTEN; b], vec![UNWRITTEN; out]);
+    let unwritten = f64::from_bits(UNWRITTEN);
+    let (mut scratch_a, mut scratch_b, mut out) = (vec![unwritten; a], vec![unwritten; b], vec![unwritten; out]);
     let lent = RingBuffers { scratch_a: &mut scratch_a, scratch_b: &mut scratch_b, out: &mut out };
     let answered = cut_ring(ring, bounds, lent);
-    let working = if answered.is_ok() { 0. } else { UNWRITTEN };
-    assert!(scratch_a.iter().chain(&scratch_b).all(|&number| number == working));
+    let working = if answered.is_ok() { 0 } else { UNWRITTEN };
+    assert!(scratch_a.iter().chain(&scratch_b).all(|number| number.to_bits() == working));
     let rest = out.split_off(2 * answered.unwrap_or(0));
-    assert!(rest.iter().all(|&number| number == UNWRITTEN));
+    assert!(rest.iter().all(|number| number.to_bits() == UNWRITTEN));
     answered.map(|_| out)
 }
 
