@@ -18,8 +18,13 @@
  *   22  an output or a slice for lengths too short
  *
  * A frame call gives 11 to 18 and 22, the others 19 to 22: the first that holds in this order, 15 to 17 as a walk from the
- * frame's front meets them. A refused call has changed nothing. One that is not refused fills scratch and order slices with
- * zeros, from end to end, and leaves output and lengths past its answer as they were.
+ * frame's front meets them.
+ *
+ * What a call leaves in the slices that are not const. A refused call leaves them as they were. One that is not refused fills
+ * scratch and order slices with zeros, from end to end, and leaves output and lengths past its answer as they were. That is
+ * proved: of bytes and whole numbers exactly, of doubles as far as the proofs tell two of them apart, which is by number and
+ * sign of zero, all NaNs being one. The code writes nothing where it leaves a slice as it was, so the bits of a NaN stay
+ * there too: the tests see that, and no contract says it.
  *
  * What every call asks. A slice is a pointer and a length, counted in values of the pointer's type. The pointer is not null
  * and is aligned for its type, also where the length is 0 (any address of that type will do); that many values behind it can
@@ -44,7 +49,7 @@ extern "C" {
 #define RINGCUT_ROOM(n) \
     ((n) == 0 ? 0 : RINGCUT_HALF_GROWTH(RINGCUT_HALF_GROWTH(RINGCUT_HALF_GROWTH(RINGCUT_HALF_GROWTH(n)))) + 2)
 
-/* The bytes of output that are enough for every frame. */
+/* The bytes of output that are enough for every frame: proved by the law most-room, crates/frame_bytes/proofs/MostRoom.antt. */
 #define RINGCUT_MOST_FRAME_OUTPUT 50077
 
 /*

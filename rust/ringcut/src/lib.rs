@@ -5,9 +5,14 @@
 //! - [`cut_polygon`] takes one polygon as numbers.
 //! - [`cut_ring`] cuts one ring, and looks at nothing else.
 //!
-//! Each answers on every input, with a [`Refusal`] where it can't cut. A refused call has changed no lent buffer. One that is
-//! not refused fills scratch and order slices with zeros, from end to end, and leaves the output past its answer as it was.
-//! Bounds and buffer may be any numbers; a NaN bound has nothing inside.
+//! Each answers on every input, with a [`Refusal`] where it can't cut. Bounds and buffer may be any numbers; a NaN bound has
+//! nothing inside.
+//!
+//! A refused call leaves every lent buffer as it was. One that is not refused fills scratch and order slices with zeros, from
+//! end to end, and leaves the output past its answer as it was. That is proved: of bytes and whole numbers exactly, of numbers
+//! in `f64` as far as the proofs tell two of them apart, which is by number and sign of zero, all NaNs being one. The library
+//! writes nothing where it leaves a buffer as it was, so the bits of a NaN stay there too: the tests see that, and no
+//! contract says it.
 //!
 //! The functions here panic only if the library answers what its contract rules out, which is proved not to happen: a panic
 //! says that another library was linked.

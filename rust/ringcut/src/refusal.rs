@@ -3,7 +3,7 @@
 use core::error::Error;
 use core::fmt::{self, Display, Formatter};
 
-/// Why a call was refused. A refused call has changed no lent buffer.
+/// Why a call was refused. A refused call leaves every lent buffer as it was; the [crate's page](crate) says what of that is proved.
 ///
 /// A frame call gives 11 to 18 and 22, a slice call and a ring call 19 to 22.
 ///

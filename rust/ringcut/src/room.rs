@@ -1,7 +1,8 @@
 //! How much a caller has to lend.
 
-/// The bytes of output that are enough for every frame. The most is asked by rings of one NaN coordinate, which closing
-/// makes two: 281 of them, in nine parts.
+/// The bytes of output that are enough for every frame, which is proved: the law `most-room` in
+/// `crates/frame_bytes/proofs/MostRoom.antt`. So much is asked by rings of one NaN coordinate, which closing makes two: 281 of
+/// them, in nine parts.
 pub const MOST_FRAME_OUTPUT: usize = 50_077;
 
 /// Document 01's B: the room, in coordinates, that a ring of `n` coordinates asks for, cut or not. `n` grown by half,
