@@ -9,28 +9,29 @@ use native.Mathlib.Omega.{arith}
 use lib.Dec.{eqb, leb}
 use lib.ListN.{length, getD, take, drop, length-append, drop-of-length-le}
 use lib.Seq.{take-suc, drop-cons}
-use borrow.Author.Tests.{le-leb, ne-eqb, eq-eqb, eqb-true, eqb-false, leb-true}
+use borrow.Author.Tests.{le-leb, lt-leb, eqb-true, eqb-false, leb-true}
 use Rattle.binary64.specs.Slices.{over}
 use Rattle.binary64.proofs.Booleans.{both}
 use Rattle.frame_bytes.specs.Frame.{longest}
 use Rattle.lines.specs.declared.line.Line.{Line}
 use Rattle.lines.specs.declared.line.Line.the-variants as Held
 use Rattle.lines.specs.Lines.{newline}
-use Rattle.lines.specs.State.{State, whole, start, endLine, endOfInput, stateAfter, printedBy, lineLength, stateOf, part, Passes, lineRoom, lent, Prints, Feeds, notBegun}
+use Rattle.lines.specs.State.{State, whole, start, endLine, endOfInput, stateAfter, printedBy, lineLength, stateOf, part}
+use Rattle.lines.specs.State.{Passes, Takes, lineRoom, lent, Prints, Feeds, notBegun}
 use Rattle.lines.proofs.Running.{state-append, printed-append}
 
 -- ---- whether the slices have the lengths that are asked for
 
-pub kept-wrong : (kept out : List ℕ) → (length kept ≡ longest → ⊥) → lent kept out ≡ false
-kept-wrong kept out h = rw (ne-eqb (length kept) longest h)
+pub kept-short : (kept out : List ℕ) → length kept < longest → lent kept out ≡ false
+kept-short kept out h = rw (lt-leb longest (length kept) h)
 
-pub both-lent : (kept out : List ℕ) → length kept ≡ longest → lineRoom ≤ length out → lent kept out ≡ true
-both-lent kept out e h = rw (eq-eqb (length kept) longest e, le-leb lineRoom (length out) h)
+pub both-lent : (kept out : List ℕ) → longest ≤ length kept → lineRoom ≤ length out → lent kept out ≡ true
+both-lent kept out e h = rw (le-leb longest (length kept) e, le-leb lineRoom (length out) h)
 
-pub lent-lengths : (kept out : List ℕ) → lent kept out ≡ true → (length kept ≡ longest) × (lineRoom ≤ length out)
+pub lent-lengths : (kept out : List ℕ) → lent kept out ≡ true → (longest ≤ length kept) × (lineRoom ≤ length out)
 lent-lengths kept out e =
-    let t = both (eqb (length kept) longest) (leb lineRoom (length out)) e in
-    (eqb-true (length kept) longest (t .0), leb-true lineRoom (length out) (t .1))
+    let t = both (leb longest (length kept)) (leb lineRoom (length out)) e in
+    (leb-true longest (length kept) (t .0), leb-true lineRoom (length out) (t .1))
 
 -- the same by the answer of a test
 pub not-lent : (r : Bool) (kept out : List ℕ) → r ≡ lent kept out → not r ≡ true → lent kept out ≡ false
@@ -52,12 +53,13 @@ pub prints-nothing : (st : State) (out : List ℕ) → Prints [] st out 0 st out
 unfolding stateAfter printedBy
 prints-nothing st out = record { state = refl; count = refl; output = refl; room = omega arith }
 
-pub feeds-nothing : (block : List ℕ) (st : State) (ready : Bool) (kept out : List ℕ) → ready ≡ false → Feeds block st ready kept out 0 0 st kept out
-feeds-nothing block st ready kept out e = record {
-  line = rw e;
-  prints = prints-nothing st out;
-  untaken = λ _. refl;
+pub feeds-nothing : (block : List ℕ) (line : Line) (kept out : List ℕ) → lent kept out ≡ false → Feeds block line kept out 0 0 line kept out
+feeds-nothing block line kept out e = record {
+  first-line = rw e;
+  prints = prints-nothing (stateOf line kept) out;
+  untaken = λ _. (refl, refl);
   free = refl;
+  proper = λ p. p;
 }
 
 taken-only : {A : Type 0} {ready : Bool} → ready ≡ true → ready ≡ false → A
@@ -75,13 +77,21 @@ module _ {block : List ℕ} {st st₁ : State} {at : ℕ} (p : Passes block 0 st
   front-silent = sym (ap (printedBy st) whole-front) ∙ p .silent
 
 -- up to the block's end, with no newline in it
-pub feeds-block : (block : List ℕ) (st st₁ : State) (ready : Bool) (kept kept′ out : List ℕ) (at : ℕ) → ready ≡ true → Passes block 0 st at st₁ → length block ≤ at
-    → length kept′ ≡ length kept → Feeds block st ready kept out at 0 st₁ kept′ out
+pub feeds-block : (block : List ℕ) (line line′ : Line) (kept kept′ out : List ℕ) (at : ℕ) → lent kept out ≡ true
+    → Takes block 0 line kept at line′ kept′ → length block ≤ at → length kept′ ≡ length kept
+    → Feeds block line kept out at 0 line′ kept′ out
 unfolding lineLength
-feeds-block block st st₁ ready kept kept′ out at e p h free =
+feeds-block block line line′ kept kept′ out at e t h free =
+    let p = t .passes in
     let none : drop at block ≡ [] = drop-of-length-le block h in
     let all : at ≡ lineLength block = omega (arith, p .in-line, ap lineLength none) in
-    record { line = rw e all; prints = record { state = front-state p; count = rw (front-silent p); output = rw (front-silent p); room = omega arith }; untaken = taken-only e; free = free }
+    record {
+      first-line = rw e all;
+      prints = record { state = front-state p; count = rw (front-silent p); output = rw (front-silent p); room = omega arith };
+      untaken = taken-only e;
+      free = free;
+      proper = t .proper;
+    }
 
 -- up to a newline
 module _ (block : List ℕ) (at : ℕ) (h : at < length block) (e : getD block at 0 ≡ newline) where
@@ -100,17 +110,29 @@ module _ (block : List ℕ) (at : ℕ) (h : at < length block) (e : getD block a
   unfolding printedBy
   line-printed st none = rw with-newline (printed-append (take at block) (newline ∷ []) st ∙ rw none (append-nil _))
 
-pub feeds-line : (block : List ℕ) (st st₁ : State) (ready : Bool) (kept kept′ out out′ : List ℕ) (at written : ℕ) → ready ≡ true → Passes block 0 st at st₁ → at < length block → getD block at 0 ≡ newline
-    → written ≡ length (endLine st₁) → out′ ≡ over (endLine st₁) out → length out′ ≡ length out → length kept′ ≡ length kept
-    → Feeds block st ready kept out (at + 1) written start kept′ out′
-feeds-line block st st₁ ready kept kept′ out out′ at written t p h e n o sized free =
-    let text : printedBy st (take (at + 1) block) ≡ endLine st₁ = line-printed block at h e st (front-silent p) ∙ ap endLine (sym (front-state p)) in
-    let all : at + 1 ≡ lineLength block = omega (arith, p .in-line, last-of-line block at h e) in
+pub feeds-line : (block : List ℕ) (line line₁ : Line) (kept kept′ out out′ : List ℕ) (at written : ℕ) → lent kept out ≡ true
+    → Takes block 0 line kept at line₁ kept′ → at < length block → written ≡ length (endLine (stateOf line₁ kept′))
+    → out′ ≡ over (endLine (stateOf line₁ kept′)) out → length out′ ≡ length out → length kept′ ≡ length kept
+    → Feeds block line kept out (at + 1) written (Held.Whole 0) kept′ out′
+feeds-line block line line₁ kept kept′ out out′ at written e t h n o sized free =
+    let p = t .passes in
+    let st = stateOf line kept in
+    let st₁ = stateOf line₁ kept′ in
+    let there = t .stops h in
+    let text : printedBy st (take (at + 1) block) ≡ endLine st₁ =
+    line-printed block at h there st (front-silent p) ∙ ap endLine (sym (front-state p)) in
+    let all : at + 1 ≡ lineLength block = omega (arith, p .in-line, last-of-line block at h there) in
     record {
-      line = rw t all;
-      prints = record { state = sym (line-state block at h e st); count = rw text n; output = rw text o; room = over-fits (endLine st₁) out out′ written n o sized };
-      untaken = taken-only t;
+      first-line = rw e all;
+      prints = record {
+        state = sym (line-state block at h there st);
+        count = rw text n;
+        output = rw text o;
+        room = over-fits (endLine st₁) out out′ written n o sized;
+      };
+      untaken = taken-only e;
       free = free;
+      proper = λ _. (omega arith, omega arith);
     }
 
 -- so something is taken of every block that is not empty, and no more than it has
@@ -132,10 +154,11 @@ some-length (b ∷ rest) h = by-test (eqb b newline)
     by-test true = omega arith
     by-test false = omega arith
 
-pub takes-some : {block : List ℕ} {st st′ : State} {kept kept′ out out′ : List ℕ} {taken written : ℕ} → Feeds block st (lent kept out) kept out taken written st′ kept′ out′
-    → length kept ≡ longest → lineRoom ≤ length out → 0 < length block → (0 < taken) × (taken ≤ length block)
+pub takes-some : {block : List ℕ} {line line′ : Line} {kept kept′ out out′ : List ℕ} {taken written : ℕ}
+    → Feeds block line kept out taken written line′ kept′ out′ → longest ≤ length kept → lineRoom ≤ length out → 0 < length block
+    → (0 < taken) × (taken ≤ length block)
 takes-some {block} {kept = kept} {out = out} {taken = taken} f e r h =
-    let all : taken ≡ lineLength block = f .line ∙ rw (both-lent kept out e r) in
+    let all : taken ≡ lineLength block = f .first-line ∙ rw (both-lent kept out e r) in
     (omega (arith, all, some-length block h), omega (arith, all, line-within block))
 
 -- ---- the end of the input
@@ -145,7 +168,8 @@ some-kept zero kept h k = absurd (omega arith)
 some-kept (suc n) [] h k = absurd (omega arith)
 some-kept (suc n) (b ∷ kept) h k = refl
 
-pub ends-begun : (line : Line) (kept : List ℕ) → length kept ≡ longest → notBegun line ≡ false → endOfInput (stateOf line kept) ≡ endLine (stateOf line kept)
+pub ends-begun : (line : Line) (kept : List ℕ) → longest ≤ length kept → notBegun line ≡ false
+    → endOfInput (stateOf line kept) ≡ endLine (stateOf line kept)
 ends-begun Held.NotDigits kept h e = refl
 ends-begun (Held.Whole n) kept h e = some-kept n kept (pos-of-ne-zero (eqb-false n 0 e)) (omega arith)
 ends-begun (Held.Half n high) kept h e = refl

@@ -107,7 +107,8 @@ passes-char block at st h other =
     }
 
 -- a pair of digits more, whose byte is kept
-pub passes-pair : (block kept : List ℕ) (at n : ℕ) → length kept ≡ longest → n < longest → at + 1 < length block → digit (getD block at 0) < 16 → digit (getD block (at + 1) 0) < 16
+pub passes-pair : (block kept : List ℕ) (at n : ℕ) → longest ≤ length kept → n < longest → at + 1 < length block
+    → digit (getD block at 0) < 16 → digit (getD block (at + 1) 0) < 16
     → Passes block at (whole (take n kept)) (at + 2) (whole (take (n + 1) (set kept n (digit (getD block at 0) * 16 + digit (getD block (at + 1) 0)))))
 passes-pair block kept at n sized h inside first second =
     let a = getD block at 0 in

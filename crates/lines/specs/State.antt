@@ -11,6 +11,8 @@ use Rattle.frame_bytes.specs.Frame.{longest, refusalNumber}
 use Rattle.frame_bytes.specs.declared.reader.FrameRefusal.the-variants.{Size}
 use Rattle.lines.specs.declared.line.Line.{Line}
 use Rattle.lines.specs.declared.line.Line.the-variants as Held
+use Rattle.lines.specs.declared.feed.Finished.{Finished}
+use Rattle.lines.specs.declared.feed.Finished.the-variants.{TooShort, Written}
 use Rattle.lines.specs.Lines.{newline, digit, isDigit, hexLine, refusalBytes, frameAnswer, notPairsNumber, printed}
 
 -- The bytes that its pairs of digits stand for, and the value of a digit that still wants its second. Of a line of more bytes than the longest frame it is
@@ -78,6 +80,24 @@ stateOf (Held.Whole n) kept = whole (take n kept)
 stateOf (Held.Half n high) kept = half (take n kept) (high % 16)
 stateOf (Held.Long odd) kept = long odd
 
+-- how many bytes a line counts, and the value that it holds of a digit that wants its second
+abbrev pub counted : Line → ℕ
+counted Held.NotDigits = 0
+counted (Held.Whole n) = n
+counted (Held.Half n high) = n
+counted (Held.Long odd) = 0
+
+abbrev pub firstDigit : Line → ℕ
+firstDigit Held.NotDigits = 0
+firstDigit (Held.Whole n) = 0
+firstDigit (Held.Half n high) = high
+firstDigit (Held.Long odd) = 0
+
+-- A line as the line step makes it. Where `kept` holds the longest frame, the state of such a line settles it
+-- (proofs/Kept.antt: `line-settled`).
+abbrev pub Proper : Line → Type 0
+Proper line = (counted line ≤ longest) × (firstDigit line < 16)
+
 -- An input may begin here: what its characters print, and then its end, is what is to be printed for it.
 abbrev pub Begins : Line → Type 0
 Begins line = (kept input : List ℕ) → printedBy (stateOf line kept) input ++ endOfInput (stateAfter (stateOf line kept) input) ≡ printed input
@@ -98,6 +118,7 @@ pub record Passes (block : List ℕ) (from : ℕ) (st : State) (to : ℕ) (st′
 pub record Takes (block : List ℕ) (from : ℕ) (line : Line) (kept : List ℕ) (to : ℕ) (line′ : Line) (kept′ : List ℕ) : Type 0 where
   pub passes : Passes block from (stateOf line kept) to (stateOf line′ kept′)
   pub stops : to < length block → getD block to 0 ≡ newline
+  pub proper : Proper line → Proper line′
 
 -- ---- the lent slices
 
@@ -109,9 +130,9 @@ answerRoom = 10 * longest
 abbrev pub lineRoom : ℕ
 lineRoom = 2 * answerRoom + 1
 
--- whether the slice for the bytes of a line has the longest frame's length, and the one for what is printed has room for a line
+-- whether the slice for the bytes of a line holds the longest frame, and the one for what is printed has room for a line
 abbrev pub lent : List ℕ → List ℕ → Bool
-lent kept out = eqb (length kept) longest && leb lineRoom (length out)
+lent kept out = leb longest (length kept) && leb lineRoom (length out)
 
 -- ---- the line step
 
@@ -122,15 +143,21 @@ pub record Prints (characters : List ℕ) (st : State) (out : List ℕ) (written
   pub output : out′ ≡ over (printedBy st characters) out
   pub room : written ≤ length out
 
--- Feeding a block: its first line is taken, or nothing where a lent slice has another length than `lent` asks for.
-pub record Feeds (block : List ℕ) (st : State) (ready : Bool) (kept out : List ℕ) (taken written : ℕ) (st′ : State) (kept′ out′ : List ℕ) : Type 0 where
-  pub line : taken ≡ cond ready (lineLength block) 0
-  pub prints : Prints (take taken block) st out written st′ out′
-  -- where the slices are not as asked the bytes of the line stay; otherwise those that the new state does not name are free
-  pub untaken : ready ≡ false → kept′ ≡ kept
+-- Feeding a block: its first line is taken, or nothing where a lent slice is shorter than `lent` asks for.
+pub record Feeds (block : List ℕ) (line : Line) (kept out : List ℕ) (taken written : ℕ) (line′ : Line) (kept′ out′ : List ℕ) : Type 0 where
+  pub first-line : taken ≡ cond (lent kept out) (lineLength block) 0
+  pub prints : Prints (take taken block) (stateOf line kept) out written (stateOf line′ kept′) out′
+  -- where a slice is too short the line and its bytes stay
+  pub untaken : lent kept out ≡ false → (line′ ≡ line) × (kept′ ≡ kept)
+  -- otherwise the bytes that the new state does not name are free
   pub free : length kept′ ≡ length kept
+  -- Nothing is free of a line that the line step made: `prints` settles its state, and that settles it. Of one that a caller made up,
+  -- free are how far a count goes past the end of `kept`, and the multiple of 16 in a digit's value. Every contract speaks of the state,
+  -- in which neither is seen, so no answer depends on them.
+  pub proper : Proper line → Proper line′
 
--- Feeding a block's lines one behind the other: to its end, or until the output has no room for one line more; how many lines that are is left free. Something is taken of a block that is not empty.
+-- Feeding a block's lines one behind the other: to its end, or until the output has no room for one line more; how many lines that are is
+-- left free. Something is taken of a block that is not empty.
 pub record FeedsLines (block : List ℕ) (st : State) (kept out : List ℕ) (taken written : ℕ) (st′ : State) (kept′ out′ : List ℕ) : Type 0 where
   pub within : taken ≤ length block
   pub prints : Prints (take taken block) st out written st′ out′
@@ -139,9 +166,20 @@ pub record FeedsLines (block : List ℕ) (st : State) (kept out : List ℕ) (tak
   -- the bytes of `kept` are free but for those that the new state names
   pub free : length kept′ ≡ length kept
 
--- what the end of the input writes
-abbrev pub finished : Bool → State → List ℕ
-finished ready st = cond ready (endOfInput st) []
+-- ---- the end of the input
+
+-- what `finish` answers: how many bytes it wrote, 0 where there is no last line, or that a lent slice is shorter than `lent` asks for
+abbrev pub finishAnswer : Line → List ℕ → List ℕ → Finished
+finishAnswer line kept out = cond (lent kept out) (Written (length (endOfInput (stateOf line kept)))) TooShort
+
+-- and what the output holds then
+abbrev pub finishOutput : Line → List ℕ → List ℕ → List ℕ
+finishOutput line kept out = cond (lent kept out) (over (endOfInput (stateOf line kept)) out) out
+
+-- how many bytes were written by such an answer
+abbrev pub bytesWritten : Finished → ℕ
+bytesWritten TooShort = 0
+bytesWritten (Written count) = count
 
 -- a line of which no character was read
 abbrev pub notBegun : Line → Bool

@@ -3,10 +3,9 @@ ghost use mathlib.Core.Path.{_≡_};
 ghost use Prim.Native.Nat.{_≤_};
 ghost use lib.ListN.{length};
 ghost use Rattle.binary64.specs.Slices.{over};
-ghost use Rattle.frame_bytes.specs.Frame.{longest};
 ghost use Rattle.frame_bytes.specs.Room.{leastRoom};
-ghost use Rattle.lines.specs.Lines as S;
-ghost use Rattle.lines.specs.State as T;
+ghost use Rattle.lines.specs.Lines as Lines;
+ghost use Rattle.lines.specs.State as State;
 use super::digits::to_line;
 use super::line::Line;
 use frame_bytes::reader::FrameRefusal;
@@ -27,14 +26,16 @@ pub const LINE_ROOM: usize = 2 * ANSWER_ROOM + 1;
 // Writes a refusal's bytes: its number stands where an answer that lists nothing has its own.
 fn refuse(out: &mut [u8], number: u8) -> usize
     requires { ⌜ leastRoom ≤ length (now out) ⌝ }
-    ensures { λ r. ⌜ (r ≡ length (S.refusalBytes number)) × (now (out .exit) ≡ over (S.refusalBytes number) (now (out .entry))) ⌝ }
+    ensures answer { λ r. ⌜ r ≡ length (Lines.refusalBytes number) ⌝ }
+    ensures output { λ _. ⌜ now (out .exit) ≡ over (Lines.refusalBytes number) (now (out .entry)) ⌝ }
 {
     put_alone(out, number, 0)
 }
 
 fn answer_frame(bytes: &[u8], out: &mut [u8]) -> usize
-    requires { ⌜ T.answerRoom ≤ length (now out) ⌝ }
-    ensures { λ r. ⌜ (r ≡ length (S.frameAnswer (now (bytes .entry)))) × (now (out .exit) ≡ over (S.frameAnswer (now (bytes .entry))) (now (out .entry))) ⌝ }
+    requires { ⌜ State.answerRoom ≤ length (now out) ⌝ }
+    ensures answer { λ r. ⌜ r ≡ length (Lines.frameAnswer (now (bytes .entry))) ⌝ }
+    ensures output { λ _. ⌜ now (out .exit) ≡ over (Lines.frameAnswer (now (bytes .entry))) (now (out .entry)) ⌝ }
 {
     match frame(bytes, out) {
         FrameAnswer::Refused(refusal) => refuse(out, refusal_number(refusal)),
@@ -44,13 +45,13 @@ fn answer_frame(bytes: &[u8], out: &mut [u8]) -> usize
 
 // Writes the bytes that a line is answered where it ends.
 fn answer(line: Line, kept: &[u8], out: &mut [u8]) -> usize
-    requires { ⌜ (length (now kept) ≡ longest) × (T.answerRoom ≤ length (now out)) ⌝ }
-    ensures { λ r. ⌜ (r ≡ length (T.endAnswer (T.stateOf line (now (kept .entry)))))
-        × (now (out .exit) ≡ over (T.endAnswer (T.stateOf line (now (kept .entry)))) (now (out .entry))) ⌝ }
+    requires { ⌜ State.answerRoom ≤ length (now out) ⌝ }
+    ensures answer { λ r. ⌜ r ≡ length (State.endAnswer (State.stateOf line (now (kept .entry)))) ⌝ }
+    ensures output { λ _. ⌜ now (out .exit) ≡ over (State.endAnswer (State.stateOf line (now (kept .entry)))) (now (out .entry)) ⌝ }
 {
     match line {
         Line::Whole(bytes) => {
-            if bytes < LONGEST {
+            if bytes < kept.len() {
                 return answer_frame(&kept[..bytes], out);
             }
             answer_frame(kept, out)
@@ -68,9 +69,9 @@ fn answer(line: Line, kept: &[u8], out: &mut [u8]) -> usize
 
 // Writes that answer as a line, and answers how long it is.
 pub fn answer_line(line: Line, kept: &[u8], out: &mut [u8]) -> usize
-    requires { ⌜ (length (now kept) ≡ longest) × (T.lineRoom ≤ length (now out)) ⌝ }
-    ensures { λ r. ⌜ (r ≡ length (T.endLine (T.stateOf line (now (kept .entry)))))
-        × (now (out .exit) ≡ over (T.endLine (T.stateOf line (now (kept .entry)))) (now (out .entry))) ⌝ }
+    requires { ⌜ State.lineRoom ≤ length (now out) ⌝ }
+    ensures answer { λ r. ⌜ r ≡ length (State.endLine (State.stateOf line (now (kept .entry)))) ⌝ }
+    ensures output { λ _. ⌜ now (out .exit) ≡ over (State.endLine (State.stateOf line (now (kept .entry)))) (now (out .entry)) ⌝ }
 {
     let count = answer(line, kept, &mut out[..ANSWER_ROOM]);
     to_line(out, count)

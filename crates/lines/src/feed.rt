@@ -2,9 +2,8 @@
 ghost use mathlib.Core.Path.{_≡_};
 ghost use Prim.Native.Nat.{_+_, _<_, _≤_};
 ghost use lib.ListN.{length, take, drop};
-ghost use Rattle.binary64.specs.Slices.{over};
 ghost use Rattle.frame_bytes.specs.Frame.{longest};
-ghost use Rattle.lines.specs.State as T;
+ghost use Rattle.lines.specs.State as State;
 use super::answer::LINE_ROOM;
 use super::answer::answer_line;
 use super::line::Line;
@@ -18,29 +17,40 @@ pub struct Fed {
     pub written: usize,
 }
 
+// What the end of an input comes to.
+pub enum Finished {
+    // `kept` or `out` is shorter than the line step asks: nothing was written, nor is it told whether there is a last line.
+    TooShort,
+    // So many bytes were written, 0 where there is no last line.
+    Written(usize),
+}
+
 // What is known of a line before an input is read.
 pub fn start() -> Line
-    ensures { λ r. ⌜ r ≡ Line.Whole 0 ⌝ }
-    ensures { λ r. ⌜ T.Begins r ⌝ }
+    ensures empty { λ r. ⌜ r ≡ Line.Whole 0 ⌝ }
+    ensures begins { λ r. ⌜ State.Begins r ⌝ }
 {
     Line::Whole(0)
 }
 
-// Whether the lent slices are as the line step asks: `kept` of just the longest frame's length, `out` with room for a line.
+// Whether the lent slices are as long as the line step asks: `kept` holds the longest frame, and `out` has room for a line.
 fn are_lent(kept: &[u8], out: &[u8]) -> bool
-    ensures { λ r. ⌜ r ≡ T.lent (now (kept .entry)) (now (out .entry)) ⌝ }
+    ensures lent { λ r. ⌜ r ≡ State.lent (now (kept .entry)) (now (out .entry)) ⌝ }
 {
-    if kept.len() != LONGEST {
+    if kept.len() < LONGEST {
         return false;
     }
     out.len() >= LINE_ROOM
 }
 
-// Takes a block up to its first newline, which is answered, or to its end. `kept` is 5,120 bytes that go with the line: those past the line's own are free.
-// Takes nothing where `kept` has another length, or `out` is shorter than LINE_ROOM.
+// Takes a block up to its first newline, which is answered, or to its end. `kept` is 5,120 bytes or more that go with the line: those
+// past the line's own are free. Takes nothing where `kept` is shorter, or `out` is shorter than LINE_ROOM.
+// The line that is returned is settled where `line` is one that `start` or `feed` made. Where a caller made up another, it is left free
+// how far a count goes past the end of `kept`, and which multiple of 16 a digit's value has in it: what is answered then and later
+// depends on neither.
 pub fn feed(block: &[u8], line: Line, kept: &mut [u8], out: &mut [u8]) -> Fed
-    ensures { λ r. ⌜ T.Feeds (now (block .entry)) (T.stateOf line (now (kept .entry))) (T.lent (now (kept .entry)) (now (out .entry)))
-        (now (kept .entry)) (now (out .entry)) (r .taken) (r .written) (T.stateOf (r .line) (now (kept .exit))) (now (kept .exit)) (now (out .exit)) ⌝ }
+    ensures feeds { λ r. ⌜ State.Feeds (now (block .entry)) line (now (kept .entry)) (now (out .entry))
+        (r .taken) (r .written) (r .line) (now (kept .exit)) (now (out .exit)) ⌝ }
 {
     if !are_lent(kept, out) {
         return Fed {
@@ -76,19 +86,21 @@ fn feed_from(
     out: &mut [u8],
     waiting: usize,
 ) -> Fed
-    requires { ⌜ (from < length (now block)) × (length (now kept) ≡ longest) × (waiting + T.lineRoom ≤ length (now out)) ⌝ }
-    ensures { λ r. ⌜ T.Prints (take (r .taken) (drop from (now (block .entry)))) (T.stateOf line (now (kept .entry))) (drop waiting (now (out .entry)))
-        (r .written) (T.stateOf (r .line) (now (kept .exit))) (drop waiting (now (out .exit)))
-        × (take waiting (now (out .exit)) ≡ take waiting (now (out .entry))) × (0 < r .taken) × (from + r .taken ≤ length (now (block .entry))) ⌝ }
+    requires { ⌜ (from < length (now block)) × (longest ≤ length (now kept)) × (waiting + State.lineRoom ≤ length (now out)) ⌝ }
+    ensures prints { λ r. ⌜ State.Prints (take (r .taken) (drop from (now (block .entry)))) (State.stateOf line (now (kept .entry)))
+        (drop waiting (now (out .entry))) (r .written) (State.stateOf (r .line) (now (kept .exit))) (drop waiting (now (out .exit))) ⌝ }
+    ensures stays { λ _. ⌜ take waiting (now (out .exit)) ≡ take waiting (now (out .entry)) ⌝ }
+    ensures taken { λ r. ⌜ (0 < r .taken) × (from + r .taken ≤ length (now (block .entry))) ⌝ }
 {
     feed(&block[from..], line, kept, &mut out[waiting..])
 }
 
 // Answers every line that ends in the block, as long as the output has room for one more: a write for each would cost more than the answer.
 pub fn feed_lines(block: &[u8], line: Line, kept: &mut [u8], out: &mut [u8]) -> Fed
-    requires { ⌜ (length (now kept) ≡ longest) × (T.lineRoom ≤ length (now out)) ⌝ }
-    ensures { λ r. ⌜ T.FeedsLines (now (block .entry)) (T.stateOf line (now (kept .entry))) (now (kept .entry)) (now (out .entry))
-        (r .taken) (r .written) (T.stateOf (r .line) (now (kept .exit))) (now (kept .exit)) (now (out .exit)) ⌝ }
+    requires { ⌜ (longest ≤ length (now kept)) × (State.lineRoom ≤ length (now out)) ⌝ }
+    ensures feeds { λ r. ⌜ State.FeedsLines (now (block .entry)) (State.stateOf line (now (kept .entry)))
+        (now (kept .entry)) (now (out .entry)) (r .taken) (r .written) (State.stateOf (r .line) (now (kept .exit)))
+        (now (kept .exit)) (now (out .exit)) ⌝ }
 {
     let mut known = line;
     let mut from = 0usize;
@@ -114,7 +126,7 @@ pub fn feed_lines(block: &[u8], line: Line, kept: &mut [u8], out: &mut [u8]) -> 
 }
 
 fn is_not_begun(line: Line) -> bool
-    ensures { λ r. ⌜ r ≡ T.notBegun line ⌝ }
+    ensures answer { λ r. ⌜ r ≡ State.notBegun line ⌝ }
 {
     match line {
         Line::NotDigits => false,
@@ -124,17 +136,18 @@ fn is_not_begun(line: Line) -> bool
     }
 }
 
-// What the end of the input prints, a last line without a newline, and how many bytes it is. Nothing is written where `feed` would take nothing.
-pub fn finish(line: Line, kept: &[u8], out: &mut [u8]) -> usize
-    ensures { λ r. ⌜ (r ≡ length (T.finished (T.lent (now (kept .entry)) (now (out .entry))) (T.stateOf line (now (kept .entry)))))
-        × (now (out .exit) ≡ over (T.finished (T.lent (now (kept .entry)) (now (out .entry))) (T.stateOf line (now (kept .entry)))) (now (out .entry)))
-        × (r ≤ length (now (out .entry))) ⌝ }
+// Writes what the end of the input prints, a last line without a newline. Where `feed` would take nothing it writes nothing, and says so:
+// then it may be called again with slices that are long enough, so that the last line is not lost.
+pub fn finish(line: Line, kept: &[u8], out: &mut [u8]) -> Finished
+    ensures answer { λ r. ⌜ r ≡ State.finishAnswer line (now (kept .entry)) (now (out .entry)) ⌝ }
+    ensures output { λ _. ⌜ now (out .exit) ≡ State.finishOutput line (now (kept .entry)) (now (out .entry)) ⌝ }
+    ensures room { λ r. ⌜ State.bytesWritten r ≤ length (now (out .entry)) ⌝ }
 {
     if !are_lent(kept, out) {
-        return 0;
+        return Finished::TooShort;
     }
     if is_not_begun(line) {
-        return 0;
+        return Finished::Written(0);
     }
-    answer_line(line, kept, out)
+    Finished::Written(answer_line(line, kept, out))
 }

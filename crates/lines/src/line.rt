@@ -3,15 +3,15 @@ ghost use mathlib.Core.Path.{_≡_};
 ghost use Prim.Native.Nat.{_<_, _≤_};
 ghost use lib.ListN.{length, take};
 ghost use Rattle.frame_bytes.specs.Frame.{longest};
-ghost use Rattle.lines.specs.Lines as S;
-ghost use Rattle.lines.specs.State as T;
+ghost use Rattle.lines.specs.Lines as Lines;
+ghost use Rattle.lines.specs.State as State;
 use super::digits::NEWLINE;
 use super::digits::NOT_A_DIGIT;
 use super::digits::digit_of;
 use super::digits::digit_values;
 use frame_bytes::reader::LONGEST;
 
-// What is known of a line. The bytes stand at the front of a slice of the longest frame's length, which goes with it.
+// What is known of a line. The bytes stand at the front of a slice that holds the longest frame, which goes with it.
 pub enum Line {
     // A character that is no digit was read.
     NotDigits,
@@ -24,8 +24,9 @@ pub enum Line {
 }
 
 fn take_digit(line: Line, d: u8, kept: &mut [u8]) -> Line
-    requires { ⌜ (d < 16) × (length (now kept) ≡ longest) ⌝ }
-    ensures { λ r. ⌜ T.stateOf r (now (kept .exit)) ≡ T.takeDigit (T.stateOf line (now (kept .entry))) d ⌝ }
+    requires { ⌜ (d < 16) × (longest ≤ length (now kept)) ⌝ }
+    ensures state { λ r. ⌜ State.stateOf r (now (kept .exit)) ≡ State.takeDigit (State.stateOf line (now (kept .entry))) d ⌝ }
+    ensures proper { λ r. ⌜ (State.Proper line → State.Proper r) ⌝ }
 {
     match line {
         Line::NotDigits => Line::NotDigits,
@@ -42,8 +43,9 @@ fn take_digit(line: Line, d: u8, kept: &mut [u8]) -> Line
 }
 
 fn take_char(line: Line, b: u8, values: &[u8; 256], kept: &mut [u8]) -> Line
-    requires { ⌜ S.DigitValues (now values) × (length (now kept) ≡ longest) ⌝ }
-    ensures { λ r. ⌜ T.stateOf r (now (kept .exit)) ≡ T.after (T.stateOf line (now (kept .entry))) b ⌝ }
+    requires { ⌜ Lines.DigitValues (now values) × (longest ≤ length (now kept)) ⌝ }
+    ensures state { λ r. ⌜ State.stateOf r (now (kept .exit)) ≡ State.after (State.stateOf line (now (kept .entry))) b ⌝ }
+    ensures proper { λ r. ⌜ (State.Proper line → State.Proper r) ⌝ }
 {
     let d = digit_of(b, values);
     if d < NOT_A_DIGIT {
@@ -60,8 +62,10 @@ struct Pairs {
 
 // Takes pairs of digits from the front of a block, as long as there are any and a byte more is kept: nearly every line is such pairs.
 fn take_pairs(block: &[u8], bytes: usize, values: &[u8; 256], kept: &mut [u8]) -> Pairs
-    requires { ⌜ S.DigitValues (now values) × (length (now kept) ≡ longest) ⌝ }
-    ensures { λ r. ⌜ T.Passes (now (block .entry)) 0 (T.whole (take bytes (now (kept .entry)))) (r .at) (T.whole (take (r .bytes) (now (kept .exit)))) ⌝ }
+    requires { ⌜ Lines.DigitValues (now values) × (longest ≤ length (now kept)) ⌝ }
+    ensures passes { λ r. ⌜ State.Passes (now (block .entry)) 0 (State.whole (take bytes (now (kept .entry))))
+        (r .at) (State.whole (take (r .bytes) (now (kept .exit)))) ⌝ }
+    ensures few { λ r. ⌜ (bytes ≤ longest → r .bytes ≤ longest) ⌝ }
 {
     let mut n = bytes;
     let mut at = 0usize;
@@ -92,8 +96,8 @@ pub struct Place {
 
 // Takes characters from a place of a block on, to the next newline or to the block's end.
 fn take_chars(block: &[u8], from: usize, line: Line, values: &[u8; 256], kept: &mut [u8]) -> Place
-    requires { ⌜ (from ≤ length (now block)) × S.DigitValues (now values) × (length (now kept) ≡ longest) ⌝ }
-    ensures { λ r. ⌜ T.Takes (now (block .entry)) from line (now (kept .entry)) (r .at) (r .line) (now (kept .exit)) ⌝ }
+    requires { ⌜ (from ≤ length (now block)) × Lines.DigitValues (now values) × (longest ≤ length (now kept)) ⌝ }
+    ensures takes { λ r. ⌜ State.Takes (now (block .entry)) from line (now (kept .entry)) (r .at) (r .line) (now (kept .exit)) ⌝ }
 {
     let mut reached = line;
     let mut at = from;
@@ -110,8 +114,8 @@ fn take_chars(block: &[u8], from: usize, line: Line, values: &[u8; 256], kept: &
 
 // Takes a block's characters to its first newline or to its end.
 pub fn take_line(block: &[u8], line: Line, kept: &mut [u8]) -> Place
-    requires { ⌜ length (now kept) ≡ longest ⌝ }
-    ensures { λ r. ⌜ T.Takes (now (block .entry)) 0 line (now (kept .entry)) (r .at) (r .line) (now (kept .exit)) ⌝ }
+    requires { ⌜ longest ≤ length (now kept) ⌝ }
+    ensures takes { λ r. ⌜ State.Takes (now (block .entry)) 0 line (now (kept .entry)) (r .at) (r .line) (now (kept .exit)) ⌝ }
 {
     let values = digit_values();
     if let Line::Whole(bytes) = line {

@@ -64,7 +64,7 @@ returns-3 : tie.Need-returns-3
 returns-3 c =
     let kept = now (c .before .before .before .before .before .before .before .before .before .before .args .kept) in
     let k = c .before .before .before .before .before .before .line .given in
-    let all : length kept ≤ k .0 .0 = omega (arith, c .before .before .before .before .before .before .before .before .before .before .pre .0, c .before .before .before .before .if1 .left) in
+    let all : length kept ≤ k .0 .0 = c .before .before .before .before .if1 .left in
     rw (k .1, take-all (k .0 .0) kept all) (c .before .before .answer-frame2 .ensures)
 
 same-length-4 : tie.Need-same-length-4

@@ -18,19 +18,21 @@ slice-relend-prefix-answer : tie.Need-slice-relend-prefix-answer
 slice-relend-prefix-answer c = search needs
 
 slice-aggregate-answer : tie.Need-slice-aggregate-answer
-slice-aggregate-answer c = sym (length-take-le answerRoom (now (c .before .before .before .args .out)) (omega (arith, c .before .before .before .pre .1)))
+slice-aggregate-answer c =
+    sym (length-take-le answerRoom (now (c .before .before .before .args .out)) (omega (arith, c .before .before .before .pre)))
 
 answer-requires : tie.Need-answer-requires
-answer-requires c κs = (c .before .before .before .pre .0, omega (arith, length-take-le answerRoom (now (c .before .before .before .args .out)) (omega (arith, c .before .before .before .pre .1))))
+answer-requires c κs =
+    omega (arith, length-take-le answerRoom (now (c .before .before .before .args .out)) (omega (arith, c .before .before .before .pre)))
 
 to-line-requires : tie.Need-to-line-requires
 to-line-requires c κs =
     let a = c .before .before .before .before .before .before .before .args in
     let e = c .before .before .before .answer .ensures in
-    let room : answerRoom ≤ length (now (a .out)) = omega (arith, c .before .before .before .before .before .before .before .pre .1) in
+    let room : answerRoom ≤ length (now (a .out)) = omega (arith, c .before .before .before .before .before .before .before .pre) in
     let same = c .before .before .out .given in
     let fits = part-fits (endAnswer (stateOf (a .line) (now (a .kept)))) (now (a .out)) (c .before .before .before .answer .last .1 .1 .0) answerRoom room (e .1) (same .0) in
-    omega (arith, e .0, fits, same .1, c .before .before .before .before .before .before .before .pre .1)
+    omega (arith, e .0, fits, same .1, c .before .before .before .before .before .before .before .pre)
 
 same-length : tie.Need-same-length
 same-length c = search needs
@@ -42,7 +44,8 @@ returns c =
     let out = now (a .out) in
     let part = c .before .before .before .before .before .before .answer .last .1 .1 .0 in
     let e = c .before .before .before .before .before .before .answer .ensures in
-    let room : answerRoom ≤ length out = omega (arith, c .before .before .before .before .before .before .before .before .before .before .pre .1) in
+    let room : answerRoom ≤ length out =
+    omega (arith, c .before .before .before .before .before .before .before .before .before .before .pre) in
     let t = c .before .before .to-line .ensures in
     let whole : part ++ drop answerRoom out ≡ over answer out = part-over answer out part answerRoom room (e .1) (c .before .before .before .before .before .out .given .0) in
     let front : take (c .before .before .before .before .before .before .answer .result) (part ++ drop answerRoom out) ≡ answer = rw (whole, e .0) (answer-front answer out) in

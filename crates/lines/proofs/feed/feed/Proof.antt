@@ -1,8 +1,6 @@
 -- `feed` meets its contract. Assumes nothing.
-use mathlib.Core.Path.{_∙_}
 use denote.Ref.{now}
 use borrow.Author.Needs.{needs}
-use Rattle.lines.specs.State.{stateOf, lent}
 use Rattle.lines.proofs.Feeding.{lent-lengths, not-lent, is-lent, feeds-nothing, feeds-block, feeds-line}
 use Rattle.lines.proofs.feed.feed.Statement.{statement}
 use Rattle.lines.proofs.feed.feed.Tie as tie
@@ -19,7 +17,7 @@ same-length-2 c = search needs
 returns : tie.Need-returns
 returns c =
     let a = c .before .before .before .before .before .before .before .args in
-    feeds-nothing (now (a .block)) (stateOf (a .line) (now (a .kept))) (lent (now (a .kept)) (now (a .out))) (now (a .kept)) (now (a .out))
+    feeds-nothing (now (a .block)) (a .line) (now (a .kept)) (now (a .out))
     (not-lent (c .before .are-lent .result) (now (a .kept)) (now (a .out)) (c .before .are-lent .ensures) (c .if1 .taken))
 
 take-line-requires : tie.Need-take-line-requires
@@ -30,8 +28,10 @@ take-line-requires c κs =
 answer-line-requires : tie.Need-answer-line-requires
 answer-line-requires c κs =
     let a = c .before .before .before .before .before .before .before .before .before .before .before .before .before .before .args in
-    let h = lent-lengths (now (a .kept)) (now (a .out)) (is-lent (c .before .before .before .before .before .before .before .before .are-lent .result) (now (a .kept)) (now (a .out)) (c .before .before .before .before .before .before .before .before .are-lent .ensures) (c .before .before .before .before .before .before .before .if1 .left)) in
-    (c .before .before .before .before .before .take-line .kept .1 .1 .0 ∙ h .0, h .1)
+    let l = c .before .before .before .before .before .before .before .before .are-lent in
+    let ready = is-lent (l .result) (now (a .kept)) (now (a .out)) (l .ensures)
+    (c .before .before .before .before .before .before .before .if1 .left) in
+    lent-lengths (now (a .kept)) (now (a .out)) ready .1
 
 start-requires : tie.Need-start-requires
 start-requires c κs = search needs
@@ -53,8 +53,8 @@ returns-2 c =
     let here = c .before .before .before .before .before .before .if2 .taken in
     let e = c .before .before .before .answer-line .ensures in
     rw (c .start .ensures .0)
-    (feeds-line (now (a .block)) _ _ (lent (now (a .kept)) (now (a .out))) (now (a .kept)) _ (now (a .out)) _ (t .result .at) _ ready (t .ensures .passes) here (t .ensures .stops here)
-    (e .0) (e .1) (search needs) (t .kept .1 .1 .0))
+    (feeds-line (now (a .block)) (a .line) _ (now (a .kept)) _ (now (a .out)) _ (t .result .at) _ ready (t .ensures) here (e .0) (e .1)
+    (search needs) (t .kept .1 .1 .0))
 
 same-length-5 : tie.Need-same-length-5
 same-length-5 c = search needs
@@ -67,7 +67,8 @@ returns-3 c =
     let a = c .before .before .before .before .before .before .before .before .before .before .before .before .args in
     let ready = is-lent (c .before .before .before .before .before .before .are-lent .result) (now (a .kept)) (now (a .out)) (c .before .before .before .before .before .before .are-lent .ensures) (c .before .before .before .before .before .if1 .left) in
     let t = c .before .before .before .take-line in
-    feeds-block (now (a .block)) _ _ (lent (now (a .kept)) (now (a .out))) (now (a .kept)) _ (now (a .out)) (t .result .at) ready (t .ensures .passes) (c .if2 .left) (t .kept .1 .1 .0)
+    feeds-block (now (a .block)) (a .line) _ (now (a .kept)) _ (now (a .out)) (t .result .at) ready (t .ensures) (c .if2 .left)
+    (t .kept .1 .1 .0)
 
 pub feed-spec : {M : Type 1} → statement M
 feed-spec =

@@ -58,8 +58,8 @@ loop-again : tie.Need-loop-again Inv-loop μ-loop
 loop-again c =
     let l = c .before .before .before .before .before .before .before .before .before .before .before .loop in
     let f = c .before .before .before .before .before .before .feed-from in
-    let p = parts-then _ (l .from) (f .result .taken) (l .inv .3) (l .inv .4) (f .ensures .0) (f .ensures .1) (l .inv .1) in
-    (search needs, search needs, λ e. absurd (omega (arith, e, f .ensures .2)), f .ensures .3, p)
+    let p = parts-then _ (l .from) (f .result .taken) (l .inv .3) (l .inv .4) (f .ensures .0) (f .ensures .1 .0) (l .inv .1) in
+    (search needs, search needs, λ e. absurd (omega (arith, e, f .ensures .1 .1 .0)), f .ensures .1 .1 .1, p)
 
 same-length-3 : tie.Need-same-length-3 Inv-loop μ-loop
 same-length-3 c = search needs

@@ -1,8 +1,9 @@
 -- `finish` meets its contract. Assumes nothing.
-use mathlib.Core.Path.{refl, sym, _∙_}
+use mathlib.Core.Path.{refl, sym, _∙_, ap}
 use native.Mathlib.Omega.{arith}
 use denote.Ref.{now}
 use borrow.Author.Needs.{needs}
+use Rattle.lines.specs.declared.feed.Finished.the-variants.{Written}
 use Rattle.lines.specs.State.{endLine, stateOf}
 use Rattle.lines.proofs.Feeding.{lent-lengths, not-lent, is-lent, over-fits, ends-begun, ends-not-begun}
 use Rattle.lines.proofs.feed.finish.Statement.{statement}
@@ -17,7 +18,8 @@ same-length c = search needs
 returns : tie.Need-returns
 returns c =
     let a = c .before .before .before .before .before .args in
-    rw (not-lent (c .before .are-lent .result) (now (a .kept)) (now (a .out)) (c .before .are-lent .ensures) (c .if1 .taken)) (refl, refl, omega arith)
+    rw (not-lent (c .before .are-lent .result) (now (a .kept)) (now (a .out)) (c .before .are-lent .ensures) (c .if1 .taken))
+    (refl, (refl, omega arith))
 
 is-not-begun-requires : tie.Need-is-not-begun-requires
 is-not-begun-requires c κs = search needs
@@ -28,13 +30,17 @@ same-length-2 c = search needs
 returns-2 : tie.Need-returns-2
 returns-2 c =
     let a = c .before .before .before .before .before .before .before .args in
-    rw (is-lent (c .before .before .before .are-lent .result) (now (a .kept)) (now (a .out)) (c .before .before .before .are-lent .ensures) (c .before .before .if1 .left), ends-not-begun (a .line) (now (a .kept)) (sym (c .before .is-not-begun .ensures) ∙ c .if2 .taken))
-    (refl, refl, omega arith)
+    let l = c .before .before .before .are-lent in
+    let ready = is-lent (l .result) (now (a .kept)) (now (a .out)) (l .ensures) (c .before .before .if1 .left) in
+    rw (ready, ends-not-begun (a .line) (now (a .kept)) (sym (c .before .is-not-begun .ensures) ∙ c .if2 .taken))
+    (refl, (refl, omega arith))
 
 answer-line-requires : tie.Need-answer-line-requires
 answer-line-requires c κs =
     let a = c .before .before .before .before .before .before .before .before .args in
-    lent-lengths (now (a .kept)) (now (a .out)) (is-lent (c .before .before .before .before .are-lent .result) (now (a .kept)) (now (a .out)) (c .before .before .before .before .are-lent .ensures) (c .before .before .before .if1 .left))
+    let l = c .before .before .before .before .are-lent in
+    let ready = is-lent (l .result) (now (a .kept)) (now (a .out)) (l .ensures) (c .before .before .before .if1 .left) in
+    lent-lengths (now (a .kept)) (now (a .out)) ready .1
 
 same-length-3 : tie.Need-same-length-3
 same-length-3 c = search needs
@@ -42,11 +48,14 @@ same-length-3 c = search needs
 returns-3 : tie.Need-returns-3
 returns-3 c =
     let a = c .before .before .before .before .before .before .before .before .before .before .before .args in
-    let ready = is-lent (c .before .before .before .before .before .before .before .are-lent .result) (now (a .kept)) (now (a .out)) (c .before .before .before .before .before .before .before .are-lent .ensures) (c .before .before .before .before .before .before .if1 .left) in
-    let begun = ends-begun (a .line) (now (a .kept)) (lent-lengths (now (a .kept)) (now (a .out)) ready .0) (sym (c .before .before .before .before .before .is-not-begun .ensures) ∙ c .before .before .before .before .if2 .left) in
+    let l = c .before .before .before .before .before .before .before .are-lent in
+    let ready = is-lent (l .result) (now (a .kept)) (now (a .out)) (l .ensures)
+    (c .before .before .before .before .before .before .if1 .left) in
+    let begun = ends-begun (a .line) (now (a .kept)) (lent-lengths (now (a .kept)) (now (a .out)) ready .0)
+    (sym (c .before .before .before .before .before .is-not-begun .ensures) ∙ c .before .before .before .before .if2 .left) in
     let e = c .before .before .answer-line .ensures in
     rw (ready, begun)
-    (e .0, e .1, over-fits (endLine (stateOf (a .line) (now (a .kept)))) (now (a .out)) _ _ (e .0) (e .1) (search needs))
+    (ap Written (e .0), (e .1, over-fits (endLine (stateOf (a .line) (now (a .kept)))) (now (a .out)) _ _ (e .0) (e .1) (search needs)))
 
 pub finish-spec : {M : Type 1} → statement M
 finish-spec =

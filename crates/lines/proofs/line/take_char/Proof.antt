@@ -1,4 +1,6 @@
 -- `take_char` meets its contract. Assumes nothing.
+use mathlib.Core.Path.{refl}
+use native.Mathlib.Omega.{arith}
 use borrow.Author.Needs.{needs}
 use borrow.Author.Tests.{lt-ltb, le-ltb}
 use Rattle.lines.specs.State.{after}
@@ -16,11 +18,13 @@ same-length c = search needs
 
 returns : tie.Need-returns
 unfolding after
-returns c = rw (← c .before .before .before .before .before .digit-of .ensures, lt-ltb _ _ (c .before .before .before .before .if1 .taken)) (c .before .before .take-digit .ensures)
+returns c =
+    rw (← c .before .before .before .before .before .digit-of .ensures, lt-ltb _ _ (c .before .before .before .before .if1 .taken))
+    (c .before .before .take-digit .ensures)
 
 returns-2 : tie.Need-returns-2
 unfolding after
-returns-2 c = rw (← c .before .digit-of .ensures, le-ltb _ _ (c .if1 .left))
+returns-2 c = rw (← c .before .digit-of .ensures, le-ltb _ _ (c .if1 .left)) (refl, λ p. (omega arith, omega arith))
 
 pub take-char-spec : {M : Type 1} → statement M
 take-char-spec =

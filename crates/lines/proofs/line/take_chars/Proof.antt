@@ -1,24 +1,26 @@
 -- `take_chars` meets its contract. The invariant: what is to be printed from here on is what was to be printed. Assumes nothing.
-use mathlib.Core.Path.{_≡_}
+use mathlib.Core.Path.{_≡_, refl}
 use Prim.Native.Nat.{_-_}
 use native.Mathlib.Omega.{arith}
 use denote.Ref.{now}
 use lib.ListN.{length}
 use borrow.Author.Needs.{needs}
-use Rattle.frame_bytes.specs.Frame.{longest}
-use Rattle.lines.specs.State.{stateOf, Passes}
+use Rattle.lines.specs.State.{stateOf, Passes, Proper}
 use Rattle.lines.proofs.Running.{passes-start, passes-then, passes-char}
 use Rattle.lines.proofs.line.take_chars.Statement.{statement}
 use Rattle.lines.proofs.line.take_chars.Tie as tie
 
 abbrev Inv-loop : tie.InvT-loop
-Inv-loop block from values kept₀ reached₀ at₀ kept reached at = (length kept ≡ longest) × Passes block from (stateOf reached₀ kept₀) at (stateOf reached kept)
+Inv-loop block from values kept₀ reached₀ at₀ kept reached at =
+    (length kept ≡ length kept₀) × Passes block from (stateOf reached₀ kept₀) at (stateOf reached kept) × (Proper reached₀ → Proper reached)
 
 abbrev μ-loop : tie.MeasureT-loop
 μ-loop block from values kept₀ reached₀ at₀ kept reached at = length block - at
 
 loop-holds : tie.Need-loop-holds Inv-loop μ-loop
-loop-holds c = (c .before .before .pre .2, passes-start (now (c .before .before .args .block)) (c .before .before .args .from) (stateOf (c .before .before .args .line) (now (c .before .before .args .kept))) (c .before .before .pre .0))
+loop-holds c =
+    let a = c .before .before .args in
+    (refl, passes-start (now (a .block)) (a .from) (stateOf (a .line) (now (a .kept))) (c .before .before .pre .0), λ p. p)
 
 shared-slice-read-b : tie.Need-shared-slice-read-b Inv-loop μ-loop
 shared-slice-read-b c = search needs
@@ -27,7 +29,7 @@ same-length : tie.Need-same-length Inv-loop μ-loop
 same-length c = search needs
 
 returns : tie.Need-returns Inv-loop μ-loop
-returns c = let l = c .before .before .before .loop in record { passes = l .inv .1; stops = λ _. c .if1 .taken }
+returns c = let l = c .before .before .before .loop in record { passes = l .inv .1; stops = λ _. c .if1 .taken; proper = l .inv .2 }
 
 take-char-requires : tie.Need-take-char-requires Inv-loop μ-loop
 take-char-requires c κs = search needs
@@ -43,13 +45,15 @@ loop-again c =
     let block = now (c .before .before .before .before .before .before .before .before .before .before .args .block) in
     let l = c .before .before .before .before .before .before .before .loop in
     let e = c .before .before .take-char .ensures in
-    (search needs, rw e (passes-then (l .inv .1) (passes-char block (l .at) (stateOf (l .reached) (l .kept)) (c .before .before .before .before .before .before .loop-test .taken) (c .before .before .before .before .if1 .left))))
+    let p = passes-char block (l .at) (stateOf (l .reached) (l .kept)) (c .before .before .before .before .before .before .loop-test .taken)
+    (c .before .before .before .before .if1 .left) in
+    (search needs, rw (e .0) (passes-then (l .inv .1) p), λ h. e .1 (l .inv .2 h))
 
 same-length-2 : tie.Need-same-length-2 Inv-loop μ-loop
 same-length-2 c = search needs
 
 returns-2 : tie.Need-returns-2 Inv-loop μ-loop
-returns-2 c = let l = c .before .loop in record { passes = l .inv .1; stops = λ h. omega arith }
+returns-2 c = let l = c .before .loop in record { passes = l .inv .1; stops = λ h. omega arith; proper = l .inv .2 }
 
 pub take-chars-spec : {M : Type 1} → statement M
 take-chars-spec =

@@ -1,6 +1,6 @@
 -- `take_pairs` meets its contract. The invariant: what is to be printed from here on is what was to be printed. Assumes nothing.
-use mathlib.Core.Path.{_≡_}
-use Prim.Native.Nat.{_+_, _-_, _<_}
+use mathlib.Core.Path.{_≡_, refl}
+use Prim.Native.Nat.{_+_, _-_, _≤_, _<_}
 use native.Mathlib.Omega.{arith}
 use denote.Ref.{now}
 use lib.ListN.{length, getD, take}
@@ -13,13 +13,16 @@ use Rattle.lines.proofs.line.take_pairs.Statement.{statement}
 use Rattle.lines.proofs.line.take_pairs.Tie as tie
 
 abbrev Inv-loop : tie.InvT-loop
-Inv-loop block bytes values kept₀ n₀ at₀ kept n at = (length kept ≡ longest) × Passes block 0 (whole (take bytes kept₀)) at (whole (take n kept))
+Inv-loop block bytes values kept₀ n₀ at₀ kept n at =
+    (length kept ≡ length kept₀) × Passes block 0 (whole (take bytes kept₀)) at (whole (take n kept)) × (bytes ≤ longest → n ≤ longest)
 
 abbrev μ-loop : tie.MeasureT-loop
 μ-loop block bytes values kept₀ n₀ at₀ kept n at = length block - at
 
 loop-holds : tie.Need-loop-holds Inv-loop μ-loop
-loop-holds c = (c .before .before .pre .1, passes-start (now (c .before .before .args .block)) 0 (whole (take (c .before .before .args .bytes) (now (c .before .before .args .kept)))) (omega arith))
+loop-holds c =
+    let a = c .before .before .args in
+    (refl, passes-start (now (a .block)) 0 (whole (take (a .bytes) (now (a .kept)))) (omega arith), λ h. h)
 
 sub-loop : tie.Need-sub-loop Inv-loop μ-loop
 sub-loop c = search needs
@@ -43,19 +46,19 @@ same-length : tie.Need-same-length Inv-loop μ-loop
 same-length c = search needs
 
 returns : tie.Need-returns Inv-loop μ-loop
-returns c = let l = c .before .before .before .before .before .before .loop in l .inv .1
+returns c = let l = c .before .before .before .before .before .before .loop in (l .inv .1, l .inv .2)
 
 same-length-2 : tie.Need-same-length-2 Inv-loop μ-loop
 same-length-2 c = search needs
 
 returns-2 : tie.Need-returns-2 Inv-loop μ-loop
-returns-2 c = let l = c .before .before .before .before .before .before .before .loop in l .inv .1
+returns-2 c = let l = c .before .before .before .before .before .before .before .loop in (l .inv .1, l .inv .2)
 
 same-length-3 : tie.Need-same-length-3 Inv-loop μ-loop
 same-length-3 c = search needs
 
 returns-3 : tie.Need-returns-3 Inv-loop μ-loop
-returns-3 c = let l = c .before .before .before .before .before .before .before .before .loop in l .inv .1
+returns-3 c = let l = c .before .before .before .before .before .before .before .before .loop in (l .inv .1, l .inv .2)
 
 mul-kept : tie.Need-mul-kept Inv-loop μ-loop
 mul-kept c = search needs
@@ -83,14 +86,15 @@ loop-again c =
     let f = c .before .before .before .digit-of2 .ensures in
     let first : digit (getD block (l .at) 0) < 16 = omega (arith, e) in
     let second : digit (getD block (l .at + 1) 0) < 16 = omega (arith, f) in
-    let p = passes-pair block (l .kept) (l .at) (l .n) (l .inv .0) (omega arith) (omega arith) first second in
-    (search needs, rw (e, f) (passes-then (l .inv .1) p))
+    let room : longest ≤ length (l .kept) = search needs in
+    let p = passes-pair block (l .kept) (l .at) (l .n) room (omega arith) (omega arith) first second in
+    (search needs, rw (e, f) (passes-then (l .inv .1) p), λ _. search needs)
 
 same-length-4 : tie.Need-same-length-4 Inv-loop μ-loop
 same-length-4 c = search needs
 
 returns-4 : tie.Need-returns-4 Inv-loop μ-loop
-returns-4 c = let l = c .before .loop in l .inv .1
+returns-4 c = let l = c .before .loop in (l .inv .1, l .inv .2)
 
 pub take-pairs-spec : {M : Type 1} → statement M
 take-pairs-spec =
