@@ -1,5 +1,6 @@
 pub mod Coordinates
 pub mod Measures
+pub mod MostRoom
 pub mod PartRings
 pub mod Places
 pub mod Readings

@@ -24,6 +24,10 @@ partRoom coordinate rings = 6 + 2 * length rings + coordinate * total ringRoom r
 unfoldable pub room : ℕ → List (List (List Coord)) → ℕ
 room coordinate parts = leastRoom + total (partRoom coordinate) parts
 
+-- the most that this is for a frame that is accepted (proofs/MostRoom.antt: `frame-most`): with so much output no frame is refused by 22
+abbrev pub mostRoom : ℕ
+mostRoom = 50077
+
 -- "A frame call does 11 to 18 and 22": the frame, where an output of so many bytes has the room
 unfoldable pub readCall : List ℕ → ℕ → Reading Frame
 readCall l out = andThen (readFrame l) (λ f rest. refuse (ltb out (room coordinateBytes (f .parts))) Output (read f rest))

@@ -7,4 +7,3 @@ pub mod Parts
 pub mod Printed
 pub mod Running
 pub mod Table
-pub mod TenTimes

@@ -122,7 +122,7 @@ pub record Takes (block : List ℕ) (from : ℕ) (line : Line) (kept : List ℕ)
 
 -- ---- the lent slices
 
--- bytes for an answer: that to an accepted frame is at most ten times as long as the frame, and a refusal has five
+-- bytes for an answer: that to an accepted frame has at most 50,077 (`mostRoom` of `frame_bytes`), and a refusal five
 abbrev pub answerRoom : ℕ
 answerRoom = 10 * longest
 

@@ -115,6 +115,28 @@ unfolding B
 le-B zero = omega arith
 le-B (suc n) = omega (arith, le-four (suc n))
 
+four-le : (n : ℕ) → 16 * fourHalfGrowths n ≤ 81 * n
+unfolding fourHalfGrowths
+four-le n =
+    let a = halfGrowth n in
+    let b = halfGrowth a in
+    let c = halfGrowth b in
+    omega (arith, halfGrowth-le n, halfGrowth-le a, halfGrowth-le b, halfGrowth-le c)
+
+-- the room of no vertices, and of n vertices and one that closes them
+pub B-none : B 0 ≡ 0
+unfolding B
+B-none = refl
+
+pub B-closed : (n : ℕ) → 0 < n → B (n + 1) ≤ 6 * n + 5
+unfolding B fourHalfGrowths halfGrowth
+B-closed zero h = absurd (omega arith)
+B-closed (suc zero) h = omega arith
+B-closed (suc (suc zero)) h = omega arith
+B-closed (suc (suc (suc n))) h =
+    let m : suc (suc (suc n)) + 1 ≡ suc (suc (suc (suc n))) = omega arith in
+    rw m (omega (arith, four-le (suc (suc (suc (suc n))))))
+
 -- how many vertices j passes can make of n
 unfoldable pub grown : ℕ → ℕ → ℕ
 grown zero n = n
