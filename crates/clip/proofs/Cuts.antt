@@ -11,14 +11,13 @@ use lib.Seq.{take-at, length-take-le}
 use Rattle.tile.specs.declared.Coord.{Coord}
 use Rattle.tile.specs.declared.TileBounds.{TileBounds}
 use Rattle.tile.specs.Ring.{coords, close, Stands, Written}
-use Rattle.tile.proofs.Rings.{length-front, coords-flat, length-close, close-most}
+use Rattle.tile.proofs.Rings.{length-front, stands-front, length-close, close-most}
 use Rattle.box_pairs.specs.declared.Issue.{Issue}
 use Rattle.box_pairs.specs.Issue.{hasIssue, issueOf}
 use Rattle.sutherland_hodgman.specs.Growth.{B}
-use Rattle.sutherland_hodgman.specs.Clip.{leaveOff, around, pass, passes, finish, clipRing}
+use Rattle.sutherland_hodgman.specs.Clip.{clipRing}
 use Rattle.sutherland_hodgman.specs.Cutter.{Room, Cut}
-use Rattle.sutherland_hodgman.proofs.Growth.{clipRing-grows, B-mono}
-use Rattle.sutherland_hodgman.proofs.LeavingOff.{clip-close}
+use Rattle.sutherland_hodgman.proofs.Offered.{B-mono, clip-fits, clip-close}
 use Rattle.rings.specs.declared.bridge.Bridge.{Bridge}
 use Rattle.rings.specs.declared.bridge.Bridge.the-variants.{None, Along}
 use Rattle.clip.specs.declared.polygon.Flags.{Flags}
@@ -33,15 +32,9 @@ close-none : close [] ≡ []
 unfolding close
 close-none = refl
 
--- a cut ring with coordinates can be closed once more
-pub clip-more : (b : TileBounds) (r : List Coord) → 0 < length (clipRing b r) → suc (length (clipRing b r)) ≤ B (length r)
-unfolding clipRing passes pass around leaveOff finish B
-clip-more b [] h = absurd (omega arith)
-clip-more b (p ∷ r) h = omega (arith, clipRing-grows b (p ∷ r))
-
 -- a cut ring, closed again, has room; and so has one that is left out
 pub cut-fits-room : (b : TileBounds) (r : List Coord) → length (close (clipRing b r)) ≤ B (length r)
-cut-fits-room b r = go (clipRing b r) (clip-more b r)
+cut-fits-room b r = go (clipRing b r) (clip-fits b r)
   where
     go : (c : List Coord) → (0 < length c → suc (length c) ≤ B (length r)) → length (close c) ≤ B (length r)
     go [] h = rw close-none (omega arith)
@@ -71,13 +64,13 @@ module _ (n : ℕ) (s : List Float) (a b : ℕ) (room : RingRoom n s a b) where
 
   module _ (bounds : TileBounds) (k : ℕ) (after : List Float) (c : Cut bounds (coords (take (2 * n) s)) k after) where
     pub cut-ring : coords (take (2 * k) after) ≡ clipRing bounds (close (coords (take (2 * n) s)))
-    cut-ring = rw (c .numbers) (coords-flat (clipRing bounds (coords (take (2 * n) s)))) ∙ sym (clip-close bounds (coords (take (2 * n) s)) (room .closes))
+    cut-ring = stands-front (c .stands) ∙ sym (clip-close bounds (coords (take (2 * n) s)) (room .closes))
 
     pub cut-count : k ≡ length (clipRing bounds (close (coords (take (2 * n) s))))
-    cut-count = c .count ∙ rw (clip-close bounds (coords (take (2 * n) s)) (room .closes))
+    cut-count = c .stands .count ∙ rw (clip-close bounds (coords (take (2 * n) s)) (room .closes))
 
     pub cut-fits : 0 < k → suc k ≤ B (length (close (coords (take (2 * n) s))))
-    cut-fits h = let m = clip-more bounds (close (coords (take (2 * n) s))) (omega (arith, cut-count)) in omega (arith, cut-count)
+    cut-fits h = let m = clip-fits bounds (close (coords (take (2 * n) s))) (omega (arith, cut-count)) in omega (arith, cut-count)
 
     -- closed by the domain rule
     module _ (r : ℕ) (after′ : List Float) (w : Written (close (coords (take (2 * k) after))) after r after′) where

@@ -17,7 +17,7 @@ use Rattle.tile.specs.declared.Coord.{Coord}
 use Rattle.binary64.specs.Bytes.{fromLow}
 use Rattle.tile.specs.Ring.{same, last, closed, close}
 use Rattle.sutherland_hodgman.specs.Growth.{halfGrowth, fourHalfGrowths, B}
-use Rattle.sutherland_hodgman.proofs.Growth.{B-mono, B-none, B-closed}
+use Rattle.sutherland_hodgman.proofs.Offered.{B-mono, B-none, B-closed}
 use Rattle.rings.specs.Rings.{mostRings, total, ringRoom}
 use Rattle.frame_bytes.specs.Frame.{longest, headBytes, multipolygon, Reading, refused, read, readMany, countOf, coordsOf}
 use Rattle.frame_bytes.specs.Frame.{readCount, readCoords, readRing, readPart, readParts, Frame, partCountOf, readFrame}

@@ -9,9 +9,8 @@ use lib.ListN.{length, drop, length-drop}
 use borrow.Author.Tests.{ltb-false}
 use Rattle.tile.specs.declared.Coord.{Coord}
 use Rattle.tile.specs.Ring.{close}
-use Rattle.sutherland_hodgman.specs.Growth as G
-use Rattle.sutherland_hodgman.specs.Growth.{B}
-use Rattle.sutherland_hodgman.proofs.Growth.{B-le}
+use Rattle.sutherland_hodgman.specs.Growth.{B, mostCoordinates}
+use Rattle.sutherland_hodgman.proofs.Offered.{B-le}
 use Rattle.rings.specs.Rings.{total, ringRoom}
 use Rattle.frame_bytes.specs.declared.reader.FrameRefusal.{FrameRefusal}
 use Rattle.frame_bytes.specs.declared.reader.FrameRefusal.the-variants.{Output}
@@ -86,7 +85,7 @@ module _ {A : Type 0} (f : List ℕ → Reading A) (g : A → ℕ) (frame : List
 
 -- ---- a ring
 
-pub closed-few : (n : ℕ) (l : List ℕ) → n ≤ mostInRing → length (close (coordsOf n l)) ≤ G.mostCoordinates
+pub closed-few : (n : ℕ) (l : List ℕ) → n ≤ mostInRing → length (close (coordsOf n l)) ≤ mostCoordinates
 closed-few n l h = omega (arith, close-grows n l)
 
 -- more than the room of any ring, in coordinates, and of any part, in bytes

@@ -1,5 +1,5 @@
 -- The counts in the answer to a frame fit the two bytes that each has, so that none is cut off where it is written. Assumes nothing.
-use mathlib.Core.Path.{_≡_, refl}
+use mathlib.Core.Path.{_≡_}
 use mathlib.Core.Bool.{Bool, true, false, cond}
 use mathlib.Core.List.{List, [], _∷_}
 use Prim.Native.Nat.{ℕ, suc, _+_, _<_, _≤_}
@@ -9,8 +9,8 @@ use lib.ListN.{length, drop}
 use Rattle.binary64.specs.Lists.{Every}
 use Rattle.tile.specs.declared.Coord.{Coord}
 use Rattle.tile.specs.declared.TileBounds.{TileBounds}
-use Rattle.sutherland_hodgman.specs.Growth.{halfGrowth, fourHalfGrowths, B}
-use Rattle.sutherland_hodgman.proofs.Growth.{B-mono}
+use Rattle.sutherland_hodgman.specs.Growth.{B}
+use Rattle.sutherland_hodgman.proofs.Offered.{B-at-most}
 use Rattle.rings.specs.declared.rectangle.Rect.{Rect}
 use Rattle.rings.specs.declared.rectangle.Rect.the-variants as Rects
 use Rattle.rings.specs.Rectangle.{rectangle, withParts, intersectsBounds, isFullyInside}
@@ -70,8 +70,7 @@ small-part l part rest e =
 -- ---- rings that are cut
 
 room-fits : (n : ℕ) → n ≤ mostInRing + 1 → Fits (B n)
-unfolding B fourHalfGrowths halfGrowth
-room-fits n h = let most : B (mostInRing + 1) ≡ 20739 = refl in omega (arith, B-mono n (mostInRing + 1) h, most)
+room-fits n h = omega (arith, B-at-most n)
 
 module _ (b : TileBounds) where
   holes-few : (rings : List (List Coord)) → length (P.cutHoles b rings) ≤ length rings

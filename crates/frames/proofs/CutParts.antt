@@ -12,7 +12,7 @@ use Rattle.tile.specs.declared.TileBounds.{TileBounds}
 use Rattle.tile.specs.Ring.{coords, flat, close, Stands}
 use Rattle.tile.proofs.Rings.{stands-front}
 use Rattle.sutherland_hodgman.specs.Growth.{B}
-use Rattle.sutherland_hodgman.proofs.Growth.{B-mono}
+use Rattle.sutherland_hodgman.proofs.Offered.{B-mono}
 use Rattle.rings.specs.Rings.{exterior, largest, total, mostRings}
 use Rattle.rings.specs.Representable.{anyHugeRing}
 use Rattle.rings.proofs.LentRings.{larger-least}

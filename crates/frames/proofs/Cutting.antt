@@ -13,7 +13,7 @@ use Rattle.tile.specs.declared.TileBounds.{TileBounds}
 use Rattle.tile.specs.Ring.{coords, flat, closed, close, Stands}
 use Rattle.tile.proofs.Rings.{stands-front, length-close}
 use Rattle.sutherland_hodgman.specs.Growth.{B}
-use Rattle.sutherland_hodgman.proofs.Growth.{B-mono}
+use Rattle.sutherland_hodgman.proofs.Offered.{B-mono}
 use Rattle.rings.specs.Rings.{largest, allClosed, total, ringRoom}
 use Rattle.rings.proofs.LentRings.{larger-least}
 use Rattle.clip.specs.Polygon.{cutHole, unlessNone, cutHoles, RingRoom}

@@ -9,7 +9,7 @@ use Rattle.binary64.specs.Lists.{Every}
 use Rattle.tile.specs.declared.Coord.{Coord}
 use Rattle.tile.specs.Ring.{close}
 use Rattle.sutherland_hodgman.specs.Growth.{B}
-use Rattle.sutherland_hodgman.proofs.Growth.{B-mono}
+use Rattle.sutherland_hodgman.proofs.Offered.{B-mono}
 use Rattle.rings.specs.declared.rectangle.Rect.{Rect}
 use Rattle.rings.specs.declared.rectangle.Rect.the-variants as Rects
 use Rattle.rings.specs.Rectangle.{withRing, withRings, withParts}

@@ -9,12 +9,12 @@ use Rattle.binary64.specs.Interpolation.{interpolate}
 use Rattle.tile.specs.declared.Coord.{Coord}
 use Rattle.tile.specs.Bounds.{newOf}
 use Rattle.tile.specs.Ring.{same, last, closed, close}
+use Rattle.tile.proofs.WholeNumbers.{num, at}
 use Rattle.box_pairs.specs.Cross.{crossProductSign, aboveBelow, splits, intersectProperly, short, apartOn, apart, cross}
 use Rattle.box_pairs.specs.Pairs.{anyBelow, anyPair, edgesCross, selfIntersecting}
 use Rattle.box_pairs.specs.Issue.{repeated, issueOf, hasIssue}
 use Rattle.sutherland_hodgman.specs.Lines.{inside, crossing}
 use Rattle.sutherland_hodgman.specs.Clip.{steps, leaveOff, around, pass, passes, finish, clipRing}
-use Rattle.sutherland_hodgman.proofs.WholeNumbers.{num, at}
 use Rattle.rings.specs.Bridge.{runsAlong, bridgeOf, firstBridge}
 use Rattle.rings.specs.Rectangle.{withCoord, withRing, withRings, reaches, intersectsBounds, liesBetween, isFullyInside, withParts}
 use Rattle.rings.specs.Representable.{hugeCoord, anyHuge, anyHugeRing}

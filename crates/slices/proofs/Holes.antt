@@ -13,7 +13,7 @@ use Rattle.tile.specs.declared.Coord.{Coord}
 use Rattle.tile.specs.declared.TileBounds.{TileBounds}
 use Rattle.tile.specs.Ring.{coords, flat, closed, close, Stands}
 use Rattle.tile.proofs.Rings.{length-flat}
-use Rattle.sutherland_hodgman.proofs.Growth.{B-le}
+use Rattle.sutherland_hodgman.proofs.Offered.{B-le}
 use Rattle.rings.specs.Rings.{exterior, sum, closedRings, total, largest, ringRoom, allClosed}
 use Rattle.rings.proofs.LentRings.{larger-least, rings-end, length-closed}
 use Rattle.clip.specs.Polygon.{cutHole, unlessNone, cutExterior, cutHoles, cutRings, cut, RingRoom}

@@ -91,14 +91,19 @@ module _ (ring : List Float) (bounds : TileBounds) (numbers : 2 * (length ring /
 
   -- what stands at the front of the slice
   cut-ring : (r : ℕ) (after : List Float) → Cut bounds (coords ring) r after → coords (take (2 * r) after) ≡ clipRing bounds (coords ring)
-  cut-ring r after c = rw (c .numbers) (coords-flat (clipRing bounds (coords ring)))
+  cut-ring r after c = rw (c .stands .numbers) (coords-flat (clipRing bounds (coords ring)))
 
   pub cut-room : (r : ℕ) (after : List Float) → Cut bounds (coords ring) r after → r ≤ B (length ring / 2)
-  cut-room r after c = let g : length (clipRing bounds (coords ring)) ≤ B (length ring / 2) = rw ring-length at (promise-room bounds (coords ring) (clipRing bounds (coords ring)) (rw (cut-ring r after c) at (c .promise))) in omega (arith, c .count)
+  cut-room r after c =
+      let cut = clipRing bounds (coords ring) in
+      let p : Promise bounds (coords ring) cut = rw (cut-ring r after c) at (c .promise) in
+      let g : length cut ≤ B (length ring / 2) = rw ring-length at (promise-room bounds (coords ring) cut p) in
+      omega (arith, c .stands .count)
 
   pub cut-clipped : (out out′ cut : List Float) (r : ℕ) → Cut bounds (coords ring) r cut → out′ ≡ take (2 * r) cut ++ drop (2 * r) out → ClippedTo ring bounds out r out′
   cut-clipped out out′ cut r c ho =
-      let w : Written (clipRing bounds (coords ring)) out r out′ = record { count = c .count; numbers = ho ∙ rw (c .numbers) } in
+      let s = c .stands in
+      let w : Written (clipRing bounds (coords ring)) out r out′ = record { count = s .count; numbers = ho ∙ rw (s .numbers) } in
       record { written = w; promise = rw (written-front w, ← cut-ring r cut c) (c .promise) }
 
   pub topped-clipped : (k : ℕ) (d out out′ : List Float) (r : ℕ) → HeldBounds bounds → ((i : ℕ) → T (fits binary64 (getD ring i nan))) → 4 ≤ k

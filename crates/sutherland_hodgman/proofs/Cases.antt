@@ -6,10 +6,10 @@ use Rattle.binary64.specs.Interpolation.{interpolate}
 use Rattle.tile.specs.declared.Coord.{Coord}
 use Rattle.tile.specs.declared.TileBounds.{TileBounds}
 use Rattle.tile.specs.Ring.{same, last, closed, close}
+use Rattle.tile.proofs.WholeNumbers.{num, at}
 use Rattle.sutherland_hodgman.specs.Lines.{inside, crossing}
 use Rattle.sutherland_hodgman.specs.Clip.{steps, leaveOff, around, pass, passes, finish, clipRing}
 use Rattle.sutherland_hodgman.specs.Growth.{halfGrowth, fourHalfGrowths, B}
-use Rattle.sutherland_hodgman.proofs.WholeNumbers.{num, at}
 
 ten : TileBounds
 unfolding num

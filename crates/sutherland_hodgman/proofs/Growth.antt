@@ -1,4 +1,4 @@
--- No pass outgrows its room: it has at most half as many vertices again as its ring. And the laws of B, the room that a ring is given. Assumes nothing.
+-- No pass outgrows its room: it has at most half as many vertices again as its ring. And laws of B, the room of a ring. Assumes nothing.
 use mathlib.Core.Path.{_≡_, refl}
 use mathlib.Core.Bool.{Bool, true, false, cond}
 use mathlib.Core.List.{List, [], _∷_}
@@ -100,42 +100,9 @@ unfolding B fourHalfGrowths halfGrowth
 B-le zero h = omega arith
 B-le (suc n) h = omega arith
 
-pub B-mono : (m n : ℕ) → m ≤ n → B m ≤ B n
-unfolding B fourHalfGrowths
-B-mono zero n h = omega arith
-B-mono (suc m) zero h = absurd (omega arith)
-B-mono (suc m) (suc n) h = omega (arith, halfGrowth-mono (halfGrowth-mono (halfGrowth-mono (halfGrowth-mono h))))
-
-le-four : (n : ℕ) → n ≤ fourHalfGrowths n
+pub le-four : (n : ℕ) → n ≤ fourHalfGrowths n
 unfolding fourHalfGrowths
 le-four n = le-trans (le-halfGrowth n) (le-trans (le-halfGrowth _) (le-trans (le-halfGrowth _) (le-halfGrowth _)))
-
-pub le-B : (n : ℕ) → n ≤ B n
-unfolding B
-le-B zero = omega arith
-le-B (suc n) = omega (arith, le-four (suc n))
-
-four-le : (n : ℕ) → 16 * fourHalfGrowths n ≤ 81 * n
-unfolding fourHalfGrowths
-four-le n =
-    let a = halfGrowth n in
-    let b = halfGrowth a in
-    let c = halfGrowth b in
-    omega (arith, halfGrowth-le n, halfGrowth-le a, halfGrowth-le b, halfGrowth-le c)
-
--- the room of no vertices, and of n vertices and one that closes them
-pub B-none : B 0 ≡ 0
-unfolding B
-B-none = refl
-
-pub B-closed : (n : ℕ) → 0 < n → B (n + 1) ≤ 6 * n + 5
-unfolding B fourHalfGrowths halfGrowth
-B-closed zero h = absurd (omega arith)
-B-closed (suc zero) h = omega arith
-B-closed (suc (suc zero)) h = omega arith
-B-closed (suc (suc (suc n))) h =
-    let m : suc (suc (suc n)) + 1 ≡ suc (suc (suc (suc n))) = omega arith in
-    rw m (omega (arith, four-le (suc (suc (suc (suc n))))))
 
 -- how many vertices j passes can make of n
 unfoldable pub grown : ℕ → ℕ → ℕ

@@ -140,7 +140,7 @@ pub topped-cut : (b : TileBounds) (ring : List Coord) (k : ℕ) (d d₀ d′ : L
 unfolding clipRing passes threePasses
 topped-cut b ring k d d₀ d′ r hb hr s t =
     let c : Stands (clipRing b ring) r d′ = rw (stands-front s) at (t .stands) in
-    record { count = c .count; numbers = c .numbers; promise = rw (stands-front c) (promise b ring hb hr) }
+    record { stands = c; promise = rw (stands-front c) (promise b ring hb hr) }
 
 pub topped-written : (b : TileBounds) (ring : List Coord) (k : ℕ) (d d₀ d′ : List Float) (r : ℕ) → 4 ≤ k → Stands (threePasses b ring) k d → Topped b (coords (take (2 * k) d)) d₀ r d′
     → Written (clipRing b ring) d₀ r d′

@@ -9,10 +9,9 @@ use lib.ListN.{length, getD, take, length-append}
 use lib.Seq.{take-at}
 use borrow.Author.Tests.{le-leb, lt-leb}
 use Rattle.tile.specs.declared.Coord.{Coord}
-use Rattle.tile.specs.declared.TileBounds.{TileBounds}
 use Rattle.tile.specs.Ring.{coords, flat, closed, close, Written}
 use Rattle.tile.proofs.Rings.{front-front, length-front, close-closed, close-open}
-use Rattle.sutherland_hodgman.specs.Clip.{leaveOff, pass, passes, finish, clipRing}
+use Rattle.sutherland_hodgman.specs.Clip.{leaveOff, finish}
 
 leaveOff-few : (r : List Coord) → length r < 2 → leaveOff r ≡ r
 unfolding leaveOff
@@ -53,14 +52,14 @@ module _ (s : List Float) (n : ℕ) (h : 2 * n ≤ length s) where
   unfolding finish
   finish-close l = rw (le-leb 3 (length (coords (take (2 * n) s))) (omega (arith, length-front s n h)))
 
--- ---- a ring that closing closes is cut as it is lent: what closing appends is left off again
+-- ---- what closing appends is left off again
 
 close-more : (l : List Coord) → closed l ≡ false → 2 ≤ length (close l)
 unfolding closed close
 close-more [] f = absurd (true≢false f)
 close-more (p ∷ l) f = rw f (omega (arith, length-append (p ∷ l) (p ∷ [])))
 
-leaveOff-close : (r : List Coord) → closed (close r) ≡ true → leaveOff (close r) ≡ leaveOff r
+pub leaveOff-close : (r : List Coord) → closed (close r) ≡ true → leaveOff (close r) ≡ leaveOff r
 leaveOff-close r e = go (closed r) refl
   where
     go : (t : Bool) → closed r ≡ t → leaveOff (close r) ≡ leaveOff r
@@ -73,7 +72,3 @@ leaveOff-close r e = go (closed r) refl
         let m : length (r ++ q) - 1 ≡ length r = omega arith in
         let k = leaveOff-closed (close r) (close-more r h) e in
         k ∙ rw (o, m) (take-at r q (length r) refl) ∙ sym (leaveOff-open r h)
-
-pub clip-close : (b : TileBounds) (r : List Coord) → closed (close r) ≡ true → clipRing b (close r) ≡ clipRing b r
-unfolding clipRing passes pass
-clip-close b r e = rw (leaveOff-close r e)

@@ -1,10 +1,10 @@
 pub mod Calls
 mod Cases
-pub mod Growth
-pub mod LastPass
-pub mod LeavingOff
-pub mod Promises
-pub mod Stages
-pub mod Turns
-pub mod Walking
-pub mod WholeNumbers
+mod Growth
+mod LastPass
+mod LeavingOff
+pub mod Offered
+mod Promises
+mod Stages
+mod Turns
+mod Walking

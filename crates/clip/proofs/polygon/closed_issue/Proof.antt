@@ -7,7 +7,7 @@ use lib.ListN.{length, take}
 use borrow.Author.Needs.{needs}
 use Rattle.tile.specs.Ring.{coords, close}
 use Rattle.tile.proofs.Rings.{close-closed, count-open, length-front, written-front}
-use Rattle.sutherland_hodgman.proofs.Growth.{le-B}
+use Rattle.sutherland_hodgman.proofs.Offered.{le-B}
 use Rattle.clip.proofs.Cuts.{lent-count, copied-front}
 use Rattle.clip.proofs.polygon.closed_issue.Statement.{statement}
 use Rattle.clip.proofs.polygon.closed_issue.Tie as tie

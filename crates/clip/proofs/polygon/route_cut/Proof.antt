@@ -7,7 +7,7 @@ use lib.ListN.{take}
 use borrow.Author.Needs.{needs}
 use Rattle.tile.specs.Ring.{coords, close}
 use Rattle.tile.proofs.Rings.{written-stands, written-front}
-use Rattle.sutherland_hodgman.proofs.Growth.{B-le}
+use Rattle.sutherland_hodgman.proofs.Offered.{B-le}
 use Rattle.clip.specs.Polygon.{routeCut}
 use Rattle.clip.proofs.Cuts.{cutter-room, cut-count, cut-fits, closed-written, closed-fits, closed-some, judged-route, judged-stands}
 use Rattle.clip.proofs.polygon.route_cut.Statement.{statement}

@@ -3,7 +3,7 @@ use mathlib.Core.Path.{sym, ap}
 use native.Mathlib.Omega.{arith}
 use denote.Ref.{now}
 use borrow.Author.Needs.{needs}
-use Rattle.sutherland_hodgman.specs.Growth.{B, fourHalfGrowths, halfGrowth}
+use Rattle.sutherland_hodgman.proofs.Offered.{B-318}
 use Rattle.frames.specs.Entry.{answerMeasured}
 use Rattle.frames.proofs.Entries.{holds, ready, parts-read, as-answer}
 use Rattle.frames.proofs.entry.answer_full.Statement.{statement}
@@ -22,10 +22,12 @@ slice-aggregate-answer-in-4 : tie.Need-slice-aggregate-answer-in-4
 slice-aggregate-answer-in-4 c = search needs
 
 answer-in-requires : tie.Need-answer-in-requires
-unfolding B fourHalfGrowths halfGrowth
 answer-in-requires c κs =
-    let a = c .before .before .before .before .before .before .before .args in
-    ready (now (a .frame)) (a .head) 318 _ _ _ _ _ (c .before .before .before .before .before .before .before .pre) (omega (arith, holds (now (a .frame)) (c .before .before .before .before .before .before .before .pre .answerable .accepted) .long)) (omega arith) (omega arith) (omega arith) (omega arith) (omega arith)
+    let s = c .before .before .before .before .before .before .before in
+    let a = s .args in
+    let long = holds (now (a .frame)) (s .pre .answerable .accepted) .long in
+    ready (now (a .frame)) (a .head) 318 _ _ _ _ _ (s .pre) (omega (arith, long)) (omega arith) (omega arith) (omega (arith, B-318))
+    (omega (arith, B-318)) (omega (arith, B-318))
 
 same-length : tie.Need-same-length
 same-length c = search needs

@@ -8,7 +8,7 @@ use borrow.Author.Needs.{needs}
 use Rattle.binary64.proofs.Fill.{tail-part}
 use Rattle.tile.specs.Ring.{coords as coordinates, close}
 use Rattle.sutherland_hodgman.specs.Growth.{mostCoordinates}
-use Rattle.sutherland_hodgman.proofs.Growth.{B-le}
+use Rattle.sutherland_hodgman.proofs.Offered.{B-le}
 use Rattle.rings.specs.Rings.{closedRings, total, larger, largest as most, ringRoom}
 use Rattle.rings.proofs.LentRings.{Left, left-start, left-ring, left-next, total-step, total-end, larger-assoc, larger-none, larger-zero, largest-step, largest-end}
 use Rattle.rings.proofs.lent.room_of.Statement.{statement}

@@ -1,8 +1,8 @@
--- Coordinates of whole numbers, for the cases that are computed here and in the table of the crate `frames`. Assumes nothing.
+-- Coordinates of whole numbers, for the cases that the crates `sutherland_hodgman` and `frames` compute. Assumes nothing.
 use Prim.Native.Nat.{ℕ}
 use lib.IntN.{pos}
 use lib.Ieee.{Float, binary64, ofInt}
 use Rattle.tile.specs.declared.Coord.{Coord}
 
 -- a whole number as a double, rounded: 1e150 and 9e149 too
 unfoldable pub num : ℕ → Float

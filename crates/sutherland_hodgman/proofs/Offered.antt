@@ -1,0 +1,91 @@
+-- Laws that this crate offers to those above it beside its contracts. By these they know the cut of a ring, and the room that it takes;
+-- they unfold neither. Assumes nothing.
+use mathlib.Core.Path.{_≡_, refl}
+use mathlib.Core.Bool.{true}
+use mathlib.Core.List.{List, [], _∷_}
+use Prim.Native.Nat.{ℕ, zero, suc, _+_, _*_, _<_, _≤_}
+use native.Mathlib.Omega.{arith}
+use lib.ListN.{length}
+use Rattle.tile.specs.declared.Coord.{Coord}
+use Rattle.tile.specs.declared.TileBounds.{TileBounds}
+use Rattle.tile.specs.Ring.{closed, close}
+use Rattle.sutherland_hodgman.specs.Clip.{leaveOff, around, pass, passes, finish, clipRing}
+use Rattle.sutherland_hodgman.specs.Growth.{halfGrowth, fourHalfGrowths, B, mostCoordinates}
+use Rattle.sutherland_hodgman.proofs.Growth as growth
+use Rattle.sutherland_hodgman.proofs.LeavingOff.{leaveOff-close}
+
+-- ---- the room of a ring
+
+-- a ring has room for itself
+pub le-B : (n : ℕ) → n ≤ B n
+unfolding B
+le-B zero = omega arith
+le-B (suc n) = omega (arith, growth.le-four (suc n))
+
+-- a longer ring has as much room or more
+pub B-mono : (m n : ℕ) → m ≤ n → B m ≤ B n
+unfolding B fourHalfGrowths
+B-mono zero n h = omega arith
+B-mono (suc m) zero h = absurd (omega arith)
+B-mono (suc m) (suc n) h =
+    let two = growth.halfGrowth-mono (growth.halfGrowth-mono h) in
+    omega (arith, growth.halfGrowth-mono (growth.halfGrowth-mono two))
+
+-- the room of n coordinates is at most 81/16 n, which is (3/2)^4 n, and 2
+pub B-at-most : (n : ℕ) → 16 * B n ≤ 81 * n + 32
+unfolding B fourHalfGrowths
+B-at-most zero = omega arith
+B-at-most (suc n) =
+    let a = halfGrowth (suc n) in
+    let b = halfGrowth a in
+    let c = halfGrowth b in
+    omega (arith, growth.halfGrowth-le (suc n), growth.halfGrowth-le a, growth.halfGrowth-le b, growth.halfGrowth-le c)
+
+-- no vertices take no room
+pub B-none : B 0 ≡ 0
+unfolding B
+B-none = refl
+
+-- n vertices and one that closes them take at most 6 n + 5, which is reached where n is 1
+pub B-closed : (n : ℕ) → 0 < n → B (n + 1) ≤ 6 * n + 5
+unfolding B fourHalfGrowths halfGrowth
+B-closed zero h = absurd (omega arith)
+B-closed (suc zero) h = omega arith
+B-closed (suc (suc zero)) h = omega arith
+B-closed (suc (suc (suc n))) h =
+    let m : suc (suc (suc n)) + 1 ≡ suc (suc (suc (suc n))) = omega arith in
+    rw m (omega (arith, B-at-most (suc (suc (suc (suc n))))))
+
+-- the room of a ring of at most 65,536 coordinates is at most 2^19, so that sums of such rooms stay in a usize
+pub B-le : (n : ℕ) → n ≤ mostCoordinates → B n ≤ 8 * mostCoordinates
+B-le = growth.B-le
+
+-- the room of the longest rings, closed, in frames of the four sizes that the crate `frames` has working arrays for
+pub B-6 : B 6 ≡ 30
+unfolding B fourHalfGrowths halfGrowth
+B-6 = refl
+
+pub B-32 : B 32 ≡ 164
+unfolding B fourHalfGrowths halfGrowth
+B-32 = refl
+
+pub B-81 : B 81 ≡ 408
+unfolding B fourHalfGrowths halfGrowth
+B-81 = refl
+
+pub B-318 : B 318 ≡ 1610
+unfolding B fourHalfGrowths halfGrowth
+B-318 = refl
+
+-- ---- a cut ring
+
+-- a cut ring with vertices can be closed once more in its room
+pub clip-fits : (b : TileBounds) (r : List Coord) → 0 < length (clipRing b r) → suc (length (clipRing b r)) ≤ B (length r)
+unfolding clipRing passes pass around leaveOff finish B
+clip-fits b [] h = absurd (omega arith)
+clip-fits b (p ∷ r) h = omega (arith, growth.clipRing-grows b (p ∷ r))
+
+-- a ring that closing closes is cut as it is lent: what closing appends is left off again
+pub clip-close : (b : TileBounds) (r : List Coord) → closed (close r) ≡ true → clipRing b (close r) ≡ clipRing b r
+unfolding clipRing passes pass
+clip-close b r e = rw (leaveOff-close r e)
