@@ -1,6 +1,7 @@
-pub mod Crossing
-pub mod Edges
-pub mod Issues
-pub mod Loops
-pub mod Runs
-pub mod Sweep
+mod Crossing
+mod Edges
+mod Issues
+mod Loops
+pub mod Offered
+mod Runs
+mod Sweep

@@ -4,11 +4,12 @@ ghost use mathlib.Core.Bool.{_&&_};
 ghost use Prim.Native.Nat.{_*_, _≤_};
 ghost use lib.ListN.{length, take};
 ghost use Rattle.tile.specs.Ring as T;
-ghost use Rattle.box_pairs.specs.Issue.{hasIssue, issueOf};
+ghost use Rattle.box_pairs.specs.Issue.{issueOf};
 ghost use Rattle.clip.specs.Polygon as S;
 use binary64::slices::copy;
 use box_pairs::Issue;
 use box_pairs::find_issue;
+use box_pairs::has_issue;
 use rings::bridge::Bridge;
 use rings::bridge::first_bridge;
 use rings::rectangle::Rect;
@@ -59,17 +60,6 @@ pub enum PolygonAnswer {
     Unchanged,
     Cut(usize),
     Overlay(Reason),
-}
-
-fn has_issue(issue: Issue) -> bool
-    ensures { λ r. ⌜ r ≡ hasIssue issue ⌝ }
-{
-    match issue {
-        Issue::Sound => false,
-        Issue::Short => true,
-        Issue::Repeated => true,
-        Issue::Crossing => true,
-    }
 }
 
 // The number of the edge that a bridge runs along, as a reason.

@@ -7,13 +7,11 @@ use native.Mathlib.Omega.{arith}
 use lib.Ieee.{nan}
 use lib.ListN.{length, getD, drop, length-drop, List·getD-append}
 use lib.Seq.{drop-drop}
-use borrow.Author.Tests.{lt-ltb, le-ltb}
 use Rattle.tile.specs.declared.Coord.{Coord}
 use Rattle.tile.specs.Ring.{closed, close}
 use Rattle.box_pairs.specs.Cross.{short}
 use Rattle.box_pairs.specs.Issue.{repeated, issueOf, hasIssue}
-use Rattle.box_pairs.specs.declared.Issue.the-variants.{Sound, Repeated}
-use Rattle.box_pairs.proofs.Issues.{few, one-more}
+use Rattle.box_pairs.proofs.Offered.{repeated-few, repeated-from, simple-short, simple-long}
 use Rattle.rings.specs.Rings.{exterior}
 use Rattle.frame_bytes.specs.Frame.{Reading, refused, read, Accepted, coordOf, coordsOf, readPart, allIn, partAt}
 use Rattle.frame_bytes.specs.Measure.{soundIfSimple}
@@ -50,24 +48,12 @@ module _ (frame : List ℕ) (at n : ℕ) where
   pub repeated-next : (k : ℕ) → k + 2 < length ring → repeated (drop k ring) ≡ short (coordOf (drop (at + 16 * k) frame)) (coordOf (drop (at + 16 * (k + 1)) frame)) || repeated (drop (k + 1) ring)
   repeated-next k h =
       let g = close-grows n (drop at frame) in
-      one-more ring k none h ∙ rw (ring-at k (omega arith), ring-at (k + 1) (omega arith))
+      repeated-from ring k none h ∙ rw (ring-at k (omega arith), ring-at (k + 1) (omega arith))
 
   pub repeated-end : (k : ℕ) → length ring ≤ k + 2 → repeated (drop k ring) ≡ false
-  repeated-end k h = few (drop k ring) (omega (arith, length-drop k ring))
+  repeated-end k h = repeated-few (drop k ring) (omega (arith, length-drop k ring))
 
 -- ---- an exterior that is assumed to be simple
-
-simple-short : (r : List Coord) → length r < 4 → not (hasIssue (issueOf true r)) ≡ false
-unfolding issueOf hasIssue
-simple-short r h = rw (lt-ltb (length r) 4 h)
-
-simple-long : (r : List Coord) → 4 ≤ length r → not (hasIssue (issueOf true r)) ≡ not (repeated r)
-unfolding issueOf hasIssue
-simple-long r h = rw (le-ltb (length r) 4 h) (go (repeated r))
-  where
-    go : (t : Bool) → not (hasIssue (cond t Repeated Sound)) ≡ not t
-    go true = refl
-    go false = refl
 
 sound-read : (x : Reading (List (List Coord))) → Accepted x → soundIfSimple x ≡ not (hasIssue (issueOf true (exterior (allIn x))))
 sound-read (refused r) e = absurd (let z : _≡_ {A = ℕ} 0 1 = cc in omega arith)
@@ -82,7 +68,7 @@ module _ (frame : List ℕ) (at : ℕ) (a : Accepted (readPart (drop at frame)))
     sound-exterior = sound-part ∙ ap (λ (rings : List (List Coord)). not (hasIssue (issueOf true (exterior rings)))) (part-here frame at h a)
 
     pub sound-short : length (exteriorAt frame at) < 4 → soundIfSimple (readPart (drop at frame)) ≡ false
-    sound-short s = sound-exterior ∙ simple-short (exteriorAt frame at) s
+    sound-short s = sound-exterior ∙ ap not (simple-short (exteriorAt frame at) s)
 
     pub sound-long : 4 ≤ length (exteriorAt frame at) → soundIfSimple (readPart (drop at frame)) ≡ not (repeated (exteriorAt frame at))
-    sound-long s = sound-exterior ∙ simple-long (exteriorAt frame at) s
+    sound-long s = sound-exterior ∙ ap not (simple-long (exteriorAt frame at) s)

@@ -1,8 +1,8 @@
 -- `has_issue` meets its contract: each case is one of the definition. Assumes nothing.
 use borrow.Author.Needs.{needs}
 use Rattle.box_pairs.specs.Issue.{hasIssue}
-use Rattle.clip.proofs.polygon.has_issue.Statement.{statement}
-use Rattle.clip.proofs.polygon.has_issue.Tie as tie
+use Rattle.box_pairs.proofs.has_issue.Statement.{statement}
+use Rattle.box_pairs.proofs.has_issue.Tie as tie
 
 enum-told : tie.Need-enum-told
 enum-told c = search needs

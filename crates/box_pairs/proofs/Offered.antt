@@ -1,0 +1,40 @@
+-- Laws that this crate offers to those above it beside its contracts. By these they know the issue of an exterior; they unfold none of it.
+-- Assumes nothing.
+use mathlib.Core.Path.{_≡_, refl}
+use mathlib.Core.Bool.{Bool, true, false, cond, _||_}
+use mathlib.Core.List.{List}
+use Prim.Native.Nat.{ℕ, _+_, _<_, _≤_}
+use lib.ListN.{length, getD, drop}
+use borrow.Author.Tests.{lt-ltb, le-ltb}
+use Rattle.tile.specs.declared.Coord.{Coord}
+use Rattle.box_pairs.specs.declared.Issue.the-variants.{Sound, Repeated}
+use Rattle.box_pairs.specs.Cross.{short}
+use Rattle.box_pairs.specs.Issue.{repeated, issueOf, hasIssue}
+use Rattle.box_pairs.proofs.Issues as issues
+
+-- ---- neighbours that repeat
+
+-- two coordinates have one segment, the last, which is excepted
+pub repeated-few : (l : List Coord) → length l ≤ 2 → repeated l ≡ false
+repeated-few = issues.few
+
+-- from a coordinate on: its segment is short, or one repeats from the next coordinate on
+pub repeated-from : (l : List Coord) (k : ℕ) (z : Coord) → k + 2 < length l
+    → repeated (drop k l) ≡ short (getD l k z) (getD l (k + 1) z) || repeated (drop (k + 1) l)
+repeated-from = issues.one-more
+
+-- ---- the issue of an exterior that is assumed to be simple
+
+-- fewer than 4 coordinates are an issue
+pub simple-short : (r : List Coord) → length r < 4 → hasIssue (issueOf true r) ≡ true
+unfolding issueOf hasIssue
+simple-short r h = rw (lt-ltb (length r) 4 h)
+
+-- of 4 or more it is only neighbours that repeat
+pub simple-long : (r : List Coord) → 4 ≤ length r → hasIssue (issueOf true r) ≡ repeated r
+unfolding issueOf hasIssue
+simple-long r h = rw (le-ltb (length r) 4 h) (go (repeated r))
+  where
+    go : (t : Bool) → hasIssue (cond t Repeated Sound) ≡ t
+    go true = refl
+    go false = refl
