@@ -1,6 +1,6 @@
 -- The edges of the ring at the front of a slice: the sweep's law holds of their crossings, by their lowest x in the total order. Assumes nothing.
 use mathlib.Core.Path.{_≡_, refl, sym, ap, ap₂, subst, _∙_}
-use mathlib.Core.Bool.{Bool, true, false}
+use mathlib.Core.Bool.{Bool, true, false, true≢false}
 use mathlib.Mathlib.Data.Bool.Basic.{eq-false-of-not-eq-true}
 use mathlib.Core.List.{List}
 use Prim.Native.Nat.{ℕ, _+_, _*_, _-_, _≤_, _<_}
@@ -22,6 +22,7 @@ use Rattle.tile.proofs.Rings.{front-at, length-front}
 use Rattle.box_pairs.specs.Cross.{cross}
 use Rattle.box_pairs.specs.Sort.{keyAt, Kept, Sorted}
 use Rattle.box_pairs.specs.Pairs.{front, at, edgesCross, anyBelow, anyPair, selfIntersecting, edgesAt, mayMeetInY, lowX, Noted, Swept}
+use Rattle.box_pairs.specs.Pairs.{isScanned, ScannedOrSwept}
 use Rattle.box_pairs.specs.Issue.{Unused}
 use Rattle.box_pairs.proofs.Crossing.{cross-mirror, cross-numbers, apart-left, apart-y, minimum-is-number}
 use Rattle.box_pairs.proofs.Sweep.{Sweeps}
@@ -146,7 +147,23 @@ pub crossing-none : (s : List Float) → selfIntersecting (front s 0) ≡ false
 unfolding selfIntersecting anyPair anyBelow coords
 crossing-none s = refl
 
--- a ring of n coordinates has one edge less
+-- ---- scan or sweep, by the test that decides it
+
+module _ (edges : ℕ) (r : List Coord) (b : Bool) (e : b ≡ isScanned edges) where
+  pub after-scan : (w : List Float) (o : List ℕ) → b ≡ true → ScannedOrSwept edges r w o w o
+  after-scan w o t = record { scanned = λ _. (refl, refl); swept = λ f. absurd (true≢false (sym t ∙ e ∙ f)) }
+
+  pub after-sweep : (w w′ : List Float) (o o′ : List ℕ) → b ≡ false → Swept edges r w′ o′ → ScannedOrSwept edges r w o w′ o′
+  after-sweep w w′ o o′ f s = record { scanned = λ t. absurd (true≢false (sym t ∙ sym e ∙ f)); swept = λ _. s }
+
+-- a ring of no coordinate has no edge, and nothing is written for it
+pub after-none : (n : ℕ) (r : List Coord) (w : List Float) (o : List ℕ) → n ≡ 0 → ScannedOrSwept (n - 1) r w o w o
+after-none n r w o e = rw e (after-scan 0 r true refl w o refl)
+
+-- what `any_edge_pair` says of a ring's edges, of which there is one less than of its n coordinates
+abbrev pub ByEdges : (m edges : ℕ) (s w w′ : List Float) (o o′ : List ℕ) (b : Bool) → Type 0
+ByEdges m edges s w w′ o o′ b = (b ≡ selfIntersecting (front s m)) × (Unused m w o w′ o′ × ScannedOrSwept edges (front s m) w o w′ o′)
+
 pub by-edges : (n : ℕ) (s w w′ : List Float) (o o′ : List ℕ) (b : Bool) → (n ≡ 0 → ⊥)
-    → (b ≡ selfIntersecting (front s (n - 1 + 1))) × Unused (n - 1 + 1) w o w′ o′ → (b ≡ selfIntersecting (front s n)) × Unused n w o w′ o′
-by-edges n s w w′ o o′ b h p = let q : n - 1 + 1 ≡ n = omega arith in subst (λ (m : ℕ). (b ≡ selfIntersecting (front s m)) × Unused m w o w′ o′) q p
+    → ByEdges (n - 1 + 1) (n - 1) s w w′ o o′ b → ByEdges n (n - 1) s w w′ o o′ b
+by-edges n s w w′ o o′ b h p = let q : n - 1 + 1 ≡ n = omega arith in subst (λ (m : ℕ). ByEdges m (n - 1) s w w′ o o′ b) q p

@@ -1,9 +1,9 @@
 // Predicates and sweep: whether two edges of a ring cross, and what is wrong with an exterior.
 // `cross` tests two edges, `pairs` finds a pair of edges that cross, `merge` sorts the edges for the sweep.
 ghost use mathlib.Core.Path.{_≡_};
-ghost use Prim.Native.Nat.{_*_, _≤_};
+ghost use Prim.Native.Nat.{_*_, _-_, _≤_};
 ghost use lib.ListN.{length};
-ghost use Rattle.box_pairs.specs.Pairs.{front};
+ghost use Rattle.box_pairs.specs.Pairs.{front, KeptIfScanned};
 ghost use Rattle.box_pairs.specs.Issue.{repeated, issueOf, hasIssue, IssueRoom, Unused};
 use tile::ring::coord_at;
 
@@ -61,6 +61,7 @@ pub fn find_issue(
     requires { ⌜ IssueRoom n (now ring) (now work) (now order) ⌝ }
     ensures { λ r. ⌜ r ≡ issueOf «assume_simple» (front (now (ring .entry)) n) ⌝ }
     ensures { λ _. ⌜ Unused n (now (work .entry)) (now (order .entry)) (now (work .exit)) (now (order .exit)) ⌝ }
+    ensures { λ _. ⌜ KeptIfScanned (n - 1) (now (work .entry)) (now (order .entry)) (now (work .exit)) (now (order .exit)) ⌝ }
 {
     if n < 4 {
         return Issue::Short;

@@ -1,8 +1,9 @@
 // Whether two edges of a ring cross: all pairs for a short ring, and a sweep over the edges by their lowest x for a long one.
 ghost use mathlib.Core.Path.{_≡_};
-ghost use Prim.Native.Nat.{_+_, _*_, _<_, _≤_};
+ghost use Prim.Native.Nat.{_+_, _*_, _-_, _<_, _≤_};
 ghost use lib.ListN.{length};
-ghost use Rattle.box_pairs.specs.Pairs as S;
+ghost use Rattle.box_pairs.specs.Pairs.{front, edgesAt, mayMeetInY, selfIntersecting, HasEdges, isScanned};
+ghost use Rattle.box_pairs.specs.Pairs.{ScannedOrSwept, Noted, Swept};
 ghost use Rattle.box_pairs.specs.Issue.{IssueRoom, Unused};
 use super::cross::crosses;
 use super::cross::is_apart;
@@ -11,13 +12,13 @@ use binary64::compare::maximum;
 use binary64::compare::minimum;
 use tile::ring::coord_at;
 
-// Rings of more edges than this are swept.
+// Of up to so many edges all pairs are scanned; more are swept.
 const SCAN_LIMIT: usize = 32;
 
 // Whether the boxes of the edges i and j may meet in y. It is kept small so that it can be inlined into the loops; that is not proved.
 fn may_meet_in_y(ring: &[f64], i: usize, j: usize) -> bool
     requires { ⌜ (2 * i + 3 < length (now ring)) × (2 * j + 3 < length (now ring)) ⌝ }
-    ensures { λ r. ⌜ r ≡ S.mayMeetInY (now (ring .entry)) i j ⌝ }
+    ensures { λ r. ⌜ r ≡ mayMeetInY (now (ring .entry)) i j ⌝ }
 {
     let a1 = coord_at(ring, i);
     let a2 = coord_at(ring, i + 1);
@@ -29,7 +30,7 @@ fn may_meet_in_y(ring: &[f64], i: usize, j: usize) -> bool
 // Whether the edges i and j cross.
 fn edges_cross(ring: &[f64], i: usize, j: usize) -> bool
     requires { ⌜ (2 * i + 3 < length (now ring)) × (2 * j + 3 < length (now ring)) ⌝ }
-    ensures { λ r. ⌜ r ≡ S.edgesAt (now (ring .entry)) i j ⌝ }
+    ensures { λ r. ⌜ r ≡ edgesAt (now (ring .entry)) i j ⌝ }
 {
     let a1 = coord_at(ring, i);
     let a2 = coord_at(ring, i + 1);
@@ -40,8 +41,8 @@ fn edges_cross(ring: &[f64], i: usize, j: usize) -> bool
 
 // Whether two of the first `edges` edges cross, by a look at all pairs.
 pub fn scan_pairs(ring: &[f64], edges: usize) -> bool
-    requires { ⌜ S.HasEdges edges (now ring) ⌝ }
-    ensures { λ r. ⌜ r ≡ S.selfIntersecting (S.front (now (ring .entry)) (edges + 1)) ⌝ }
+    requires { ⌜ HasEdges edges (now ring) ⌝ }
+    ensures { λ r. ⌜ r ≡ selfIntersecting (front (now (ring .entry)) (edges + 1)) ⌝ }
 {
     let mut found = false;
     let mut i = 0usize;
@@ -64,8 +65,8 @@ pub fn scan_pairs(ring: &[f64], edges: usize) -> bool
 
 // Notes the lowest x of each of the first `edges` edges.
 fn note_lows(ring: &[f64], work: &mut [f64], edges: usize)
-    requires { ⌜ S.HasEdges edges (now ring) × (edges ≤ length (now work)) ⌝ }
-    ensures { λ _. ⌜ S.Noted edges (S.front (now (ring .entry)) (edges + 1)) (now (work .entry)) (now (work .exit)) ⌝ }
+    requires { ⌜ HasEdges edges (now ring) × (edges ≤ length (now work)) ⌝ }
+    ensures { λ _. ⌜ Noted edges (front (now (ring .entry)) (edges + 1)) (now (work .entry)) (now (work .exit)) ⌝ }
 {
     let mut i = 0usize;
     while i < edges {
@@ -79,9 +80,9 @@ fn note_lows(ring: &[f64], work: &mut [f64], edges: usize)
 // Whether two of the first `edges` edges cross, by a sweep over the edges in the order of their lowest x, which stand in `lows`:
 // past the first that starts beyond an edge's end no other meets it.
 fn sweep_sorted(ring: &[f64], lows: &[f64], order: &[u32], edges: usize) -> bool
-    requires { ⌜ S.HasEdges edges (now ring) × (edges ≤ length (now lows)) ⌝ }
-    requires { ⌜ S.Swept edges (S.front (now ring) (edges + 1)) (now lows) (now order) ⌝ }
-    ensures { λ r. ⌜ r ≡ S.selfIntersecting (S.front (now (ring .entry)) (edges + 1)) ⌝ }
+    requires { ⌜ HasEdges edges (now ring) × (edges ≤ length (now lows)) ⌝ }
+    requires { ⌜ Swept edges (front (now ring) (edges + 1)) (now lows) (now order) ⌝ }
+    ensures { λ r. ⌜ r ≡ selfIntersecting (front (now (ring .entry)) (edges + 1)) ⌝ }
 {
     let mut found = false;
     let mut p = 0usize;
@@ -113,21 +114,31 @@ fn sweep_sorted(ring: &[f64], lows: &[f64], order: &[u32], edges: usize) -> bool
 // Whether two of the first `edges` edges cross, by a sweep.
 pub fn sweep_pairs(ring: &[f64], edges: usize, work: &mut [f64], order: &mut [u32]) -> bool
     requires { ⌜ IssueRoom (edges + 1) (now ring) (now work) (now order) ⌝ }
-    ensures { λ r. ⌜ r ≡ S.selfIntersecting (S.front (now (ring .entry)) (edges + 1)) ⌝ }
+    ensures { λ r. ⌜ r ≡ selfIntersecting (front (now (ring .entry)) (edges + 1)) ⌝ }
     ensures { λ _. ⌜ Unused (edges + 1) (now (work .entry)) (now (order .entry)) (now (work .exit)) (now (order .exit)) ⌝ }
+    ensures { λ _. ⌜ Swept edges (front (now (ring .entry)) (edges + 1)) (now (work .exit)) (now (order .exit)) ⌝ }
 {
     note_lows(ring, work, edges);
     sort(work, order, edges);
     sweep_sorted(ring, work, order, edges)
 }
 
+// Whether all pairs of so many edges are scanned; else they are swept.
+fn is_scanned(edges: usize) -> bool
+    ensures { λ r. ⌜ r ≡ isScanned edges ⌝ }
+{
+    edges <= SCAN_LIMIT
+}
+
 // Whether two of the first `edges` edges cross.
 fn any_edge_pair(ring: &[f64], edges: usize, work: &mut [f64], order: &mut [u32]) -> bool
     requires { ⌜ IssueRoom (edges + 1) (now ring) (now work) (now order) ⌝ }
-    ensures { λ r. ⌜ r ≡ S.selfIntersecting (S.front (now (ring .entry)) (edges + 1)) ⌝ }
+    ensures { λ r. ⌜ r ≡ selfIntersecting (front (now (ring .entry)) (edges + 1)) ⌝ }
     ensures { λ _. ⌜ Unused (edges + 1) (now (work .entry)) (now (order .entry)) (now (work .exit)) (now (order .exit)) ⌝ }
+    ensures { λ _. ⌜ ScannedOrSwept edges (front (now (ring .entry)) (edges + 1)) (now (work .entry)) (now (order .entry))
+        (now (work .exit)) (now (order .exit)) ⌝ }
 {
-    if edges <= SCAN_LIMIT {
+    if is_scanned(edges) {
         return scan_pairs(ring, edges);
     }
     sweep_pairs(ring, edges, work, order)
@@ -141,8 +152,10 @@ pub fn has_self_intersecting_edges(
     order: &mut [u32],
 ) -> bool
     requires { ⌜ IssueRoom n (now ring) (now work) (now order) ⌝ }
-    ensures { λ r. ⌜ r ≡ S.selfIntersecting (S.front (now (ring .entry)) n) ⌝ }
+    ensures { λ r. ⌜ r ≡ selfIntersecting (front (now (ring .entry)) n) ⌝ }
     ensures { λ _. ⌜ Unused n (now (work .entry)) (now (order .entry)) (now (work .exit)) (now (order .exit)) ⌝ }
+    ensures { λ _. ⌜ ScannedOrSwept (n - 1) (front (now (ring .entry)) n) (now (work .entry)) (now (order .entry))
+        (now (work .exit)) (now (order .exit)) ⌝ }
 {
     if n == 0 {
         return false;

@@ -8,7 +8,8 @@ use Rattle.box_pairs.proofs.find_issue.Tie as tie
 returns : tie.Need-returns
 returns c =
     let s = c .before .before .before .before in
-    (sym (issue-short (s .args .ring .now) (s .args .n) (s .pre .ring-room) (s .args .assume-simple) (c .if1 .taken)), record { past-work = refl; past-order = refl })
+    let e = issue-short (s .args .ring .now) (s .args .n) (s .pre .ring-room) (s .args .assume-simple) (c .if1 .taken) in
+    (sym e, (record { past-work = refl; past-order = refl }, λ t. (refl, refl)))
 
 has-repeated-requires : tie.Need-has-repeated-requires
 has-repeated-requires c κs = search needs
@@ -18,7 +19,7 @@ returns-2 c =
     let s = c .before .before .before .before .before .before in (
       sym (issue-repeated (s .args .ring .now) (s .args .n) (s .pre .ring-room) (s .args .assume-simple) (c .before .before .if1 .left)
           (sym (c .before .has-repeated .ensures) ∙ c .if2 .taken)),
-      record { past-work = refl; past-order = refl },
+      (record { past-work = refl; past-order = refl }, λ t. (refl, refl)),
     )
 
 returns-3 : tie.Need-returns-3
@@ -26,7 +27,7 @@ returns-3 c =
     let s = c .before .before .before .before .before .before .before in (
       sym (issue-simple (s .args .ring .now) (s .args .n) (s .pre .ring-room) (s .args .assume-simple) (c .before .before .before .if1 .left)
           (sym (c .before .before .has-repeated .ensures) ∙ c .before .if2 .left) (c .if3 .taken)),
-      record { past-work = refl; past-order = refl },
+      (record { past-work = refl; past-order = refl }, λ t. (refl, refl)),
     )
 
 has-self-intersecting-edges-requires : tie.Need-has-self-intersecting-edges-requires
@@ -45,7 +46,7 @@ returns-4 c =
       sym (issue-crossing (s .args .ring .now) (s .args .n) (s .pre .ring-room) (s .args .assume-simple)
           (c .before .before .before .before .before .before .before .before .before .before .before .if1 .left)
           (sym (c .before .before .before .before .before .before .before .before .before .before .has-repeated .ensures) ∙ c .before .before .before .before .before .before .before .before .before .if2 .left) (c .before .before .before .before .before .before .before .before .if3 .left) (sym (e .0) ∙ c .if4 .taken)),
-      e .1,
+      (e .1 .0, e .1 .1 .scanned),
     )
 
 same-length-3 : tie.Need-same-length-3
@@ -61,7 +62,7 @@ returns-5 c =
       sym (issue-sound (s .args .ring .now) (s .args .n) (s .pre .ring-room) (s .args .assume-simple)
           (c .before .before .before .before .before .before .before .before .before .before .before .if1 .left)
           (sym (c .before .before .before .before .before .before .before .before .before .before .has-repeated .ensures) ∙ c .before .before .before .before .before .before .before .before .before .if2 .left) (c .before .before .before .before .before .before .before .before .if3 .left) (sym (e .0) ∙ c .if4 .left)),
-      e .1,
+      (e .1 .0, e .1 .1 .scanned),
     )
 
 pub find-issue-spec : {M : Type 1} → statement M

@@ -1,14 +1,16 @@
 -- `pairs::has_self_intersecting_edges` meets its contract. Assumes nothing.
 use mathlib.Core.Path.{refl, sym}
 use borrow.Author.Needs.{needs}
-use Rattle.box_pairs.proofs.Edges.{crossing-none, by-edges}
+use Rattle.box_pairs.proofs.Edges.{crossing-none, after-none, by-edges}
 use Rattle.box_pairs.proofs.pairs.has_self_intersecting_edges.Statement.{statement}
 use Rattle.box_pairs.proofs.pairs.has_self_intersecting_edges.Tie as tie
 
 returns : tie.Need-returns
 returns c =
     let s = c .before .before .before .before in
-    (sym (rw (c .if1 .taken) (crossing-none (s .args .ring .now))), record { past-work = refl; past-order = refl })
+    let none = c .if1 .taken in
+    let scanned = after-none (s .args .n) _ _ _ none in
+    (sym (rw none (crossing-none (s .args .ring .now))), (record { past-work = refl; past-order = refl }, scanned))
 
 sub-any-edge-pair : tie.Need-sub-any-edge-pair
 sub-any-edge-pair c = search needs
@@ -25,8 +27,9 @@ same-length-2 c = search needs
 returns-2 : tie.Need-returns-2
 returns-2 c =
     let s = c .before .before .before .before .before .before .before .before .before .before .before in
-    by-edges (s .args .n) (s .args .ring .now) (s .args .work .now) _ (s .args .order .now) _ _ (c .before .before .before .before .before .before .before .if1 .left)
-    (c .before .before .before .before .any-edge-pair .ensures)
+    let some = c .before .before .before .before .before .before .before .if1 .left in
+    let e = c .before .before .before .before .any-edge-pair .ensures in
+    by-edges (s .args .n) (s .args .ring .now) (s .args .work .now) _ (s .args .order .now) _ _ some e
 
 pub has-self-intersecting-edges-spec : {M : Type 1} → statement M
 has-self-intersecting-edges-spec =

@@ -34,11 +34,15 @@ same-length-2 c = search needs
 
 returns : tie.Need-returns
 returns c =
-    let s = c .before .before .before .before .before .before .before .before .before .before .before .before .before .before .before .before .before in (
+    let s = c .before .before .before .before .before .before .before .before .before .before .before .before .before .before .before .before .before in
+    let r = front (s .args .ring .now) (s .args .edges + 1) in
+    let noted = c .before .before .before .before .before .before .before .before .before .before .before .before .note-lows .ensures in
+    let sorted = c .before .before .before .before .before .before .before .sort .ensures in (
       c .sweep-sorted .ensures,
-      noted-unused (s .args .edges) (front (s .args .ring .now) (s .args .edges + 1)) (s .args .work .now) _ _ (s .args .order .now) _
-          (c .before .before .before .before .before .before .before .before .before .before .before .before .note-lows .ensures)
-          (c .before .before .before .before .before .before .before .sort .ensures .0) (c .before .before .before .before .before .before .before .sort .ensures .1),
+      (
+        noted-unused (s .args .edges) r (s .args .work .now) _ _ (s .args .order .now) _ noted (sorted .0) (sorted .1),
+        noted-swept (s .args .edges) r (s .args .work .now) _ _ (s .args .order .now) _ noted (sorted .0) (sorted .1),
+      ),
     )
 
 pub sweep-pairs-spec : {M : Type 1} → statement M
