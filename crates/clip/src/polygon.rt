@@ -6,6 +6,7 @@ ghost use lib.ListN.{length, take};
 ghost use Rattle.tile.specs.Ring as T;
 ghost use Rattle.box_pairs.specs.Issue.{issueOf};
 ghost use Rattle.clip.specs.Polygon as S;
+ghost use Rattle.clip.specs.Polygon.{guardCount};
 use binary64::slices::copy;
 use box_pairs::Issue;
 use box_pairs::find_issue;
@@ -53,13 +54,26 @@ pub const CUT: u8 = 4;
 
 pub const OVERLAY: u8 = 5;
 
-// What becomes of a polygon; of a cut, how many rings it has. Dropped means guard count 1.
+// What becomes of a polygon; of a cut, how many rings it has.
 pub enum PolygonAnswer {
     Nothing,
     Dropped,
     Unchanged,
     Cut(usize),
     Overlay(Reason),
+}
+
+// How many polygons were dropped: the source's guard count.
+pub fn guard_count(answer: PolygonAnswer) -> usize
+    ensures { λ r. ⌜ r ≡ guardCount answer ⌝ }
+{
+    match answer {
+        PolygonAnswer::Nothing => 0,
+        PolygonAnswer::Dropped => 1,
+        PolygonAnswer::Unchanged => 0,
+        PolygonAnswer::Cut(rings) => 0,
+        PolygonAnswer::Overlay(reason) => 0,
+    }
 }
 
 // The number of the edge that a bridge runs along, as a reason.

@@ -48,16 +48,16 @@ abbrev pub headBytes : ℕ
 headBytes = 44
 
 -- the paper's number of each refusal
-abbrev pub refusalNumber : FrameRefusal → ℕ
-refusalNumber Size = 11
-refusalNumber Kind = 12
-refusalNumber Flags = 13
-refusalNumber PartCount = 14
-refusalNumber Truncated = 15
-refusalNumber RingCount = 16
-refusalNumber CoordinateCount = 17
-refusalNumber Trailing = 18
-refusalNumber Output = 22
+abbrev pub frameRefusalNumber : FrameRefusal → ℕ
+frameRefusalNumber Size = 11
+frameRefusalNumber Kind = 12
+frameRefusalNumber Flags = 13
+frameRefusalNumber PartCount = 14
+frameRefusalNumber Truncated = 15
+frameRefusalNumber RingCount = 16
+frameRefusalNumber CoordinateCount = 17
+frameRefusalNumber Trailing = 18
+frameRefusalNumber Output = 22
 
 -- ---- reading from the front of bytes
 

@@ -46,7 +46,7 @@ pub enum FrameCheck {
 
 // Document 01's number of a refusal.
 pub fn refusal_number(refusal: FrameRefusal) -> u8
-    ensures { λ r. ⌜ r ≡ S.refusalNumber refusal ⌝ }
+    ensures { λ r. ⌜ r ≡ S.frameRefusalNumber refusal ⌝ }
 {
     match refusal {
         FrameRefusal::Size => 11,

@@ -32,10 +32,10 @@ use Rattle.frame_bytes.proofs.Writing.{each-append, length-header}
 use Rattle.frame_bytes.proofs.SimpleExteriors.{sound-part}
 use Rattle.frames.specs.declared.entry.FrameAnswer.the-variants.{Refused, Answered}
 use Rattle.frames.specs.Answer.{Part, Answer, Nothing, Unchanged, ofPolygon, routePart, listedBefore, listParts, ofParts, ifBox, ofMultipolygon, flagsIn, boundsIn, onlyPart, answerTo}
-use Rattle.frames.specs.Output.{partBytes, answerBytes, frameBytes, outputAfter, callOutput}
+use Rattle.frames.specs.Output.{partBytes, answerBytes, frameBytes, outputAfter, frameCallOutput}
 use Rattle.frames.specs.Part.{PartRoom}
 use Rattle.frames.specs.Parts.{partsFrom, ofListing, Answers}
-use Rattle.frames.specs.Entry.{answerOfReading, callAnswer, partsOf, answerRead, answerMeasured, unchangedAtOnce, PartsReady, Answerable, Cuttable}
+use Rattle.frames.specs.Entry.{answerOfReading, frameCallAnswer, partsOf, answerRead, answerMeasured, unchangedAtOnce, PartsReady, Answerable, Cuttable}
 use Rattle.frames.proofs.Listings.{routed-as, listed-append, routed-fits, listed-fits, NextPart, next-part, part-next, part-room}
 use Rattle.frames.proofs.Sizes.{parts-fit}
 
@@ -302,10 +302,12 @@ call-accepts frame n a =
     let c = call-read frame n (t .value) (t .rest) (t .is) in
     (rw (c .0), rw (c .0) (c .1))
 
-pub call-answers : (frame out out′ : List ℕ) (r : ℕ) → Accepted (readCall frame (length out)) → Answers (answerRead (readFrame frame)) out r out′ → (Answered r ≡ callAnswer frame out) × (out′ ≡ callOutput frame out)
+pub call-answers : (frame out out′ : List ℕ) (r : ℕ) → Accepted (readCall frame (length out))
+    → Answers (answerRead (readFrame frame)) out r out′ → (Answered r ≡ frameCallAnswer frame out) × (out′ ≡ frameCallOutput frame out)
 call-answers frame out out′ r a x = let t = taken (readCall frame (length out)) a in go (t .value) (t .rest) (t .is)
   where
-    go : (f : Frame) (rest : List ℕ) → readCall frame (length out) ≡ read f rest → (Answered r ≡ callAnswer frame out) × (out′ ≡ callOutput frame out)
+    go : (f : Frame) (rest : List ℕ) → readCall frame (length out) ≡ read f rest
+        → (Answered r ≡ frameCallAnswer frame out) × (out′ ≡ frameCallOutput frame out)
     go f rest e =
         let c = call-read frame (length out) f rest e in
         let same : answerRead (readFrame frame) ≡ answerTo f = ap answerRead (c .0) in

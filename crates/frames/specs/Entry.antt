@@ -15,7 +15,8 @@ use Rattle.rings.specs.Rectangle.{isFullyInside}
 use Rattle.rings.specs.Rings.{exterior}
 use Rattle.clip.specs.Polygon.{routeMeasured}
 use Rattle.frame_bytes.specs.declared.head.Head.{Head}
-use Rattle.frame_bytes.specs.Frame.{Reading, refused, read, Accepted, polygon, multipolygon, mostParts, headBytes, refusalNumber, Frame, headOf, readFrame}
+use Rattle.frame_bytes.specs.Frame.{Reading, refused, read, Accepted, polygon, multipolygon, mostParts, headBytes, frameRefusalNumber}
+use Rattle.frame_bytes.specs.Frame.{Frame, headOf, readFrame}
 use Rattle.frame_bytes.specs.Room.{leastRoom, coordinateBytes, frameRoom, readCall}
 use Rattle.frame_bytes.specs.Measure.{frameRect}
 use Rattle.frames.specs.declared.entry.FrameAnswer.{FrameAnswer}
@@ -32,16 +33,13 @@ answerOfReading (refused r) = Refused r
 answerOfReading (read f rest) = Answered (length (frameBytes f))
 
 -- of a frame's bytes and the output
-abbrev pub callAnswer : List ℕ → List ℕ → FrameAnswer
-callAnswer frame out = answerOfReading (readCall frame (length out))
+abbrev pub frameCallAnswer : List ℕ → List ℕ → FrameAnswer
+frameCallAnswer frame out = answerOfReading (readCall frame (length out))
 
 -- the number of each answer where it crosses as one: the count of bytes, or minus the refusal's
-abbrev pub code : FrameAnswer → ℤ
-code (Refused r) = negℤ (pos (refusalNumber r))
-code (Answered n) = pos n
-
-abbrev pub callCode : List ℕ → List ℕ → ℤ
-callCode frame out = code (callAnswer frame out)
+abbrev pub frameCallCode : FrameAnswer → ℤ
+frameCallCode (Refused r) = negℤ (pos (frameRefusalNumber r))
+frameCallCode (Answered n) = pos n
 
 -- the parts of an accepted frame, and its answer; of a refusal there are none, and no function asks: what stands there is of no use
 abbrev pub partsOf : Reading Frame → List (List (List Coord))

@@ -48,5 +48,5 @@ outputAfter (refused r) out = out
 outputAfter (read f rest) out = over (frameBytes f) out
 
 -- of a frame's bytes and the output
-abbrev pub callOutput : List ℕ → List ℕ → List ℕ
-callOutput frame out = outputAfter (readCall frame (length out)) out
+abbrev pub frameCallOutput : List ℕ → List ℕ → List ℕ
+frameCallOutput frame out = outputAfter (readCall frame (length out)) out

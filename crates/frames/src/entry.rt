@@ -5,9 +5,10 @@ ghost use lib.ListN.{length};
 ghost use Rattle.frame_bytes.specs.Frame as F;
 ghost use Rattle.frame_bytes.specs.Room as R;
 ghost use Rattle.frame_bytes.specs.Measure as M;
-ghost use Rattle.frames.specs.Output as O;
+ghost use Rattle.frames.specs.Output.{frameCallOutput};
 ghost use Rattle.frames.specs.Parts as S;
 ghost use Rattle.frames.specs.Entry as Y;
+ghost use Rattle.frames.specs.Entry.{frameCallAnswer};
 use super::parts::answer_in;
 use super::parts::put_alone;
 use clip::polygon::DROPPED;
@@ -192,8 +193,8 @@ fn answer(frame: &[u8], out: &mut [u8]) -> usize
 
 // A refusal leaves the output as it was; an answer stands at its front, and what lies past it stays.
 pub fn frame(frame: &[u8], out: &mut [u8]) -> FrameAnswer
-    ensures { λ r. ⌜ r ≡ Y.callAnswer (now (frame .entry)) (now (out .entry)) ⌝ }
-    ensures { λ _. ⌜ now (out .exit) ≡ O.callOutput (now (frame .entry)) (now (out .entry)) ⌝ }
+    ensures answer { λ r. ⌜ r ≡ frameCallAnswer (now (frame .entry)) (now (out .entry)) ⌝ }
+    ensures lent { λ _. ⌜ now (out .exit) ≡ frameCallOutput (now (frame .entry)) (now (out .entry)) ⌝ }
 {
     if let FrameCheck::Fails(refusal) = check_call(frame, out.len()) {
         return FrameAnswer::Refused(refusal);

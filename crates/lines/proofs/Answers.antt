@@ -7,17 +7,17 @@ use lib.ListN.{length, take, drop, length-append, length-drop, take-append-drop}
 use lib.Seq.{length-take-le, drop-append-le, take-append-seam, drop-append-add, drop-drop}
 use Rattle.binary64.specs.Slices.{over}
 use Rattle.frame_bytes.specs.declared.reader.FrameRefusal.{FrameRefusal}
-use Rattle.frame_bytes.specs.Frame.{Reading, refused, read, Frame, refusalNumber, readFrame}
+use Rattle.frame_bytes.specs.Frame.{Reading, refused, read, Frame, frameRefusalNumber, readFrame}
 use Rattle.frame_bytes.specs.Room.{readCall}
 use Rattle.frame_bytes.proofs.MostRoom.{has-room}
 use Rattle.frames.specs.declared.entry.FrameAnswer.the-variants.{Refused, Answered}
-use Rattle.frames.specs.Output.{outputAfter, callOutput}
-use Rattle.frames.specs.Entry.{answerOfReading, callAnswer}
+use Rattle.frames.specs.Output.{outputAfter, frameCallOutput}
+use Rattle.frames.specs.Entry.{answerOfReading, frameCallAnswer}
 use Rattle.lines.specs.Lines.{newline, lowerHex, hexLine, refusalBytes, readingBytes, frameAnswer}
 use Rattle.lines.specs.State.{answerRoom}
 use Rattle.lines.proofs.Hexadecimal.{length-lowerHex}
 
-refused-reading : (x : Reading Frame) (r : FrameRefusal) (out : List ℕ) → answerOfReading x ≡ Refused r → (refusalBytes (refusalNumber r) ≡ readingBytes x) × (outputAfter x out ≡ out)
+refused-reading : (x : Reading Frame) (r : FrameRefusal) (out : List ℕ) → answerOfReading x ≡ Refused r → (refusalBytes (frameRefusalNumber r) ≡ readingBytes x) × (outputAfter x out ≡ out)
 refused-reading (refused s) r out e = let same : s ≡ r = cc in (rw same, refl)
 refused-reading (read f rest) r out e = absurd (let z : _≡_ {A = ℕ} 0 1 = cc in omega arith)
 
@@ -29,11 +29,11 @@ module _ (frame out : List ℕ) (room : answerRoom ≤ length out) where
   not-short : readCall frame (length out) ≡ readFrame frame
   not-short = has-room frame (length out) (omega (arith, room))
 
-  pub call-refused : (r : FrameRefusal) → callAnswer frame out ≡ Refused r → (refusalBytes (refusalNumber r) ≡ frameAnswer frame) × (callOutput frame out ≡ out)
+  pub call-refused : (r : FrameRefusal) → frameCallAnswer frame out ≡ Refused r → (refusalBytes (frameRefusalNumber r) ≡ frameAnswer frame) × (frameCallOutput frame out ≡ out)
   unfolding frameAnswer
   call-refused r e = rw not-short (refused-reading (readFrame frame) r out (rw not-short at e))
 
-  pub call-answered : (n : ℕ) → callAnswer frame out ≡ Answered n → (n ≡ length (frameAnswer frame)) × (callOutput frame out ≡ over (frameAnswer frame) out)
+  pub call-answered : (n : ℕ) → frameCallAnswer frame out ≡ Answered n → (n ≡ length (frameAnswer frame)) × (frameCallOutput frame out ≡ over (frameAnswer frame) out)
   unfolding frameAnswer
   call-answered n e = rw not-short (answered-reading (readFrame frame) n out (rw not-short at e))
 

@@ -7,14 +7,14 @@ use native.Mathlib.Omega.{arith}
 use lib.Dec.{ltb, eqb}
 use lib.ListN.{length, length-append}
 use borrow.Author.Tests.{lt-ltb, le-ltb, ltb-false}
-use Rattle.frame_bytes.specs.Frame.{longest, shortest, readFrame, refusalNumber}
+use Rattle.frame_bytes.specs.Frame.{longest, shortest, readFrame, frameRefusalNumber}
 use Rattle.frame_bytes.specs.declared.reader.FrameRefusal.the-variants.{Size}
 use Rattle.frame_bytes.specs.Encoding.{each}
 use Rattle.lines.specs.Lines.{newline, inFront, linesOf, digit, isDigit, Decoded, notPairs, bytes, withByte, decode, hexLine, refusalBytes, frameAnswer, notPairsNumber, decodedAnswer, answerLine, printed}
 use Rattle.lines.specs.State.{State, notDigits, whole, half, long, start, takeDigit, after, endAnswer, endLine, endOfInput, stateAfter, printedBy}
 
 -- a frame over the longest is answered 11
-too-long : (l : List ℕ) → longest < length l → refusalBytes (refusalNumber Size) ≡ frameAnswer l
+too-long : (l : List ℕ) → longest < length l → refusalBytes (frameRefusalNumber Size) ≡ frameAnswer l
 unfolding frameAnswer readFrame
 too-long l h =
     let n : shortest ≤ length l = omega arith in
@@ -47,7 +47,7 @@ spoilt (b ∷ line) = rw (stays-spoilt b (isDigit b) refl) (spoilt line)
 -- a line that has more bytes than the longest frame already
 longAnswer : Decoded → List ℕ
 longAnswer notPairs = refusalBytes notPairsNumber
-longAnswer (bytes l) = refusalBytes (refusalNumber Size)
+longAnswer (bytes l) = refusalBytes (frameRefusalNumber Size)
 
 long-byte : (x : ℕ) (d : Decoded) → longAnswer d ≡ longAnswer (withByte true x d)
 unfolding longAnswer

@@ -5,7 +5,7 @@ use mathlib.Core.List.{List, [], _∷_, _++_}
 use Prim.Native.Nat.{ℕ, _+_, _*_, _-_, _/_, _%_, _<_}
 use lib.Dec.{ltb, leb, eqb}
 use lib.ListN.{getD}
-use Rattle.frame_bytes.specs.Frame.{Reading, refused, read, Frame, refusalNumber, readFrame}
+use Rattle.frame_bytes.specs.Frame.{Reading, refused, read, Frame, frameRefusalNumber, readFrame}
 use Rattle.frame_bytes.specs.Encoding.{each}
 use Rattle.frames.specs.Output.{frameBytes}
 
@@ -73,7 +73,7 @@ refusalBytes number = number ∷ 0 ∷ 0 ∷ 0 ∷ 0 ∷ []
 
 -- the bytes of what a frame is answered; 22 does not arise, as the output that the program lends is never too short
 abbrev pub readingBytes : Reading Frame → List ℕ
-readingBytes (refused r) = refusalBytes (refusalNumber r)
+readingBytes (refused r) = refusalBytes (frameRefusalNumber r)
 readingBytes (read f rest) = frameBytes f
 
 unfoldable pub frameAnswer : List ℕ → List ℕ

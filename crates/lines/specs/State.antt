@@ -7,7 +7,7 @@ use Prim.Native.Nat.{ℕ, suc, _+_, _*_, _-_, _%_, _≤_, _<_}
 use lib.Dec.{ltb, leb, eqb}
 use lib.ListN.{length, getD, take, drop}
 use Rattle.binary64.specs.Slices.{over}
-use Rattle.frame_bytes.specs.Frame.{longest, refusalNumber}
+use Rattle.frame_bytes.specs.Frame.{longest, frameRefusalNumber}
 use Rattle.frame_bytes.specs.declared.reader.FrameRefusal.the-variants.{Size}
 use Rattle.lines.specs.declared.line.Line.{Line}
 use Rattle.lines.specs.declared.line.Line.the-variants as Held
@@ -42,7 +42,7 @@ endAnswer notDigits = refusalBytes notPairsNumber
 endAnswer (whole l) = frameAnswer l
 endAnswer (half l high) = refusalBytes notPairsNumber
 endAnswer (long true) = refusalBytes notPairsNumber
-endAnswer (long false) = refusalBytes (refusalNumber Size)
+endAnswer (long false) = refusalBytes (frameRefusalNumber Size)
 
 abbrev pub endLine : State → List ℕ
 endLine st = hexLine (endAnswer st)

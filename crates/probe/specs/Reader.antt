@@ -2,8 +2,8 @@
 use Prim.Native.Nat.{ℕ}
 use Rattle.frame_bytes.specs.declared.reader.FrameCheck.{FrameCheck}
 use Rattle.frame_bytes.specs.declared.reader.FrameCheck.the-variants.{Fails, Passes}
-use Rattle.frame_bytes.specs.Frame.{refusalNumber}
+use Rattle.frame_bytes.specs.Frame.{frameRefusalNumber}
 
 abbrev pub checkCode : FrameCheck → ℕ
-checkCode (Fails r) = refusalNumber r
+checkCode (Fails r) = frameRefusalNumber r
 checkCode Passes = 0

@@ -1,10 +1,11 @@
 // Functions of the lower crates, exported for the comparison with the Rust. For tests only: nothing here is shipped.
 ghost use mathlib.Core.Path.{_≡_};
 ghost use lib.Ieee.{nan};
-ghost use lib.ListN.{length, getD, set};
-ghost use Rattle.tile.specs.Bounds as B;
-ghost use Rattle.sutherland_hodgman.specs.Call as C;
-ghost use Rattle.probe.specs.Numbers as S;
+ghost use lib.ListN.{getD, set};
+ghost use Rattle.tile.specs.Bounds.{empty, isValid, expand, intersect, width, height, buffered};
+ghost use Rattle.sutherland_hodgman.specs.Call.{ringSlices, ringCallCheck};
+ghost use Rattle.sutherland_hodgman.specs.Contracts.{ClippedTo};
+ghost use Rattle.probe.specs.Numbers.{boundsAt, stored};
 use sutherland_hodgman::call::Check;
 use sutherland_hodgman::call::check_ring;
 use sutherland_hodgman::call::clip_lent;
@@ -31,7 +32,7 @@ fn set_at(s: &mut [f64], i: usize, x: f64)
 }
 
 fn bounds_at(s: &[f64]) -> TileBounds
-    ensures { λ r. ⌜ r ≡ S.boundsAt (now (s .entry)) ⌝ }
+    ensures { λ r. ⌜ r ≡ boundsAt (now (s .entry)) ⌝ }
 {
     TileBounds::new(
         number_at(s, 0),
@@ -42,7 +43,7 @@ fn bounds_at(s: &[f64]) -> TileBounds
 }
 
 fn store(out: &mut [f64], b: TileBounds)
-    ensures { λ _. ⌜ now (out .exit) ≡ S.stored (now (out .entry)) b ⌝ }
+    ensures { λ _. ⌜ now (out .exit) ≡ stored (now (out .entry)) b ⌝ }
 {
     set_at(out, 0, b.lng_min);
     set_at(out, 1, b.lat_min);
@@ -52,49 +53,49 @@ fn store(out: &mut [f64], b: TileBounds)
 
 #[no_mangle]
 pub extern "C" fn probe_empty(out: &mut [f64])
-    ensures { λ _. ⌜ now (out .exit) ≡ S.stored (now (out .entry)) B.empty ⌝ }
+    ensures { λ _. ⌜ now (out .exit) ≡ stored (now (out .entry)) empty ⌝ }
 {
     store(out, TileBounds::empty());
 }
 
 #[no_mangle]
 pub extern "C" fn probe_is_valid(b: &[f64]) -> bool
-    ensures { λ r. ⌜ r ≡ B.isValid (S.boundsAt (now (b .entry))) ⌝ }
+    ensures { λ r. ⌜ r ≡ isValid (boundsAt (now (b .entry))) ⌝ }
 {
     bounds_at(b).is_valid()
 }
 
 #[no_mangle]
 pub extern "C" fn probe_expand(a: &[f64], b: &[f64], out: &mut [f64])
-    ensures { λ _. ⌜ now (out .exit) ≡ S.stored (now (out .entry)) (B.expand (S.boundsAt (now (a .entry))) (S.boundsAt (now (b .entry)))) ⌝ }
+    ensures { λ _. ⌜ now (out .exit) ≡ stored (now (out .entry)) (expand (boundsAt (now (a .entry))) (boundsAt (now (b .entry)))) ⌝ }
 {
     store(out, bounds_at(a).expand(bounds_at(b)));
 }
 
 #[no_mangle]
 pub extern "C" fn probe_intersect(a: &[f64], b: &[f64], out: &mut [f64])
-    ensures { λ _. ⌜ now (out .exit) ≡ S.stored (now (out .entry)) (B.intersect (S.boundsAt (now (a .entry))) (S.boundsAt (now (b .entry)))) ⌝ }
+    ensures { λ _. ⌜ now (out .exit) ≡ stored (now (out .entry)) (intersect (boundsAt (now (a .entry))) (boundsAt (now (b .entry)))) ⌝ }
 {
     store(out, bounds_at(a).intersect(bounds_at(b)));
 }
 
 #[no_mangle]
 pub extern "C" fn probe_width(b: &[f64]) -> f64
-    ensures { λ r. ⌜ r ≡ B.width (S.boundsAt (now (b .entry))) ⌝ }
+    ensures { λ r. ⌜ r ≡ width (boundsAt (now (b .entry))) ⌝ }
 {
     bounds_at(b).width()
 }
 
 #[no_mangle]
 pub extern "C" fn probe_height(b: &[f64]) -> f64
-    ensures { λ r. ⌜ r ≡ B.height (S.boundsAt (now (b .entry))) ⌝ }
+    ensures { λ r. ⌜ r ≡ height (boundsAt (now (b .entry))) ⌝ }
 {
     bounds_at(b).height()
 }
 
 #[no_mangle]
 pub extern "C" fn probe_buffered(b: &[f64], buffer: f64, out: &mut [f64])
-    ensures { λ _. ⌜ now (out .exit) ≡ S.stored (now (out .entry)) (B.buffered (S.boundsAt (now (b .entry))) buffer) ⌝ }
+    ensures { λ _. ⌜ now (out .exit) ≡ stored (now (out .entry)) (buffered (boundsAt (now (b .entry))) buffer) ⌝ }
 {
     store(out, bounds_at(b).buffered(buffer));
 }
@@ -108,8 +109,8 @@ pub extern "C" fn probe_clip_lent(
     b: &mut [f64],
     out: &mut [f64],
 ) -> usize
-    ensures { λ r. ⌜ (C.checked (length (now (ring .entry))) (length (now (a .entry))) (length (now (b .entry))) (length (now (out .entry))) ≡ Check.Passes
-        → C.ClippedTo (now (ring .entry)) (S.boundsAt (now (bounds .entry))) (now (out .entry)) r (now (out .exit))) ⌝ }
+    ensures { λ r. ⌜ (ringCallCheck (now (ring .entry)) (ringSlices (now (a .entry)) (now (b .entry)) (now (out .entry))) ≡ Check.Passes
+        → ClippedTo (now (ring .entry)) (boundsAt (now (bounds .entry))) (now (out .entry)) r (now (out .exit))) ⌝ }
 {
     match check_ring(ring.len(), a.len(), b.len(), out.len()) {
         Check::Fails(_) => 0,

@@ -10,14 +10,14 @@ use Rattle.sutherland_hodgman.specs.declared.call.Refusal.the-variants.{Lengths
 use Rattle.clip.specs.declared.polygon.Flags.{Flags}
 use Rattle.slices.specs.declared.call.SliceAnswer.{SliceAnswer}
 use Rattle.slices.specs.declared.call.SliceAnswer.the-variants.{Refused, Answered}
-use Rattle.slices.specs.Slice.{answered, checked, routeLent, code}
+use Rattle.slices.specs.Slice.{PolygonSlices, sliceCallAnswer, sliceCallCode}
 use Rattle.slices.proofs.Answers.{answer-below}
 use Rattle.replay.specs.Code.{bitsOf}
 
-module _ (flags : Flags) (bounds : TileBounds) (buffer : Float) (s : List Float) (ns : List ℕ) (a b order out lens : ℕ) where
-  pub slice-fits : (r : SliceAnswer) → r ≡ answered (checked s ns a b order out lens) (routeLent flags bounds buffer s ns) → bitsOf (code r) < 2 ^ 64
+module _ (flags : Flags) (bounds : TileBounds) (buffer : Float) (s : List Float) (ns : List ℕ) (lent : PolygonSlices) where
+  pub slice-fits : (r : SliceAnswer) → r ≡ sliceCallAnswer flags bounds buffer s ns lent → bitsOf (sliceCallCode r) < 2 ^ 64
   slice-fits (Refused Lengths) e = lit< tt
   slice-fits (Refused Coordinates) e = lit< tt
   slice-fits (Refused Scratch) e = lit< tt
   slice-fits (Refused Output) e = lit< tt
-  slice-fits (Answered answer) e = omega (arith, answer-below flags bounds buffer s ns a b order out lens answer (sym e))
+  slice-fits (Answered answer guards) e = omega (arith, answer-below flags bounds buffer s ns lent answer guards (sym e))

@@ -4,14 +4,10 @@ use mathlib.Core.List.{List}
 use Prim.Native.Nat.{ℕ}
 use lib.Dec.{eqb, leb}
 use lib.Ieee.{Float}
-use lib.ListN.{length, replicate}
-use Rattle.binary64.specs.Slices.{zeros, over}
 use Rattle.tile.specs.declared.TileBounds.{TileBounds}
-use Rattle.tile.specs.Ring as T
-use Rattle.sutherland_hodgman.specs.Clip.{clipRing}
-use Rattle.sutherland_hodgman.specs.Call as C
+use Rattle.sutherland_hodgman.specs.Call.{RingSlices, ringSlices, ringCallAnswer, ringCallCode, ringCallSlices}
 use Rattle.clip.specs.declared.polygon.Flags.{Flags}
-use Rattle.slices.specs.Slice as P
+use Rattle.slices.specs.Slice.{PolygonSlices, polygonSlices, sliceCallAnswer, sliceCallCode, sliceCallSlices}
 use Rattle.replay.specs.declared.code.Outcome.{Outcome}
 use Rattle.replay.specs.declared.code.Outcome.the-variants.{Same, Differs, Broken}
 use Rattle.replay.specs.declared.ring_calls.Head as RingHead
@@ -31,18 +27,18 @@ unfoldable pub wholesAgree : Bool → List ℕ → List ℕ → List ℕ → Boo
 wholesAgree refused order outLengths expected = areAll order (orderAfter refused) && holds wholeMark expected outLengths
 
 -- a ring call
-unfoldable pub ringAgrees : ℕ → List Float → List Float → TileBounds → List Float → List Float → List Float → Bool
-ringAgrees code expected ring bounds a b out =
-    let answer = C.ringAnswer ring bounds (length a) (length b) (length out) in
-    answerAgrees (bitsOf (C.code answer)) code (C.scratchAfter answer a) (C.scratchAfter answer b) (C.outputAfter answer (clipRing bounds (T.coords ring)) out) expected
+unfoldable pub ringAgrees : ℕ → List Float → List Float → TileBounds → RingSlices → Bool
+ringAgrees code expected ring bounds lent =
+    let after = ringCallSlices ring bounds lent in
+    answerAgrees (bitsOf (ringCallCode (ringCallAnswer ring bounds lent))) code (after .first) (after .second) (after .output) expected
 
 -- a slice call
-unfoldable pub sliceAgrees : ℕ → List Float → List ℕ → Flags → TileBounds → Float → List Float → List ℕ → List Float → List Float → List ℕ → List Float → List ℕ → Bool
-sliceAgrees code expected expectedLengths flags bounds buffer coords lengths a b order out outLengths =
-    let check = P.checked coords lengths (length a) (length b) (length order) (length out) (length outLengths) in
-    let to = P.routeLent flags bounds buffer coords lengths in
-    answerAgrees (bitsOf (P.code (P.answered check to))) code (P.ifPassed check a (zeros (length a))) (P.ifPassed check b (zeros (length b))) (P.ifPassed check out (over (P.numbersOf (P.writtenRings to)) out)) expected
-    && wholesAgree (isRefusal code) (P.ifPassed check order (replicate (length order) 0)) (P.ifPassed check outLengths (over (P.lengthsOf (P.writtenRings to)) outLengths)) expectedLengths
+unfoldable pub sliceAgrees : ℕ → List Float → List ℕ → Flags → TileBounds → Float → List Float → List ℕ → PolygonSlices → Bool
+sliceAgrees code expected expectedLengths flags bounds buffer coords lengths lent =
+    let answer = sliceCallAnswer flags bounds buffer coords lengths lent in
+    let after = sliceCallSlices flags bounds buffer coords lengths lent in
+    answerAgrees (bitsOf (sliceCallCode answer)) code (after .first) (after .second) (after .output) expected
+    && wholesAgree (isRefusal code) (after .order) (after .outLengths) expectedLengths
 
 -- ---- what becomes of a vector
 
@@ -56,15 +52,19 @@ unfoldable pub ringRoom : RingHead.Head → Bool
 ringRoom head = leb (head .a) room && (leb (head .b) room && leb (head .out) room)
 
 unfoldable pub sliceRoom : SliceHead.Head → Bool
-sliceRoom head = leb (head .a) room && (leb (head .b) room && (leb (head .order) room && (leb (head .out) room && leb (head .«out_lengths») room)))
+sliceRoom head =
+    leb (head .a) room && (leb (head .b) room && (leb (head .order) room && (leb (head .out) room && leb (head .«out_lengths») room)))
 
 -- of a ring call, or a slice call, with what was kept of it
 unfoldable pub ringOutcome : RingHead.Head → ℕ → List Float → List Float → Outcome
-ringOutcome head code ring expected = outcome (ringRoom head) (ringAgrees code expected ring (head .bounds) (marks (head .a)) (marks (head .b)) (marks (head .out))) code
+ringOutcome head code ring expected =
+    let lent = ringSlices (marks (head .a)) (marks (head .b)) (marks (head .out)) in
+    outcome (ringRoom head) (ringAgrees code expected ring (head .bounds) lent) code
 
 unfoldable pub sliceOutcome : SliceHead.Head → ℕ → List Float → List ℕ → List Float → List ℕ → Outcome
 sliceOutcome head code coords lengths expected expectedLengths =
+    let outLengths = wholeMarks (head .«out_lengths») in
+    let lent = polygonSlices (marks (head .a)) (marks (head .b)) (wholeMarks (head .order)) (marks (head .out)) outLengths in
     outcome (sliceRoom head)
-    (sliceAgrees code expected expectedLengths (head .flags) (head .bounds) (head .buffer) coords lengths
-    (marks (head .a)) (marks (head .b)) (wholeMarks (head .order)) (marks (head .out)) (wholeMarks (head .«out_lengths»)))
+    (sliceAgrees code expected expectedLengths (head .flags) (head .bounds) (head .buffer) coords lengths lent)
     code

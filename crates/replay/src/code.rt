@@ -1,9 +1,9 @@
 // Answers as they cross in the exported calls: an i64, here by its bits, so that minus a refusal's number is a number from the top.
 ghost use mathlib.Core.Path.{_≡_};
 ghost use Prim.Native.Nat.{_^_, _<_};
-ghost use Rattle.sutherland_hodgman.specs.Call as C;
-ghost use Rattle.slices.specs.Slice as P;
-ghost use Rattle.replay.specs.Code as S;
+ghost use Rattle.sutherland_hodgman.specs.Call.{ringCallCode};
+ghost use Rattle.slices.specs.Slice.{answerCode, sliceCallCode};
+ghost use Rattle.replay.specs.Code.{bitsOf, isRefusal, numbersOf, ringsOf};
 use clip::polygon::PolygonAnswer;
 use clip::polygon::reason_number;
 use slices::call::SliceAnswer;
@@ -21,13 +21,13 @@ pub enum Outcome {
 const LARGEST: u64 = 0x7fff_ffff_ffff_ffff;
 
 pub fn is_refusal(code: u64) -> bool
-    ensures { λ r. ⌜ r ≡ S.isRefusal code ⌝ }
+    ensures { λ r. ⌜ r ≡ isRefusal code ⌝ }
 {
     code > LARGEST
 }
 
 fn of_refusal(refusal: Refusal) -> u64
-    ensures { λ r. ⌜ r ≡ S.bitsOf (C.code (RingAnswer.Refused refusal)) ⌝ }
+    ensures { λ r. ⌜ r ≡ bitsOf (ringCallCode (RingAnswer.Refused refusal)) ⌝ }
 {
     match refusal {
         Refusal::Lengths => u64::MAX - 18,
@@ -38,7 +38,7 @@ fn of_refusal(refusal: Refusal) -> u64
 }
 
 pub fn of_ring(answer: RingAnswer) -> u64
-    ensures { λ r. ⌜ r ≡ S.bitsOf (C.code answer) ⌝ }
+    ensures { λ r. ⌜ r ≡ bitsOf (ringCallCode answer) ⌝ }
 {
     match answer {
         RingAnswer::Refused(refusal) => of_refusal(refusal),
@@ -48,7 +48,7 @@ pub fn of_ring(answer: RingAnswer) -> u64
 
 // The numbers that a ring call with this answer writes.
 pub fn numbers_of(code: u64) -> usize
-    ensures { λ r. ⌜ r ≡ S.numbersOf code ⌝ }
+    ensures { λ r. ⌜ r ≡ numbersOf code ⌝ }
 {
     if is_refusal(code) {
         return 0;
@@ -57,8 +57,8 @@ pub fn numbers_of(code: u64) -> usize
 }
 
 fn of_polygon(answer: PolygonAnswer) -> u64
-    requires { ⌜ P.answerCode answer < 2 ^ 64 ⌝ }
-    ensures { λ r. ⌜ r ≡ P.answerCode answer ⌝ }
+    requires { ⌜ answerCode answer < 2 ^ 64 ⌝ }
+    ensures { λ r. ⌜ r ≡ answerCode answer ⌝ }
 {
     match answer {
         PolygonAnswer::Nothing => 0,
@@ -70,18 +70,18 @@ fn of_polygon(answer: PolygonAnswer) -> u64
 }
 
 pub fn of_slice(answer: SliceAnswer) -> u64
-    requires { ⌜ S.bitsOf (P.code answer) < 2 ^ 64 ⌝ }
-    ensures { λ r. ⌜ r ≡ S.bitsOf (P.code answer) ⌝ }
+    requires { ⌜ bitsOf (sliceCallCode answer) < 2 ^ 64 ⌝ }
+    ensures { λ r. ⌜ r ≡ bitsOf (sliceCallCode answer) ⌝ }
 {
     match answer {
         SliceAnswer::Refused(refusal) => of_refusal(refusal),
-        SliceAnswer::Answered(polygon) => of_polygon(polygon),
+        SliceAnswer::Answered(polygon, guards) => of_polygon(polygon),
     }
 }
 
 // The rings that a slice call with this answer writes.
 pub fn rings_of(code: u64) -> usize
-    ensures { λ r. ⌜ r ≡ S.ringsOf code ⌝ }
+    ensures { λ r. ⌜ r ≡ ringsOf code ⌝ }
 {
     if is_refusal(code) {
         return 0;

@@ -1,7 +1,8 @@
 // Ring calls, each held to its answer and to what that answer leaves in the lent slices.
 ghost use mathlib.Core.Path.{_≡_};
 ghost use lib.ListN.{length};
-ghost use Rattle.replay.specs.Calls as S;
+ghost use Rattle.sutherland_hodgman.specs.Call.{ringSlices};
+ghost use Rattle.replay.specs.Calls.{ringAgrees, ringRoom, ringOutcome};
 use super::code::Outcome;
 use super::code::numbers_of;
 use super::code::of_ring;
@@ -58,7 +59,8 @@ fn agrees(
     out: &mut [f64],
     expected: &[f64],
 ) -> bool
-    ensures { λ r. ⌜ r ≡ S.ringAgrees code (now (expected .entry)) (now (lent .entry)) bounds (now (a .entry)) (now (b .entry)) (now (out .entry)) ⌝ }
+    ensures { λ r. ⌜ r ≡ ringAgrees code (now (expected .entry)) (now (lent .entry)) bounds
+        (ringSlices (now (a .entry)) (now (b .entry)) (now (out .entry))) ⌝ }
 {
     let given = of_ring(ring(lent, bounds, a, b, out));
     answer_agrees(given, code, a, b, out, expected)
@@ -66,7 +68,7 @@ fn agrees(
 
 // Whether the slices that are lent to be written have room.
 fn has_room(head: Head) -> bool
-    ensures { λ r. ⌜ r ≡ S.ringRoom head ⌝ }
+    ensures { λ r. ⌜ r ≡ ringRoom head ⌝ }
 {
     if head.a > ROOM {
         return false;
@@ -78,7 +80,7 @@ fn has_room(head: Head) -> bool
 }
 
 fn call(head: Head, code: u64, lent: &[f64], expected: &[f64]) -> Outcome
-    ensures { λ r. ⌜ r ≡ S.ringOutcome head code (now (lent .entry)) (now (expected .entry)) ⌝ }
+    ensures { λ r. ⌜ r ≡ ringOutcome head code (now (lent .entry)) (now (expected .entry)) ⌝ }
 {
     if !has_room(head) {
         return Outcome::Broken;

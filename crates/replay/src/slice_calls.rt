@@ -4,8 +4,9 @@ ghost use mathlib.Core.Bool.{_&&_};
 ghost use Prim.Native.Nat.{_^_, _<_};
 ghost use lib.ListN.{length};
 ghost use Rattle.replay.specs.Code.{isRefusal};
-ghost use Rattle.replay.specs.Lent as L;
-ghost use Rattle.replay.specs.Calls as S;
+ghost use Rattle.slices.specs.Slice.{polygonSlices};
+ghost use Rattle.replay.specs.Lent.{numbersIn};
+ghost use Rattle.replay.specs.Calls.{answerAgrees, wholesAgree, sliceAgrees, sliceRoom, sliceOutcome};
 use super::code::Outcome;
 use super::code::is_refusal;
 use super::code::of_slice;
@@ -97,7 +98,8 @@ fn slices_agree(
     expected: &[f64],
     expected_lengths: &[u32],
 ) -> bool
-    ensures { λ r. ⌜ r ≡ S.answerAgrees given code (now (a .entry)) (now (b .entry)) (now (out .entry)) (now (expected .entry)) && S.wholesAgree (isRefusal code) (now (order .entry)) (now («out_lengths» .entry)) (now («expected_lengths» .entry)) ⌝ }
+    ensures { λ r. ⌜ r ≡ answerAgrees given code (now (a .entry)) (now (b .entry)) (now (out .entry)) (now (expected .entry))
+        && wholesAgree (isRefusal code) (now (order .entry)) (now («out_lengths» .entry)) (now («expected_lengths» .entry)) ⌝ }
 {
     if !answer_agrees(given, code, a, b, out, expected) {
         return false;
@@ -118,7 +120,9 @@ fn agrees(
     expected: &[f64],
     expected_lengths: &[u32],
 ) -> bool
-    ensures { λ r. ⌜ r ≡ S.sliceAgrees code (now (expected .entry)) (now («expected_lengths» .entry)) (head .flags) (head .bounds) (head .buffer) (now (coords .entry)) (now (lengths .entry)) (now (a .entry)) (now (b .entry)) (now (order .entry)) (now (out .entry)) (now («out_lengths» .entry)) ⌝ }
+    ensures { λ r. ⌜ r ≡ sliceAgrees code (now (expected .entry)) (now («expected_lengths» .entry)) (head .flags) (head .bounds)
+        (head .buffer) (now (coords .entry)) (now (lengths .entry))
+        (polygonSlices (now (a .entry)) (now (b .entry)) (now (order .entry)) (now (out .entry)) (now («out_lengths» .entry))) ⌝ }
 {
     let answer = polygon(
         head.flags,
@@ -147,7 +151,7 @@ fn agrees(
 
 // Whether the slices that are lent to be written have room.
 fn has_room(head: Head) -> bool
-    ensures { λ r. ⌜ r ≡ S.sliceRoom head ⌝ }
+    ensures { λ r. ⌜ r ≡ sliceRoom head ⌝ }
 {
     if head.a > ROOM {
         return false;
@@ -172,7 +176,8 @@ fn call(
     expected: &[f64],
     expected_lengths: &[u32],
 ) -> Outcome
-    ensures { λ r. ⌜ r ≡ S.sliceOutcome head code (now (coords .entry)) (now (lengths .entry)) (now (expected .entry)) (now («expected_lengths» .entry)) ⌝ }
+    ensures { λ r. ⌜ r ≡ sliceOutcome head code (now (coords .entry)) (now (lengths .entry)) (now (expected .entry))
+        (now («expected_lengths» .entry)) ⌝ }
 {
     if !has_room(head) {
         return Outcome::Broken;
@@ -213,7 +218,7 @@ fn wide(x: u32) -> usize
 
 // The numbers of rings with these lengths; where they have no room, one more than that.
 fn numbers_in(lengths: &[u32]) -> usize
-    ensures { λ r. ⌜ r ≡ L.numbersIn (now (lengths .entry)) ⌝ }
+    ensures { λ r. ⌜ r ≡ numbersIn (now (lengths .entry)) ⌝ }
 {
     let mut sum = 0usize;
     let mut i = 0usize;

@@ -13,18 +13,18 @@ use Rattle.sutherland_hodgman.specs.declared.call.Refusal.{Refusal}
 use Rattle.sutherland_hodgman.specs.declared.call.Refusal.the-variants.{Lengths, Coordinates, Scratch, Output}
 use Rattle.sutherland_hodgman.specs.declared.call.RingAnswer.the-variants.{Refused}
 use Rattle.sutherland_hodgman.specs.Growth.{mostCoordinates}
-use Rattle.sutherland_hodgman.specs.Call.{code}
+use Rattle.sutherland_hodgman.specs.Call.{ringCallCode}
 use Rattle.frame_bytes.specs.declared.reader.FrameRefusal.{FrameRefusal}
 use Rattle.frame_bytes.specs.declared.reader.FrameRefusal.the-variants as Frames
-use Rattle.frame_bytes.specs.Frame.{refusalNumber}
+use Rattle.frame_bytes.specs.Frame.{frameRefusalNumber}
 use Rattle.frames.specs.declared.entry.FrameAnswer.the-variants.{Answered}
-use Rattle.frames.specs.Entry.{callAnswer}
+use Rattle.frames.specs.Entry.{frameCallAnswer}
 use Rattle.frames.proofs.Entries.{answered-few}
 
 pub count-fits : (n : ℕ) → n ≤ 8 * mostCoordinates → SFits w64 (pos n)
 count-fits n h = sfits-of (omega arith)
 
-pub refusal-fits : (r : Refusal) → SFits w64 (code (Refused r))
+pub refusal-fits : (r : Refusal) → SFits w64 (ringCallCode (Refused r))
 refusal-fits Lengths = sfits-of (lit< tt)
 refusal-fits Coordinates = sfits-of (lit< tt)
 refusal-fits Scratch = sfits-of (lit< tt)
@@ -32,8 +32,8 @@ refusal-fits Output = sfits-of (lit< tt)
 
 -- the same of a frame call: minus the refusal's number, as it is computed, and the count
 pub record Negated (r : FrameRefusal) : Type 0 where
-  pub fits : SFits w64 (pos 0 -ℤ toZ w64 (refusalNumber r))
-  pub value : toZ w64 (ofZ w64 (pos 0 -ℤ toZ w64 (refusalNumber r))) ≡ negℤ (pos (refusalNumber r))
+  pub fits : SFits w64 (pos 0 -ℤ toZ w64 (frameRefusalNumber r))
+  pub value : toZ w64 (ofZ w64 (pos 0 -ℤ toZ w64 (frameRefusalNumber r))) ≡ negℤ (pos (frameRefusalNumber r))
 
 pub negated : (r : FrameRefusal) → Negated r
 negated Frames.Size = record { fits = sfits-of (lit< tt); value = refl }
@@ -46,5 +46,5 @@ negated Frames.CoordinateCount = record { fits = sfits-of (lit< tt); value = ref
 negated Frames.Trailing = record { fits = sfits-of (lit< tt); value = refl }
 negated Frames.Output = record { fits = sfits-of (lit< tt); value = refl }
 
-pub bytes-fit : (frame out : List ℕ) (n : ℕ) → callAnswer frame out ≡ Answered n → SFits w64 (pos n)
+pub bytes-fit : (frame out : List ℕ) (n : ℕ) → frameCallAnswer frame out ≡ Answered n → SFits w64 (pos n)
 bytes-fit frame out n e = sfits-of (omega (arith, answered-few frame (length out) n e))

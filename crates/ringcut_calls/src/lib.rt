@@ -1,12 +1,13 @@
-// The calls that C and Rust programs link, in one static library. A slice crosses as a pointer and a length, of which include/ringcut.h says what they must be; a refusal is answered as minus its number.
+// The calls that C and Rust programs link, in one static library. A slice crosses as a pointer and a length, of which include/ringcut.h
+// says what they must be; a refusal is answered as minus its number.
 ghost use mathlib.Core.Path.{_≡_};
 ghost use Prim.Native.Nat.{_^_, _<_};
-ghost use lib.ListN.{length};
 ghost use Rattle.tile.specs.Bounds.{newOf};
-ghost use Rattle.sutherland_hodgman.specs.Call as S;
-ghost use Rattle.slices.specs.Slice as P;
-ghost use Rattle.frames.specs.Output as E;
-ghost use Rattle.frames.specs.Entry as F;
+ghost use Rattle.sutherland_hodgman.specs.Call.{ringSlices, ringCallAnswer, ringCallCode, ringCallSlices, RingCallPromise};
+ghost use Rattle.slices.specs.Slice.{polygonSlices, sliceCallAnswer, sliceCallSlices};
+ghost use Rattle.slices.specs.Slice.{answerCode, sliceCallCode, sliceCallGuards, guardsIn};
+ghost use Rattle.frames.specs.Output.{frameCallOutput};
+ghost use Rattle.frames.specs.Entry.{frameCallAnswer, frameCallCode};
 ghost use Rattle.ringcut_calls.specs.Flags.{isSet, flagsOf};
 use clip::polygon::CUT;
 use clip::polygon::DROPPED;
@@ -25,7 +26,7 @@ use tile::TileBounds;
 
 // Minus the number of a refusal.
 fn refusal_code(r: Refusal) -> i64
-    ensures { λ c. ⌜ c ≡ S.code (RingAnswer.Refused r) ⌝ }
+    ensures { λ c. ⌜ c ≡ ringCallCode (RingAnswer.Refused r) ⌝ }
 {
     match r {
         Refusal::Lengths => -19,
@@ -35,7 +36,8 @@ fn refusal_code(r: Refusal) -> i64
     }
 }
 
-// The ring call: the count of coordinates of the cut ring, or minus the refusal. A NaN stands exactly where the definition has one, and its bits are free.
+// The ring call: the count of coordinates of the cut ring, or minus the refusal. A NaN stands exactly where the definition has one, and
+// its bits are free.
 #[no_mangle]
 pub extern "C" fn ringcut_ring(
     ring: &[f64],
@@ -47,10 +49,14 @@ pub extern "C" fn ringcut_ring(
     scratch_b: &mut [f64],
     out: &mut [f64],
 ) -> i64
-    ensures { λ c. ⌜ c ≡ S.code (S.ringAnswer (now (ring .entry)) (newOf west south east north) (length (now («scratch_a» .entry))) (length (now («scratch_b» .entry))) (length (now (out .entry)))) ⌝ }
-    ensures { λ _. ⌜ S.Done (now (ring .entry)) (newOf west south east north) (now («scratch_a» .entry)) (now («scratch_b» .entry)) (now (out .entry))
-        (S.ringAnswer (now (ring .entry)) (newOf west south east north) (length (now («scratch_a» .entry))) (length (now («scratch_b» .entry))) (length (now (out .entry))))
-        (now («scratch_a» .exit)) (now («scratch_b» .exit)) (now (out .exit)) ⌝ }
+    ensures answer { λ c. ⌜ c ≡ ringCallCode (ringCallAnswer (now (ring .entry)) (newOf west south east north)
+        (ringSlices (now («scratch_a» .entry)) (now («scratch_b» .entry)) (now (out .entry)))) ⌝ }
+    ensures lent { λ _. ⌜ ringSlices (now («scratch_a» .exit)) (now («scratch_b» .exit)) (now (out .exit))
+        ≡ ringCallSlices (now (ring .entry)) (newOf west south east north)
+        (ringSlices (now («scratch_a» .entry)) (now («scratch_b» .entry)) (now (out .entry))) ⌝ }
+    ensures promise { λ _. ⌜ RingCallPromise (now (ring .entry)) (newOf west south east north)
+        (ringCallAnswer (now (ring .entry)) (newOf west south east north)
+        (ringSlices (now («scratch_a» .entry)) (now («scratch_b» .entry)) (now (out .entry)))) (now (out .exit)) ⌝ }
 {
     let bounds = TileBounds::new(west, south, east, north);
     match sutherland_hodgman::call::ring(ring, bounds, scratch_a, scratch_b, out) {
@@ -61,8 +67,8 @@ pub extern "C" fn ringcut_ring(
 
 // An answer as one number: what it is, 256 times the reason of an overlay, 65,536 times the count of a cut's rings.
 fn answer_code(answer: PolygonAnswer) -> usize
-    requires { ⌜ P.answerCode answer < 2 ^ 32 ⌝ }
-    ensures { λ r. ⌜ r ≡ P.answerCode answer ⌝ }
+    requires { ⌜ answerCode answer < 2 ^ 32 ⌝ }
+    ensures { λ r. ⌜ r ≡ answerCode answer ⌝ }
 {
     match answer {
         PolygonAnswer::Nothing => NOTHING as usize,
@@ -80,7 +86,8 @@ fn is_set(flag: u8) -> bool
     flag != 0
 }
 
-// The slice call: the answer's code, or minus the refusal. A NaN stands exactly where the definition has one, and its bits are free.
+// The slice call: the answer's code, which tells the guard count too, or minus the refusal. A NaN stands exactly where the definition has
+// one, and its bits are free.
 #[no_mangle]
 pub extern "C" fn ringcut_polygon(
     assume_simple: u8,
@@ -98,12 +105,19 @@ pub extern "C" fn ringcut_polygon(
     out: &mut [f64],
     out_lengths: &mut [u32],
 ) -> i64
-    ensures { λ c. ⌜ c ≡ P.code (P.answered (P.checked (now (coords .entry)) (now (lengths .entry)) (length (now («scratch_a» .entry))) (length (now («scratch_b» .entry))) (length (now (order .entry))) (length (now (out .entry))) (length (now («out_lengths» .entry))))
-        (P.routeLent (flagsOf «assume_simple» «skip_boundary_fallback») (newOf west south east north) buffer (now (coords .entry)) (now (lengths .entry)))) ⌝ }
-    ensures { λ _. ⌜ P.Done (P.checked (now (coords .entry)) (now (lengths .entry)) (length (now («scratch_a» .entry))) (length (now («scratch_b» .entry))) (length (now (order .entry))) (length (now (out .entry))) (length (now («out_lengths» .entry))))
-        (P.routeLent (flagsOf «assume_simple» «skip_boundary_fallback») (newOf west south east north) buffer (now (coords .entry)) (now (lengths .entry)))
-        (now («scratch_a» .entry)) (now («scratch_b» .entry)) (now (order .entry)) (now (out .entry)) (now («out_lengths» .entry))
-        (now («scratch_a» .exit)) (now («scratch_b» .exit)) (now (order .exit)) (now (out .exit)) (now («out_lengths» .exit)) ⌝ }
+    ensures answer { λ c. ⌜ c ≡ sliceCallCode (sliceCallAnswer
+        (flagsOf «assume_simple» «skip_boundary_fallback») (newOf west south east north) buffer (now (coords .entry)) (now (lengths .entry))
+        (polygonSlices (now («scratch_a» .entry)) (now («scratch_b» .entry))
+        (now (order .entry)) (now (out .entry)) (now («out_lengths» .entry)))) ⌝ }
+    ensures guards { λ c. ⌜ guardsIn c ≡ sliceCallGuards (sliceCallAnswer
+        (flagsOf «assume_simple» «skip_boundary_fallback») (newOf west south east north) buffer (now (coords .entry)) (now (lengths .entry))
+        (polygonSlices (now («scratch_a» .entry)) (now («scratch_b» .entry))
+        (now (order .entry)) (now (out .entry)) (now («out_lengths» .entry)))) ⌝ }
+    ensures lent { λ _. ⌜ polygonSlices (now («scratch_a» .exit)) (now («scratch_b» .exit))
+        (now (order .exit)) (now (out .exit)) (now («out_lengths» .exit)) ≡ sliceCallSlices
+        (flagsOf «assume_simple» «skip_boundary_fallback») (newOf west south east north) buffer (now (coords .entry)) (now (lengths .entry))
+        (polygonSlices (now («scratch_a» .entry)) (now («scratch_b» .entry))
+        (now (order .entry)) (now (out .entry)) (now («out_lengths» .entry))) ⌝ }
 {
     let flags = Flags {
         assume_simple: is_set(assume_simple),
@@ -122,15 +136,15 @@ pub extern "C" fn ringcut_polygon(
         out_lengths,
     ) {
         SliceAnswer::Refused(r) => refusal_code(r),
-        SliceAnswer::Answered(answer) => answer_code(answer) as i64,
+        SliceAnswer::Answered(answer, guards) => answer_code(answer) as i64,
     }
 }
 
 // The frame call: the count of the answer's bytes, which stand at the front of the output, or minus the refusal.
 #[no_mangle]
 pub extern "C" fn ringcut_frame(frame: &[u8], out: &mut [u8]) -> i64
-    ensures { λ c. ⌜ c ≡ F.callCode (now (frame .entry)) (now (out .entry)) ⌝ }
-    ensures { λ _. ⌜ now (out .exit) ≡ E.callOutput (now (frame .entry)) (now (out .entry)) ⌝ }
+    ensures answer { λ c. ⌜ c ≡ frameCallCode (frameCallAnswer (now (frame .entry)) (now (out .entry))) ⌝ }
+    ensures lent { λ _. ⌜ now (out .exit) ≡ frameCallOutput (now (frame .entry)) (now (out .entry)) ⌝ }
 {
     match frames::entry::frame(frame, out) {
         FrameAnswer::Refused(r) => -(refusal_number(r) as i64),

@@ -1,15 +1,20 @@
--- The number of an answer is small: a cut has at most as many rings as the polygon. Assumes nothing.
+-- The answer of a slice call and what it leaves; its number is small, as a cut has at most as many rings as the polygon, and tells the
+-- guard count. Assumes nothing.
 use mathlib.Core.Path.{_≡_, refl}
 use mathlib.Core.Bool.{Bool, true, false, cond}
 use mathlib.Core.List.{List, [], _∷_}
 use Prim.Native.Nat.{ℕ, suc, _^_, _<_, _≤_}
 use native.Mathlib.Omega.{arith}
 use lib.Ieee.{Float}
-use lib.ListN.{length}
+use lib.IntN.{ℤ, pos}
+use lib.ListN.{length, replicate}
+use borrow.Author.Tests.{ne-eqb}
+use Rattle.binary64.specs.Slices.{zeros}
 use Rattle.tile.specs.declared.Coord.{Coord}
 use Rattle.tile.specs.declared.TileBounds.{TileBounds}
 use Rattle.tile.specs.declared.Edge.the-variants.{Left, Right, Bottom, Top}
 use Rattle.tile.specs.Bounds.{buffered}
+use Rattle.sutherland_hodgman.specs.declared.call.Refusal.the-variants as Refusals
 use Rattle.sutherland_hodgman.specs.declared.call.Check.{Check}
 use Rattle.sutherland_hodgman.specs.declared.call.Check.the-variants.{Fails, Passes}
 use Rattle.rings.specs.declared.rectangle.Rect.{Rect}
@@ -24,9 +29,13 @@ use Rattle.clip.specs.declared.polygon.Reason.the-variants as Because
 use Rattle.clip.specs.declared.polygon.Route.{Route}
 use Rattle.clip.specs.declared.polygon.Route.the-variants as To
 use Rattle.clip.specs.declared.polygon.PolygonAnswer.{PolygonAnswer}
-use Rattle.clip.specs.Polygon.{cutHole, unlessNone, cutHoles, cutRings, Routed, dropped, overlay, overlayOrDropped, routed, routeExterior, routeRect, route, reasonNumber, answerOf}
+use Rattle.clip.specs.Polygon.{cutHole, unlessNone, cutHoles, cutRings, overlayOrDropped, routed, routeExterior, routeRect, route}
+use Rattle.clip.specs.Polygon.{Routed, nothing, dropped, unchanged, cut, overlay, reasonNumber, answerOf, guardCount}
+use Rattle.slices.specs.declared.call.SliceAnswer.{SliceAnswer}
 use Rattle.slices.specs.declared.call.SliceAnswer.the-variants.{Answered}
-use Rattle.slices.specs.Slice.{checked, answered, routeLent, answerCode}
+use Rattle.slices.specs.Slice.{PolygonSlices, polygonSlices, sliceCallCheck, routeLent, sliceAnswered, sliceCallAnswer}
+use Rattle.slices.specs.Slice.{polygonSlicesAfter, answerCode, sliceCallCode, sliceCallGuards, guardsIn}
+use Rattle.slices.specs.Contracts.{Filled}
 use Rattle.slices.proofs.Checks.{passes-fit, fitting}
 
 unless-most : (c : List Coord) (l : List (List Coord)) → length (unlessNone c l) ≤ suc (length l)
@@ -72,15 +81,50 @@ module _ (b : TileBounds) (rings : List (List Coord)) (few : length rings ≤ mo
       go Rects.NotFinite = omega arith
       go (Rects.Box w s e n) = routed-below (routeExterior flags (Rects.Box w s e n) b (exterior rings))
 
-pub passed : (c : Check) (to : Routed) (answer : PolygonAnswer) → answered c to ≡ Answered answer → (c ≡ Passes) × (answerOf to ≡ answer)
-passed (Fails r) to answer e = absurd (let z : _≡_ {A = ℕ} 0 1 = cc in omega arith)
-passed Passes to answer e = (refl, cc)
+-- ---- the call
 
-pub answer-below : (flags : Flags) (bounds : TileBounds) (buffer : Float) (s : List Float) (ns : List ℕ) (a b order out lens : ℕ) (answer : PolygonAnswer)
-    → answered (checked s ns a b order out lens) (routeLent flags bounds buffer s ns) ≡ Answered answer → answerCode answer < 2 ^ 32
-unfolding routeLent
-answer-below flags bounds buffer s ns a b order out lens answer e =
-    let p = passed (checked s ns a b order out lens) (routeLent flags bounds buffer s ns) answer e in
-    let l = fitting ns s (passes-fit ns s a b order out lens (p .0)) in
-    let few : length (closedRings ns s) ≤ mostRings = omega (arith, length-closed ns s, l .few) in
-    rw (← p .1) (route-below (buffered bounds buffer) (closedRings ns s) few flags)
+-- what is answered, and what the lent slices hold, where the checks pass
+module _ (c : Check) (to : Routed) (passes : c ≡ Passes) where
+  pub answered : (answer : PolygonAnswer) (guards : ℕ) → answer ≡ answerOf to → guards ≡ guardCount answer
+      → Answered answer guards ≡ sliceAnswered c to
+  answered answer guards ha hg = rw (passes, hg, ha)
+
+  pub written : (lent : PolygonSlices) (a b : List Float) (order : List ℕ) (out : List Float) (lens : List ℕ)
+      → a ≡ zeros (length (lent .first)) → b ≡ zeros (length (lent .second)) → order ≡ replicate (length (lent .order)) 0
+      → Filled to (lent .output) (lent .outLengths) out lens → polygonSlices a b order out lens ≡ polygonSlicesAfter c to lent
+  written lent a b order out lens ha hb ho f = rw (passes, ha, hb, ho, f .output, f .lengths)
+
+pub passed : (c : Check) (to : Routed) (answer : PolygonAnswer) (guards : ℕ) → sliceAnswered c to ≡ Answered answer guards
+    → (c ≡ Passes) × (answerOf to ≡ answer)
+passed (Fails r) to answer guards e = absurd (let z : _≡_ {A = ℕ} 0 1 = cc in omega arith)
+passed Passes to answer guards e = (refl, cc)
+
+module _ (flags : Flags) (bounds : TileBounds) (buffer : Float) (s : List Float) (ns : List ℕ) (lent : PolygonSlices) where
+  pub answer-below : (answer : PolygonAnswer) (guards : ℕ) → sliceCallAnswer flags bounds buffer s ns lent ≡ Answered answer guards
+      → answerCode answer < 2 ^ 32
+  unfolding sliceCallAnswer routeLent
+  answer-below answer guards e =
+      let p = passed (sliceCallCheck s ns lent) (routeLent flags bounds buffer s ns) answer guards e in
+      let l = fitting ns s (passes-fit ns s _ _ _ _ _ (p .0)) in
+      let few : length (closedRings ns s) ≤ mostRings = omega (arith, length-closed ns s, l .few) in
+      rw (← p .1) (route-below (buffered bounds buffer) (closedRings ns s) few flags)
+
+  -- the number that is answered tells the guard count
+  pub guards-told : (r : SliceAnswer) (code : ℤ) → r ≡ sliceCallAnswer flags bounds buffer s ns lent → code ≡ sliceCallCode r
+      → guardsIn code ≡ sliceCallGuards r
+  unfolding sliceCallAnswer
+  guards-told r code hr hc = rw (hc, hr) (told (sliceCallCheck s ns lent) (routeLent flags bounds buffer s ns))
+    where
+      not-one : (n : ℕ) → 1 < n → guardsIn (pos n) ≡ 0
+      not-one n h = rw (ne-eqb n 1 (λ e. omega arith))
+
+      told : (c : Check) (to : Routed) → guardsIn (sliceCallCode (sliceAnswered c to)) ≡ sliceCallGuards (sliceAnswered c to)
+      told (Fails Refusals.Lengths) to = refl
+      told (Fails Refusals.Coordinates) to = refl
+      told (Fails Refusals.Scratch) to = refl
+      told (Fails Refusals.Output) to = refl
+      told Passes nothing = refl
+      told Passes dropped = refl
+      told Passes unchanged = refl
+      told Passes (cut rings) = not-one (answerCode (answerOf (cut rings))) (omega arith)
+      told Passes (overlay reason) = not-one (answerCode (answerOf (overlay reason))) (omega arith)

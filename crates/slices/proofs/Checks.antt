@@ -13,18 +13,19 @@ use Rattle.tile.specs.declared.Coord.{Coord}
 use Rattle.sutherland_hodgman.specs.declared.call.Refusal.the-variants.{Lengths, Coordinates, Scratch, Output}
 use Rattle.sutherland_hodgman.specs.declared.call.Check.the-variants.{Passes}
 use Rattle.sutherland_hodgman.specs.Growth.{mostCoordinates}
-use Rattle.sutherland_hodgman.specs.Call.{refuse}
+use Rattle.sutherland_hodgman.specs.Call.{failsIf}
 use Rattle.sutherland_hodgman.proofs.Calls.{not-refused}
 use Rattle.rings.specs.Representable.{anyHugeRing}
 use Rattle.rings.specs.Rings.{mostRings, sum, closedRings, total, largest, ringRoom, allClosed, Lent}
 use Rattle.rings.proofs.LentRings.{length-closed}
 use Rattle.clip.specs.declared.polygon.Reason.{Reason}
 use Rattle.clip.specs.Polygon.{dropped, overlay, overlayOrDropped}
-use Rattle.slices.specs.Slice.{lengthsFit, checkedRoom, checked, numbersOf, lengthsOf, Filled, RingsRoom, nonePlaced}
+use Rattle.slices.specs.Slice.{lengthsFit, checkRoom, checkPolygon, numbersOf, lengthsOf}
+use Rattle.slices.specs.Contracts.{Filled, LentRingsRoom, nonePlaced}
 
 -- a polygon with room for its rings, whose exterior takes positions besides
 pub record Clippable (lengths : List ℕ) (coords : List Float) (a b order out outLengths : ℕ) : Type 0 where
-  pub rings : RingsRoom lengths coords a b out outLengths nonePlaced
+  pub rings : LentRingsRoom lengths coords a b out outLengths nonePlaced
   pub some : 0 < length lengths
   pub positions : largest ringRoom (closedRings lengths coords) ≤ order
 
@@ -42,16 +43,17 @@ module _ (ns : List ℕ) (s : List Float) (h : lengthsFit (length s) ns ≡ true
   pub fitting : Lent ns s
   fitting = record { few = leb-true (length ns) mostRings (tests .1); fits = omega (arith, eqb-true (2 * sum ns) (length s) (tests .2)) }
 
-module _ (ns : List ℕ) (s : List Float) (a b order out lens : ℕ) (h : checked s ns a b order out lens ≡ Passes) where
-  past-lengths : (not (lengthsFit (length s) ns) ≡ false) × (refuse (ltb mostCoordinates (total length (closedRings ns s))) Coordinates (checkedRoom (closedRings ns s) a b order out lens) ≡ Passes)
-  unfolding checked
+module _ (ns : List ℕ) (s : List Float) (a b order out lens : ℕ) (h : checkPolygon s ns a b order out lens ≡ Passes) where
+  past-lengths : (not (lengthsFit (length s) ns) ≡ false)
+      × (failsIf (ltb mostCoordinates (total length (closedRings ns s))) Coordinates (checkRoom (closedRings ns s) a b order out lens) ≡ Passes)
+  unfolding checkPolygon
   past-lengths = not-refused (not (lengthsFit (length s) ns)) Lengths _ h
 
   pub passes-fit : lengthsFit (length s) ns ≡ true
   passes-fit = not-false (lengthsFit (length s) ns) (past-lengths .0)
 
   pub passes-clippable : allClosed (closedRings ns s) ≡ true → Clippable ns s a b order out lens
-  unfolding checkedRoom
+  unfolding checkRoom
   passes-clippable closes =
       let most = largest ringRoom (closedRings ns s) in
       let all = total ringRoom (closedRings ns s) in

@@ -19,7 +19,8 @@ use Rattle.rings.proofs.LentRings.{larger-least, rings-end, length-closed}
 use Rattle.clip.specs.Polygon.{cutHole, unlessNone, cutExterior, cutHoles, cutRings, cut, RingRoom}
 use Rattle.clip.proofs.Cuts.{cut-fits-room, hole-fits-room, cut-rings}
 use Rattle.slices.specs.declared.call.Placed.{Placed}
-use Rattle.slices.specs.Slice.{numbersOf, lengthsOf, nonePlaced, lengthUnlessNone, PutRoom, Put, RingsRoom, PutHoles, Filled, CutRoom}
+use Rattle.slices.specs.Slice.{numbersOf, lengthsOf}
+use Rattle.slices.specs.Contracts.{nonePlaced, lengthUnlessNone, PutRoom, Put, LentRingsRoom, PutHoles, Filled, LentCutRoom}
 
 pub length-some : (n : ℕ) → (n ≡ 0 → ⊥) → lengthUnlessNone n ≡ n ∷ []
 length-some zero h = absurd (h refl)
@@ -31,7 +32,7 @@ length-at-most (suc n) = omega arith
 
 -- ---- room
 
-module _ (n : ℕ) (ns : List ℕ) (s : List Float) (a b out lens : ℕ) (at : Placed) (room : RingsRoom (n ∷ ns) s a b out lens at) where
+module _ (n : ℕ) (ns : List ℕ) (s : List Float) (a b out lens : ℕ) (at : Placed) (room : LentRingsRoom (n ∷ ns) s a b out lens at) where
   pub hole-room : RingRoom n s a b
   unfolding sum closedRings total largest allClosed
   hole-room =
@@ -59,7 +60,7 @@ module _ (n : ℕ) (ns : List ℕ) (s : List Float) (a b out lens : ℕ) (at : P
           lengths = omega (arith, room .room-lengths);
         }
 
-    pub next-room : (r : Placed) → r .numbers ≡ at .numbers + 2 * m → r .rings ≡ at .rings + length (lengthUnlessNone m) → RingsRoom ns (drop (2 * n) s) a b out lens r
+    pub next-room : (r : Placed) → r .numbers ≡ at .numbers + 2 * m → r .rings ≡ at .rings + length (lengthUnlessNone m) → LentRingsRoom ns (drop (2 * n) s) a b out lens r
     unfolding sum closedRings total largest allClosed
     next-room r en er =
         let ring = close (coords (take (2 * n) s)) in
@@ -121,14 +122,14 @@ ahead-ring c l m after at out lens r out′ lens′ st p =
 -- ---- from the k-th ring on
 
 module _ (ns : List ℕ) (s : List Float) (k at : ℕ) (h : k < length ns) where
-  pub room-here : (a b out lens : ℕ) (p : Placed) → RingsRoom (drop k ns) (drop at s) a b out lens p → RingsRoom (getD ns k 0 ∷ drop (k + 1) ns) (drop at s) a b out lens p
+  pub room-here : (a b out lens : ℕ) (p : Placed) → LentRingsRoom (drop k ns) (drop at s) a b out lens p → LentRingsRoom (getD ns k 0 ∷ drop (k + 1) ns) (drop at s) a b out lens p
   room-here a b out lens p r = rw (add-one) (rw (drop-cons ns k 0 h) at r)
 
-  pub room-there : (a b out lens : ℕ) (p : Placed) → RingsRoom (drop (k + 1) ns) (drop (2 * getD ns k 0) (drop at s)) a b out lens p → RingsRoom (drop (k + 1) ns) (drop (at + 2 * getD ns k 0) s) a b out lens p
+  pub room-there : (a b out lens : ℕ) (p : Placed) → LentRingsRoom (drop (k + 1) ns) (drop (2 * getD ns k 0) (drop at s)) a b out lens p → LentRingsRoom (drop (k + 1) ns) (drop (at + 2 * getD ns k 0) s) a b out lens p
   room-there a b out lens p r = rw (← drop-drop (2 * getD ns k 0) at s) r
 
 -- the slices have kept their lengths
-pub same-room : (ns : List ℕ) (s : List Float) (p : Placed) (a b out lens a′ b′ out′ lens′ : ℕ) → a′ ≡ a → b′ ≡ b → out′ ≡ out → lens′ ≡ lens → RingsRoom ns s a b out lens p → RingsRoom ns s a′ b′ out′ lens′ p
+pub same-room : (ns : List ℕ) (s : List Float) (p : Placed) (a b out lens a′ b′ out′ lens′ : ℕ) → a′ ≡ a → b′ ≡ b → out′ ≡ out → lens′ ≡ lens → LentRingsRoom ns s a b out lens p → LentRingsRoom ns s a′ b′ out′ lens′ p
 same-room ns s p a b out lens a′ b′ out′ lens′ ea eb eo el r = rw (ea, eb, eo, el) r
 
 -- nothing is left past the last ring
@@ -186,9 +187,9 @@ module _ (lengths : List ℕ) (s : List Float) (some : 0 < length lengths) where
   pub exterior-here : exterior (closedRings lengths s) ≡ close (coords (take (2 * getD lengths 0 0) s))
   exterior-here = ap exterior rings-here
 
-  module _ (a b out lens : ℕ) (rings : RingsRoom lengths s a b out lens nonePlaced) where
-    room-whole : RingsRoom (getD lengths 0 0 ∷ drop 1 lengths) s a b out lens nonePlaced
-    room-whole = subst (λ (l : List ℕ). RingsRoom l s a b out lens nonePlaced) here rings
+  module _ (a b out lens : ℕ) (rings : LentRingsRoom lengths s a b out lens nonePlaced) where
+    room-whole : LentRingsRoom (getD lengths 0 0 ∷ drop 1 lengths) s a b out lens nonePlaced
+    room-whole = subst (λ (l : List ℕ). LentRingsRoom l s a b out lens nonePlaced) here rings
 
     pub first-room : RingRoom (getD lengths 0 0) s a b
     first-room = hole-room _ _ _ _ _ _ _ _ room-whole
@@ -197,11 +198,11 @@ module _ (lengths : List ℕ) (s : List Float) (some : 0 < length lengths) where
     unfolding largest
     first-positions order h = omega (arith, ap (largest ringRoom) rings-here, larger-least (ringRoom (close (coords (take (2 * getD lengths 0 0) s)))) (largest ringRoom (closedRings (drop 1 lengths) (drop (2 * getD lengths 0 0) s))))
 
-module _ (bounds : TileBounds) (lengths : List ℕ) (s : List Float) (m a : ℕ) (b : List Float) (out lens : ℕ) (room : CutRoom bounds lengths s m a b out lens) where
+module _ (bounds : TileBounds) (lengths : List ℕ) (s : List Float) (m a : ℕ) (b : List Float) (out lens : ℕ) (room : LentCutRoom bounds lengths s m a b out lens) where
   stands-here : Stands (cutExterior bounds (close (coords (take (2 * getD lengths 0 0) s)))) m b
   stands-here = subst (λ (l : List (List Coord)). Stands (cutExterior bounds (exterior l)) m b) (rings-here lengths s (room .some)) (room .stands)
 
-  whole-room : RingsRoom (getD lengths 0 0 ∷ drop 1 lengths) s a (length b) out lens nonePlaced
+  whole-room : LentRingsRoom (getD lengths 0 0 ∷ drop 1 lengths) s a (length b) out lens nonePlaced
   whole-room = room-whole lengths s (room .some) a (length b) out lens (room .rings)
 
   pub exterior-room : PutRoom m b out lens nonePlaced
@@ -210,7 +211,7 @@ module _ (bounds : TileBounds) (lengths : List ℕ) (s : List Float) (m a : ℕ)
   pub start-fits : 2 * getD lengths 0 0 ≤ length s
   start-fits = hole-room _ _ _ _ _ _ _ _ whole-room .lent
 
-  pub holes-room : (r : Placed) → r .numbers ≡ 0 + 2 * m → r .rings ≡ 0 + length (lengthUnlessNone m) → RingsRoom (drop 1 lengths) (drop (2 * getD lengths 0 0) s) a (length b) out lens r
+  pub holes-room : (r : Placed) → r .numbers ≡ 0 + 2 * m → r .rings ≡ 0 + length (lengthUnlessNone m) → LentRingsRoom (drop 1 lengths) (drop (2 * getD lengths 0 0) s) a (length b) out lens r
   holes-room = next-room _ _ _ _ _ _ _ _ whole-room _ (cut-fits-room bounds _) m b stands-here
 
   pub cut-done : (out₀ : List Float) (lens₀ : List ℕ) (p₁ : Placed) (out₁ : List Float) (lens₁ : List ℕ) (p₂ : Placed) (out₂ : List Float) (lens₂ : List ℕ) → length out₀ ≡ out → length lens₀ ≡ lens

@@ -1,30 +1,26 @@
 -- The slice call (document 01, "Frames"): what it answers, and what each lent slice holds afterwards. Definitions only.
-use mathlib.Core.Path.{_≡_}
-use mathlib.Core.Bool.{Bool, true, not, _&&_, _||_}
+use mathlib.Core.Bool.{Bool, not, cond, _&&_, _||_}
 use mathlib.Core.List.{List, [], _∷_, _++_}
-use Prim.Native.Nat.{ℕ, zero, suc, _+_, _*_, _^_, _<_, _≤_}
+use Prim.Native.Nat.{ℕ, _+_, _*_}
 use lib.Dec.{ltb, leb, eqb}
 use lib.Ieee.{Float}
-use lib.IntN.{ℤ, pos, negℤ}
+use lib.IntN.{ℤ, pos, negsuc, negℤ}
 use lib.ListN.{length, replicate}
-use lib.Seq.{sets}
 use Rattle.binary64.specs.Slices.{zeros, over}
 use Rattle.tile.specs.declared.Coord.{Coord}
 use Rattle.tile.specs.declared.TileBounds.{TileBounds}
 use Rattle.tile.specs.Bounds.{buffered}
-use Rattle.tile.specs.Ring.{flat, Stands}
+use Rattle.tile.specs.Ring.{flat}
 use Rattle.sutherland_hodgman.specs.declared.call.Refusal.the-variants.{Lengths, Coordinates, Scratch, Output}
 use Rattle.sutherland_hodgman.specs.declared.call.Check.{Check}
 use Rattle.sutherland_hodgman.specs.declared.call.Check.the-variants.{Fails, Passes}
 use Rattle.sutherland_hodgman.specs.Growth.{mostCoordinates}
-use Rattle.sutherland_hodgman.specs.Call.{number, refuse}
-use Rattle.rings.specs.Rings.{exterior, mostRings, sum, closedRings, total, largest, ringRoom, allClosed, Measurable}
+use Rattle.sutherland_hodgman.specs.Call.{refusalNumber, failsIf}
+use Rattle.rings.specs.Rings.{mostRings, sum, closedRings, total, largest, ringRoom}
 use Rattle.clip.specs.declared.polygon.Flags.{Flags}
-use Rattle.clip.specs.declared.polygon.Route.{Route}
 use Rattle.clip.specs.declared.polygon.PolygonAnswer.{PolygonAnswer}
 use Rattle.clip.specs.declared.polygon.PolygonAnswer.the-variants as Is
-use Rattle.clip.specs.Polygon.{Routed, nothing, dropped, unchanged, cut, overlay, cutExterior, route, CutStands, answerOf, answerNumber, answerReason}
-use Rattle.slices.specs.declared.call.Placed.{Placed}
+use Rattle.clip.specs.Polygon.{Routed, nothing, dropped, unchanged, cut, overlay, route, answerOf, guardCount, answerNumber, answerReason}
 use Rattle.slices.specs.declared.call.SliceAnswer.{SliceAnswer}
 use Rattle.slices.specs.declared.call.SliceAnswer.the-variants.{Refused, Answered}
 
@@ -34,30 +30,57 @@ use Rattle.slices.specs.declared.call.SliceAnswer.the-variants.{Refused,
 unfoldable pub lengthsFit : ℕ → List ℕ → Bool
 lengthsFit numbers lengths = ltb 0 (length lengths) && (leb (length lengths) mostRings && eqb (2 * sum lengths) numbers)
 
--- 21 and 22, of closed rings and the lengths of the two scratch slices, the order slice, the output and the second length slice: "when, S being its largest B, either of two scratch slices is under 2 × S numbers or the order slice .. under S", "when the output is under 2 × the sum of its B numbers, or the second length slice under its ring count"
-unfoldable pub checkedRoom : List (List Coord) → ℕ → ℕ → ℕ → ℕ → ℕ → Check
-checkedRoom rings a b order out outLengths =
+-- 21 and 22, of closed rings and the lengths of the two scratch slices, the order slice, the output and the second length slice:
+-- "when, S being its largest B, either of two scratch slices is under 2 × S numbers or the order slice .. under S",
+-- "when the output is under 2 × the sum of its B numbers, or the second length slice under its ring count"
+unfoldable pub checkRoom : List (List Coord) → ℕ → ℕ → ℕ → ℕ → ℕ → Check
+checkRoom rings a b order out outLengths =
     let S = largest ringRoom rings in
-    refuse (ltb a (2 * S) || (ltb b (2 * S) || ltb order S)) Scratch
-    (refuse (ltb out (2 * total ringRoom rings) || ltb outLengths (length rings)) Output Passes)
+    failsIf (ltb a (2 * S) || (ltb b (2 * S) || ltb order S)) Scratch
+    (failsIf (ltb out (2 * total ringRoom rings) || ltb outLengths (length rings)) Output Passes)
 
 -- 19 to 22, "tested in that order": "Ring lengths are taken after closing in B and 20."
-unfoldable pub checked : List Float → List ℕ → ℕ → ℕ → ℕ → ℕ → ℕ → Check
-checked coords lengths a b order out outLengths =
+unfoldable pub checkPolygon : List Float → List ℕ → ℕ → ℕ → ℕ → ℕ → ℕ → Check
+checkPolygon coords lengths a b order out outLengths =
     let rings = closedRings lengths coords in
-    refuse (not (lengthsFit (length coords) lengths)) Lengths
-    (refuse (ltb mostCoordinates (total length rings)) Coordinates
-    (checkedRoom rings a b order out outLengths))
+    failsIf (not (lengthsFit (length coords) lengths)) Lengths
+    (failsIf (ltb mostCoordinates (total length rings)) Coordinates
+    (checkRoom rings a b order out outLengths))
 
--- ---- answers
+-- ---- the lent slices
 
-abbrev pub answered : Check → Routed → SliceAnswer
-answered (Fails r) to = Refused r
-answered Passes to = Answered (answerOf to)
+-- what is lent to be written: two scratch slices, the order slice, the output and the second length slice
+pub record PolygonSlices : Type 0 where
+  pub first : List Float
+  pub second : List Float
+  pub order : List ℕ
+  pub output : List Float
+  pub outLengths : List ℕ
+
+abbrev pub polygonSlices : List Float → List Float → List ℕ → List Float → List ℕ → PolygonSlices
+polygonSlices a b order out outLengths =
+    record { first = a; second = b; order = order; output = out; outLengths = outLengths }
+
+-- the refusal of a slice call, if there is one
+abbrev pub sliceCallCheck : List Float → List ℕ → PolygonSlices → Check
+sliceCallCheck coords lengths lent =
+    checkPolygon coords lengths (length (lent .first)) (length (lent .second)) (length (lent .order)) (length (lent .output))
+    (length (lent .outLengths))
+
+-- ---- what is answered
 
 -- what becomes of the lent polygon
 unfoldable pub routeLent : Flags → TileBounds → Float → List Float → List ℕ → Routed
 routeLent flags bounds buffer coords lengths = route flags (buffered bounds buffer) (closedRings lengths coords)
+
+-- the answer has its guard count beside it: "a guard count in the answer"
+abbrev pub sliceAnswered : Check → Routed → SliceAnswer
+sliceAnswered (Fails refusal) to = Refused refusal
+sliceAnswered Passes to = Answered (answerOf to) (guardCount (answerOf to))
+
+unfoldable pub sliceCallAnswer : Flags → TileBounds → Float → List Float → List ℕ → PolygonSlices → SliceAnswer
+sliceCallAnswer flags bounds buffer coords lengths lent =
+    sliceAnswered (sliceCallCheck coords lengths lent) (routeLent flags bounds buffer coords lengths)
 
 -- ---- the lent slices afterwards
 
@@ -77,23 +100,17 @@ unfoldable pub lengthsOf : List (List Coord) → List ℕ
 lengthsOf [] = []
 lengthsOf (r ∷ rs) = length r ∷ lengthsOf rs
 
--- what becomes of a polygon is written
-pub record Filled (to : Routed) (out : List Float) (outLengths : List ℕ) (out′ : List Float) (outLengths′ : List ℕ) : Type 0 where
-  pub output : out′ ≡ over (numbersOf (writtenRings to)) out
-  pub lengths : outLengths′ ≡ over (lengthsOf (writtenRings to)) outLengths
+-- "A refusal changes no lent buffer. A success fills scratch and order with zeros and leaves the output and the second length slice past
+-- the answer unchanged."
+abbrev pub polygonSlicesAfter : Check → Routed → PolygonSlices → PolygonSlices
+polygonSlicesAfter (Fails refusal) to lent = lent
+polygonSlicesAfter Passes to lent =
+    polygonSlices (zeros (length (lent .first))) (zeros (length (lent .second))) (replicate (length (lent .order)) 0)
+    (over (numbersOf (writtenRings to)) (lent .output)) (over (lengthsOf (writtenRings to)) (lent .outLengths))
 
--- "A refusal changes no lent buffer. A success fills scratch and order with zeros and leaves the output and the second length slice past the answer unchanged."
-abbrev pub ifPassed : {A : Type 0} → Check → A → A → A
-ifPassed (Fails r) before after = before
-ifPassed Passes before after = after
-
--- what a slice call leaves in the lent slices: the two scratch slices, the order slice, the output and the second length slice
-pub record Done (check : Check) (to : Routed) (a b : List Float) (order : List ℕ) (out : List Float) (outLengths : List ℕ) (a′ b′ : List Float) (order′ : List ℕ) (out′ : List Float) (outLengths′ : List ℕ) : Type 0 where
-  pub first : a′ ≡ ifPassed check a (zeros (length a))
-  pub second : b′ ≡ ifPassed check b (zeros (length b))
-  pub positions : order′ ≡ ifPassed check order (replicate (length order) 0)
-  pub output : out′ ≡ ifPassed check out (over (numbersOf (writtenRings to)) out)
-  pub lengths : outLengths′ ≡ ifPassed check outLengths (over (lengthsOf (writtenRings to)) outLengths)
+unfoldable pub sliceCallSlices : Flags → TileBounds → Float → List Float → List ℕ → PolygonSlices → PolygonSlices
+sliceCallSlices flags bounds buffer coords lengths lent =
+    polygonSlicesAfter (sliceCallCheck coords lengths lent) (routeLent flags bounds buffer coords lengths) lent
 
 -- ---- answers as numbers
 
@@ -110,59 +127,16 @@ abbrev pub answerCode : PolygonAnswer → ℕ
 answerCode answer = answerNumber answer + 256 * answerReason answer + 65536 * answerRings answer
 
 -- minus the refusal's number, or the answer's code
-abbrev pub code : SliceAnswer → ℤ
-code (Refused r) = negℤ (pos (number r))
-code (Answered answer) = pos (answerCode answer)
+abbrev pub sliceCallCode : SliceAnswer → ℤ
+sliceCallCode (Refused refusal) = negℤ (pos (refusalNumber refusal))
+sliceCallCode (Answered answer guards) = pos (answerCode answer)
 
--- ---- what the code asks for and leaves
+-- the guard count of an answer; a refusal guards nothing
+abbrev pub sliceCallGuards : SliceAnswer → ℕ
+sliceCallGuards (Refused refusal) = 0
+sliceCallGuards (Answered answer guards) = guards
 
--- the length of a ring that is not left out
-abbrev pub lengthUnlessNone : ℕ → List ℕ
-lengthUnlessNone zero = []
-lengthUnlessNone (suc n) = suc n ∷ []
-
--- nothing is written yet
-abbrev pub nonePlaced : Placed
-nonePlaced = record { rings = 0; numbers = 0 }
-
--- a ring of n coordinates at the front of a slice has room behind what is written
-pub record PutRoom (n : ℕ) (ring : List Float) (out outLengths : ℕ) (at : Placed) : Type 0 where
-  pub lent : 2 * n ≤ length ring
-  pub small : n < 2 ^ 32
-  pub output : at .numbers + 2 * n ≤ out
-  pub lengths : at .rings < outLengths
-
--- its numbers, and its length if it has coordinates, are written there
-pub record Put (n : ℕ) (numbers : List Float) (at : Placed) (out : List Float) (outLengths : List ℕ) (r : Placed) (out′ : List Float) (outLengths′ : List ℕ) : Type 0 where
-  pub output : out′ ≡ sets out (at .numbers) numbers
-  pub lengths : outLengths′ ≡ sets outLengths (at .rings) (lengthUnlessNone n)
-  pub numbers-after : r .numbers ≡ at .numbers + 2 * n
-  pub rings-after : r .rings ≡ at .rings + length (lengthUnlessNone n)
-
--- lent rings can be cut in two slices of these lengths, and have room behind what is written; closing closes them, as no first coordinate holds a NaN
-pub record RingsRoom (lengths : List ℕ) (coords : List Float) (a b out outLengths : ℕ) (at : Placed) : Type 0 where
-  pub measurable : Measurable lengths coords
-  pub closes : allClosed (closedRings lengths coords) ≡ true
-  pub first : 2 * largest ringRoom (closedRings lengths coords) ≤ a
-  pub second : 2 * largest ringRoom (closedRings lengths coords) ≤ b
-  pub output : at .numbers + 2 * total ringRoom (closedRings lengths coords) ≤ out
-  pub room-lengths : at .rings + length lengths ≤ outLengths
-
--- the cut holes that are not left out are written there
-pub record PutHoles (holes : List (List Coord)) (at : Placed) (out : List Float) (outLengths : List ℕ) (r : Placed) (out′ : List Float) (outLengths′ : List ℕ) : Type 0 where
-  pub output : out′ ≡ sets out (at .numbers) (numbersOf holes)
-  pub lengths : outLengths′ ≡ sets outLengths (at .rings) (lengthsOf holes)
-  pub rings-after : r .rings ≡ at .rings + length holes
-
--- the cut exterior, m coordinates long, stands at the front of b, and the holes can be cut
-pub record CutRoom (bounds : TileBounds) (lengths : List ℕ) (coords : List Float) (m a : ℕ) (b : List Float) (out outLengths : ℕ) : Type 0 where
-  pub rings : RingsRoom lengths coords a (length b) out outLengths nonePlaced
-  pub some : 0 < length lengths
-  pub stands : Stands (cutExterior bounds (exterior (closedRings lengths coords))) m b
-  pub whole : 0 < m
-
--- the exterior has this route, and where it is a cut, the cut exterior stands at the front of b
-pub record RouteRoom (route : Route) (bounds : TileBounds) (lengths : List ℕ) (coords : List Float) (a : ℕ) (b : List Float) (out outLengths : ℕ) : Type 0 where
-  pub rings : RingsRoom lengths coords a (length b) out outLengths nonePlaced
-  pub some : 0 < length lengths
-  pub stands : CutStands bounds (exterior (closedRings lengths coords)) route b
+-- the guard count that the number alone tells: 1 where the number is 1, else 0
+abbrev pub guardsIn : ℤ → ℕ
+guardsIn (pos n) = cond (eqb n 1) 1 0
+guardsIn (negsuc n) = 0

@@ -2,9 +2,11 @@
 ghost use mathlib.Core.Path.{_≡_};
 ghost use Prim.Native.Nat.{_*_};
 ghost use lib.ListN.{length, take, replicate};
-ghost use Rattle.rings.specs.Rings as R;
-ghost use Rattle.clip.specs.Polygon as P;
-ghost use Rattle.slices.specs.Slice as S;
+ghost use Rattle.rings.specs.Rings.{closedRings, Lent, Measurable};
+ghost use Rattle.clip.specs.Polygon as Polygon;
+ghost use Rattle.slices.specs.Slice.{lengthsFit, checkRoom, checkPolygon, polygonSlices, sliceCallCheck, sliceCallAnswer};
+ghost use Rattle.slices.specs.Slice.{sliceCallSlices};
+ghost use Rattle.slices.specs.Contracts as Contracts;
 use binary64::slices::clear;
 use binary64::slices::copy;
 use clip::polygon::Flags;
@@ -12,6 +14,7 @@ use clip::polygon::PolygonAnswer;
 use clip::polygon::Reason;
 use clip::polygon::Route;
 use clip::polygon::clip_hole;
+use clip::polygon::guard_count;
 use clip::polygon::route_exterior;
 use rings::lent::MOST_RINGS;
 use rings::lent::closed_sum;
@@ -25,10 +28,10 @@ use sutherland_hodgman::call::MOST_COORDINATES;
 use sutherland_hodgman::call::Refusal;
 use tile::TileBounds;
 
-// The answer of a slice call.
+// The answer of a slice call: a refusal, or what becomes of the polygon and its guard count.
 pub enum SliceAnswer {
     Refused(Refusal),
-    Answered(PolygonAnswer),
+    Answered(PolygonAnswer, usize),
 }
 
 // How much of the output is written: rings, and their numbers.
@@ -39,7 +42,7 @@ struct Placed {
 
 // Refusal 19: no ring, too many, or lengths that don't fit the numbers lent.
 fn lengths_fit(coords: &[f64], lengths: &[u32]) -> bool
-    ensures { λ r. ⌜ r ≡ S.lengthsFit (length (now (coords .entry))) (now (lengths .entry)) ⌝ }
+    ensures { λ r. ⌜ r ≡ lengthsFit (length (now (coords .entry))) (now (lengths .entry)) ⌝ }
 {
     if lengths.len() == 0 {
         return false;
@@ -60,8 +63,8 @@ fn check_room(
     out: usize,
     out_lengths: usize,
 ) -> Check
-    requires { ⌜ R.Measurable (now lengths) (now coords) ⌝ }
-    ensures { λ r. ⌜ r ≡ S.checkedRoom (R.closedRings (now (lengths .entry)) (now (coords .entry))) a b order out «out_lengths» ⌝ }
+    requires { ⌜ Measurable (now lengths) (now coords) ⌝ }
+    ensures { λ r. ⌜ r ≡ checkRoom (closedRings (now (lengths .entry)) (now (coords .entry))) a b order out «out_lengths» ⌝ }
 {
     let room = room_of(coords, lengths);
     if a < 2 * room.largest {
@@ -92,7 +95,7 @@ fn check_polygon(
     out: usize,
     out_lengths: usize,
 ) -> Check
-    ensures { λ r. ⌜ r ≡ S.checked (now (coords .entry)) (now (lengths .entry)) a b order out «out_lengths» ⌝ }
+    ensures { λ r. ⌜ r ≡ checkPolygon (now (coords .entry)) (now (lengths .entry)) a b order out «out_lengths» ⌝ }
 {
     if !lengths_fit(coords, lengths) {
         return Check::Fails(Refusal::Lengths);
@@ -105,8 +108,9 @@ fn check_polygon(
 
 // Writes the ring of n coordinates at the front of a slice behind what is written, and its length; a ring without coordinates is left out.
 fn put_ring(ring: &[f64], n: usize, out: &mut [f64], out_lengths: &mut [u32], at: Placed) -> Placed
-    requires { ⌜ S.PutRoom n (now ring) (length (now out)) (length (now «out_lengths»)) at ⌝ }
-    ensures { λ r. ⌜ S.Put n (take (2 * n) (now (ring .entry))) at (now (out .entry)) (now («out_lengths» .entry)) r (now (out .exit)) (now («out_lengths» .exit)) ⌝ }
+    requires { ⌜ Contracts.PutRoom n (now ring) (length (now out)) (length (now «out_lengths»)) at ⌝ }
+    ensures { λ r. ⌜ Contracts.Put n (take (2 * n) (now (ring .entry))) at (now (out .entry)) (now («out_lengths» .entry))
+        r (now (out .exit)) (now («out_lengths» .exit)) ⌝ }
 {
     if n == 0 {
         return at;
@@ -132,8 +136,10 @@ fn put_holes(
     out_lengths: &mut [u32],
     exterior: Placed,
 ) -> Placed
-    requires { ⌜ S.RingsRoom (now lengths) (now coords) (length (now a)) (length (now b)) (length (now out)) (length (now «out_lengths»)) exterior ⌝ }
-    ensures { λ r. ⌜ S.PutHoles (P.cutHoles bounds (R.closedRings (now (lengths .entry)) (now (coords .entry)))) exterior (now (out .entry)) (now («out_lengths» .entry)) r (now (out .exit)) (now («out_lengths» .exit)) ⌝ }
+    requires { ⌜ Contracts.LentRingsRoom (now lengths) (now coords) (length (now a)) (length (now b))
+        (length (now out)) (length (now «out_lengths»)) exterior ⌝ }
+    ensures { λ r. ⌜ Contracts.PutHoles (Polygon.cutHoles bounds (closedRings (now (lengths .entry)) (now (coords .entry)))) exterior
+        (now (out .entry)) (now («out_lengths» .entry)) r (now (out .exit)) (now («out_lengths» .exit)) ⌝ }
 {
     let mut placed = exterior;
     let mut at = 0usize;
@@ -159,9 +165,12 @@ fn put_cut(
     out: &mut [f64],
     out_lengths: &mut [u32],
 ) -> usize
-    requires { ⌜ S.CutRoom bounds (now lengths) (now coords) m (length (now a)) (now b) (length (now out)) (length (now «out_lengths»)) ⌝ }
-    ensures { λ r. ⌜ r ≡ length (P.cutRings bounds (R.closedRings (now (lengths .entry)) (now (coords .entry)))) ⌝ }
-    ensures { λ _. ⌜ S.Filled (P.cut (P.cutRings bounds (R.closedRings (now (lengths .entry)) (now (coords .entry))))) (now (out .entry)) (now («out_lengths» .entry)) (now (out .exit)) (now («out_lengths» .exit)) ⌝ }
+    requires { ⌜ Contracts.LentCutRoom bounds (now lengths) (now coords) m (length (now a)) (now b)
+        (length (now out)) (length (now «out_lengths»)) ⌝ }
+    ensures count { λ r. ⌜ r ≡ length (Polygon.cutRings bounds (closedRings (now (lengths .entry)) (now (coords .entry)))) ⌝ }
+    ensures written { λ _. ⌜ Contracts.Filled
+        (Polygon.cut (Polygon.cutRings bounds (closedRings (now (lengths .entry)) (now (coords .entry)))))
+        (now (out .entry)) (now («out_lengths» .entry)) (now (out .exit)) (now («out_lengths» .exit)) ⌝ }
 {
     let none = Placed {
         rings: 0,
@@ -184,8 +193,8 @@ fn put_cut(
 
 // An overlay is wanted, unless a coordinate is too large for it.
 fn overlay_or_dropped(coords: &[f64], lengths: &[u32], reason: Reason) -> PolygonAnswer
-    requires { ⌜ R.Lent (now lengths) (now coords) ⌝ }
-    ensures { λ r. ⌜ r ≡ P.answerOf (P.overlayOrDropped (R.closedRings (now (lengths .entry)) (now (coords .entry))) reason) ⌝ }
+    requires { ⌜ Lent (now lengths) (now coords) ⌝ }
+    ensures { λ r. ⌜ r ≡ Polygon.answerOf (Polygon.overlayOrDropped (closedRings (now (lengths .entry)) (now (coords .entry))) reason) ⌝ }
 {
     if has_huge_ring(coords, lengths) {
         return PolygonAnswer::Dropped;
@@ -204,9 +213,12 @@ fn answer_route(
     out: &mut [f64],
     out_lengths: &mut [u32],
 ) -> PolygonAnswer
-    requires { ⌜ S.RouteRoom route bounds (now lengths) (now coords) (length (now a)) (now b) (length (now out)) (length (now «out_lengths»)) ⌝ }
-    ensures { λ r. ⌜ r ≡ P.answerOf (P.routed route bounds (R.closedRings (now (lengths .entry)) (now (coords .entry)))) ⌝ }
-    ensures { λ _. ⌜ S.Filled (P.routed route bounds (R.closedRings (now (lengths .entry)) (now (coords .entry)))) (now (out .entry)) (now («out_lengths» .entry)) (now (out .exit)) (now («out_lengths» .exit)) ⌝ }
+    requires { ⌜ Contracts.LentRouteRoom route bounds (now lengths) (now coords) (length (now a)) (now b)
+        (length (now out)) (length (now «out_lengths»)) ⌝ }
+    ensures answer { λ r. ⌜ r ≡ Polygon.answerOf
+        (Polygon.routed route bounds (closedRings (now (lengths .entry)) (now (coords .entry)))) ⌝ }
+    ensures written { λ _. ⌜ Contracts.Filled (Polygon.routed route bounds (closedRings (now (lengths .entry)) (now (coords .entry))))
+        (now (out .entry)) (now («out_lengths» .entry)) (now (out .exit)) (now («out_lengths» .exit)) ⌝ }
 {
     match route {
         Route::Nothing => PolygonAnswer::Nothing,
@@ -231,9 +243,11 @@ fn clip_polygon(
     out: &mut [f64],
     out_lengths: &mut [u32],
 ) -> PolygonAnswer
-    requires { ⌜ S.checked (now coords) (now lengths) (length (now a)) (length (now b)) (length (now order)) (length (now out)) (length (now «out_lengths»)) ≡ Check.Passes ⌝ }
-    ensures { λ r. ⌜ r ≡ P.answerOf (P.route flags bounds (R.closedRings (now (lengths .entry)) (now (coords .entry)))) ⌝ }
-    ensures { λ _. ⌜ S.Filled (P.route flags bounds (R.closedRings (now (lengths .entry)) (now (coords .entry)))) (now (out .entry)) (now («out_lengths» .entry)) (now (out .exit)) (now («out_lengths» .exit)) ⌝ }
+    requires { ⌜ sliceCallCheck (now coords) (now lengths)
+        (polygonSlices (now a) (now b) (now order) (now out) (now «out_lengths»)) ≡ Check.Passes ⌝ }
+    ensures answer { λ r. ⌜ r ≡ Polygon.answerOf (Polygon.route flags bounds (closedRings (now (lengths .entry)) (now (coords .entry)))) ⌝ }
+    ensures written { λ _. ⌜ Contracts.Filled (Polygon.route flags bounds (closedRings (now (lengths .entry)) (now (coords .entry))))
+        (now (out .entry)) (now («out_lengths» .entry)) (now (out .exit)) (now («out_lengths» .exit)) ⌝ }
 {
     let rect = polygon_rect_all_rings(coords, lengths);
     match rect {
@@ -259,8 +273,9 @@ fn clear_order(s: &mut [u32])
     }
 }
 
-// What becomes of one polygon, whose rings it closes. A refusal changes nothing lent. Any other answer fills both scratch slices and the order slice with zeros, whole, and leaves the output and the second length slice past a cut's rings unchanged.
-// The logic has one NaN: a NaN stands exactly where the definition has one, and its bits are free, also in a slice that is left unchanged.
+// What becomes of one polygon, whose rings it closes. A refusal changes nothing lent. Any other answer fills both scratch slices and the
+// order slice with zeros, whole, and leaves the output and the second length slice past a cut's rings unchanged. The logic has one NaN:
+// a NaN stands exactly where the definition has one, and its bits are free, also in a slice that is left unchanged.
 pub fn polygon(
     flags: Flags,
     bounds: TileBounds,
@@ -273,12 +288,11 @@ pub fn polygon(
     out: &mut [f64],
     out_lengths: &mut [u32],
 ) -> SliceAnswer
-    ensures { λ r. ⌜ r ≡ S.answered (S.checked (now (coords .entry)) (now (lengths .entry)) (length (now (a .entry))) (length (now (b .entry))) (length (now (order .entry))) (length (now (out .entry))) (length (now («out_lengths» .entry))))
-        (S.routeLent flags bounds buffer (now (coords .entry)) (now (lengths .entry))) ⌝ }
-    ensures { λ _. ⌜ S.Done (S.checked (now (coords .entry)) (now (lengths .entry)) (length (now (a .entry))) (length (now (b .entry))) (length (now (order .entry))) (length (now (out .entry))) (length (now («out_lengths» .entry))))
-        (S.routeLent flags bounds buffer (now (coords .entry)) (now (lengths .entry)))
-        (now (a .entry)) (now (b .entry)) (now (order .entry)) (now (out .entry)) (now («out_lengths» .entry))
-        (now (a .exit)) (now (b .exit)) (now (order .exit)) (now (out .exit)) (now («out_lengths» .exit)) ⌝ }
+    ensures answer { λ r. ⌜ r ≡ sliceCallAnswer flags bounds buffer (now (coords .entry)) (now (lengths .entry))
+        (polygonSlices (now (a .entry)) (now (b .entry)) (now (order .entry)) (now (out .entry)) (now («out_lengths» .entry))) ⌝ }
+    ensures lent { λ _. ⌜ polygonSlices (now (a .exit)) (now (b .exit)) (now (order .exit)) (now (out .exit)) (now («out_lengths» .exit))
+        ≡ sliceCallSlices flags bounds buffer (now (coords .entry)) (now (lengths .entry))
+        (polygonSlices (now (a .entry)) (now (b .entry)) (now (order .entry)) (now (out .entry)) (now («out_lengths» .entry))) ⌝ }
 {
     let check = check_polygon(
         coords,
@@ -306,5 +320,5 @@ pub fn polygon(
     clear(a);
     clear(b);
     clear_order(order);
-    SliceAnswer::Answered(answer)
+    SliceAnswer::Answered(answer, guard_count(answer))
 }

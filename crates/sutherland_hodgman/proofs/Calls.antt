@@ -14,19 +14,21 @@ use Rattle.binary64.specs.Slices.{zeros}
 use Rattle.binary64.proofs.Booleans.{neither}
 use Rattle.tile.specs.declared.Coord.{Coord}
 use Rattle.tile.specs.declared.TileBounds.{TileBounds}
-use Rattle.tile.specs.Ring.{coords, Stands, Written}
-use Rattle.tile.proofs.Rings.{length-coords, coords-flat, written-front}
+use Rattle.tile.specs.Ring.{coords, flat, Stands, Written}
+use Rattle.tile.proofs.Rings.{length-flat, length-coords, coords-flat, written-front}
 use Rattle.sutherland_hodgman.specs.declared.call.Refusal.{Refusal}
 use Rattle.sutherland_hodgman.specs.declared.call.Refusal.the-variants.{Lengths, Coordinates, Scratch, Output}
 use Rattle.sutherland_hodgman.specs.declared.call.Check.{Check}
 use Rattle.sutherland_hodgman.specs.declared.call.Check.the-variants.{Fails, Passes}
-use Rattle.sutherland_hodgman.specs.declared.call.RingAnswer.the-variants.{Refused, Clipped}
+use Rattle.sutherland_hodgman.specs.declared.call.RingAnswer.the-variants.{Clipped}
 use Rattle.sutherland_hodgman.specs.Growth.{halfGrowth, fourHalfGrowths, B, mostCoordinates}
 use Rattle.sutherland_hodgman.specs.Clip.{clipRing}
 use Rattle.sutherland_hodgman.specs.Promise.{Promise}
 use Rattle.sutherland_hodgman.specs.Cutter.{Cut}
 use Rattle.sutherland_hodgman.specs.Walk.{threePasses, Topped}
-use Rattle.sutherland_hodgman.specs.Call.{refuse, checked, answered, ringAnswer, Done, ClippedTo, scratchAfter}
+use Rattle.sutherland_hodgman.specs.Call.{failsIf, checkRing, RingSlices, ringSlices, ringCallCheck, ringAnswered}
+use Rattle.sutherland_hodgman.specs.Call.{ringCallAnswer, ringCallSlices}
+use Rattle.sutherland_hodgman.specs.Contracts.{ClippedTo}
 use Rattle.sutherland_hodgman.proofs.Growth.{clipRing-grows}
 use Rattle.sutherland_hodgman.proofs.Promises.{HeldBounds, held-front}
 use Rattle.sutherland_hodgman.proofs.LastPass.{topped-cut, topped-written}
@@ -41,12 +43,12 @@ pub record Cuttable (numbers a b out : ℕ) : Type 0 where
   pub second : 2 * B (numbers / 2) ≤ b
   pub output : 2 * B (numbers / 2) ≤ out
 
-pub not-refused : (t : Bool) (r : Refusal) (c : Check) → refuse t r c ≡ Passes → (t ≡ false) × (c ≡ Passes)
+pub not-refused : (t : Bool) (r : Refusal) (c : Check) → failsIf t r c ≡ Passes → (t ≡ false) × (c ≡ Passes)
 not-refused true r c e = absurd (let z : _≡_ {A = ℕ} 0 1 = cc in omega arith)
 not-refused false r c e = (refl, e)
 
-pub passes-cuttable : (numbers a b out : ℕ) → checked numbers a b out ≡ Passes → Cuttable numbers a b out
-unfolding checked
+pub passes-cuttable : (numbers a b out : ℕ) → checkRing numbers a b out ≡ Passes → Cuttable numbers a b out
+unfolding checkRing
 passes-cuttable numbers a b out e =
     let room = 2 * B (numbers / 2) in
     let q1 = not-refused (eqb (numbers % 2) 1) Lengths _ e in
@@ -113,30 +115,35 @@ module _ (ring : List Float) (bounds : TileBounds) (numbers : 2 * (length ring /
     promise = lent-cut k d out out′ r hb hr s t .promise;
   }
 
-pub clipped-done : (ring : List Float) (bounds : TileBounds) (a b out a′ b′ out′ : List Float) (r : ℕ) → ClippedTo ring bounds out r out′
-    → a′ ≡ scratchAfter (Clipped r) a → b′ ≡ scratchAfter (Clipped r) b → Done ring bounds a b out (Clipped r) a′ b′ out′
-clipped-done ring bounds a b out a′ b′ out′ r c ha hb = record {
-  first = ha;
-  second = hb;
-  output = c .written .numbers;
-  promise = λ m e. let q : r ≡ m = cc in rw q at (c .promise);
-}
-
 -- a scratch slice is cleared, and has kept its length
 pub cleared : (m n : ℕ) (l : List Float) → l ≡ zeros m → m ≡ n → l ≡ zeros n
 cleared m n l h e = h ∙ rw e
 
-pub refused-done : (ring : List Float) (bounds : TileBounds) (a b out : List Float) (r : Refusal) → Done ring bounds a b out (Refused r) a b out
-refused-done ring bounds a b out r = record { first = refl; second = refl; output = refl; promise = λ m e. absurd (let z : _≡_ {A = ℕ} 0 1 = cc in omega arith) }
+-- ---- the call
 
--- a ring call answers few coordinates
-pub answer-few : (ring : List Float) (bounds : TileBounds) (a b out n : ℕ) → ringAnswer ring bounds a b out ≡ Clipped n → n ≤ 8 * mostCoordinates
-unfolding ringAnswer fourHalfGrowths halfGrowth
-answer-few ring bounds a b out n e = go (checked (length ring) a b out) (passes-cuttable (length ring) a b out) e
-  where
-    go : (c : Check) → (c ≡ Passes → Cuttable (length ring) a b out) → answered c (length (clipRing bounds (coords ring))) ≡ Clipped n → n ≤ 8 * mostCoordinates
-    go (Fails r) h q = absurd (let z : _≡_ {A = ℕ} 0 1 = cc in omega arith)
-    go Passes h q =
-        let k = h refl in
-        let m : length (clipRing bounds (coords ring)) ≡ n = cc in
-        omega (arith, k .few, length-coords (length ring / 2) ring (sym (k .even)), clipRing-grows bounds (coords ring))
+module _ (ring : List Float) (bounds : TileBounds) (lent : RingSlices) where
+  pub refused-slices : (r : Refusal) → ringCallCheck ring lent ≡ Fails r → lent ≡ ringCallSlices ring bounds lent
+  unfolding ringCallSlices
+  refused-slices r e = rw e
+
+  pub clipped-slices : (a b out : List Float) (r : ℕ) → ringCallCheck ring lent ≡ Passes → a ≡ zeros (length (lent .first))
+      → b ≡ zeros (length (lent .second)) → ClippedTo ring bounds (lent .output) r out
+      → ringSlices a b out ≡ ringCallSlices ring bounds lent
+  unfolding ringCallSlices
+  clipped-slices a b out r e ha hb c =
+      let cut = clipRing bounds (coords ring) in
+      let n : length (flat cut) ≡ 2 * r = length-flat cut ∙ rw (c .written .count) in
+      rw (e, ha, hb, c .written .numbers, n)
+
+  -- a ring call answers few coordinates
+  pub answer-few : (n : ℕ) → ringCallAnswer ring bounds lent ≡ Clipped n → n ≤ 8 * mostCoordinates
+  unfolding ringCallAnswer fourHalfGrowths halfGrowth
+  answer-few n e = go (ringCallCheck ring lent) (passes-cuttable (length ring) _ _ _) e
+    where
+      go : (c : Check) → (c ≡ Passes → Cuttable (length ring) (length (lent .first)) (length (lent .second)) (length (lent .output)))
+          → ringAnswered c (length (clipRing bounds (coords ring))) ≡ Clipped n → n ≤ 8 * mostCoordinates
+      go (Fails r) h q = absurd (let z : _≡_ {A = ℕ} 0 1 = cc in omega arith)
+      go Passes h q =
+          let k = h refl in
+          let m : length (clipRing bounds (coords ring)) ≡ n = cc in
+          omega (arith, k .few, length-coords (length ring / 2) ring (sym (k .even)), clipRing-grows bounds (coords ring))

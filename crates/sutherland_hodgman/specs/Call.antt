@@ -1,16 +1,15 @@
 -- The ring call (document 01, "Frames"): what it answers, and what each lent slice holds afterwards. Definitions only.
-use mathlib.Core.Path.{_≡_}
 use mathlib.Core.Bool.{Bool, true, false, _||_}
-use mathlib.Core.List.{List, _++_}
+use mathlib.Core.List.{List}
 use Prim.Native.Nat.{ℕ, _*_, _/_, _%_}
 use lib.Dec.{ltb, eqb}
 use lib.Ieee.{Float}
 use lib.IntN.{ℤ, pos, negℤ}
-use lib.ListN.{length, take, drop}
-use Rattle.binary64.specs.Slices.{zeros}
+use lib.ListN.{length, take}
+use Rattle.binary64.specs.Slices.{zeros, over}
 use Rattle.tile.specs.declared.Coord.{Coord}
 use Rattle.tile.specs.declared.TileBounds.{TileBounds}
-use Rattle.tile.specs.Ring.{coords, flat, Written}
+use Rattle.tile.specs.Ring.{coords, flat}
 use Rattle.sutherland_hodgman.specs.declared.call.Refusal.{Refusal}
 use Rattle.sutherland_hodgman.specs.declared.call.Refusal.the-variants.{Lengths, Coordinates, Scratch, Output}
 use Rattle.sutherland_hodgman.specs.declared.call.Check.{Check}
@@ -21,56 +20,73 @@ use Rattle.sutherland_hodgman.specs.Growth.{B, mostCoordinates}
 use Rattle.sutherland_hodgman.specs.Clip.{clipRing}
 use Rattle.sutherland_hodgman.specs.Promise.{Promise}
 
--- the paper's number of each refusal; `code` below answers it
-abbrev pub number : Refusal → ℕ
-number Lengths = 19
-number Coordinates = 20
-number Scratch = 21
-number Output = 22
+-- ---- refusals
 
-abbrev pub refuse : Bool → Refusal → Check → Check
-refuse true r c = Fails r
-refuse false r c = c
+-- the paper's number of each refusal
+abbrev pub refusalNumber : Refusal → ℕ
+refusalNumber Lengths = 19
+refusalNumber Coordinates = 20
+refusalNumber Scratch = 21
+refusalNumber Output = 22
 
--- "19 for an odd count of numbers, then 20 to 22 without order and length slices, its length taken unclosed": a, b and out are the lengths of the scratch slices and of the output
-unfoldable pub checked : ℕ → ℕ → ℕ → ℕ → Check
-checked numbers a b out =
+-- a refusal where its test says so, else what the later tests say
+abbrev pub failsIf : Bool → Refusal → Check → Check
+failsIf true refusal later = Fails refusal
+failsIf false refusal later = later
+
+-- "19 for an odd count of numbers, then 20 to 22 without order and length slices, its length taken unclosed": a, b and out are the
+-- lengths of the scratch slices and of the output
+unfoldable pub checkRing : ℕ → ℕ → ℕ → ℕ → Check
+checkRing numbers a b out =
     let room = 2 * B (numbers / 2) in
-    refuse (eqb (numbers % 2) 1) Lengths
-    (refuse (ltb mostCoordinates (numbers / 2)) Coordinates
-    (refuse (ltb a room || ltb b room) Scratch
-    (refuse (ltb out room) Output Passes)))
+    failsIf (eqb (numbers % 2) 1) Lengths
+    (failsIf (ltb mostCoordinates (numbers / 2)) Coordinates
+    (failsIf (ltb a room || ltb b room) Scratch
+    (failsIf (ltb out room) Output Passes)))
 
-abbrev pub answered : Check → ℕ → RingAnswer
-answered (Fails r) n = Refused r
-answered Passes n = Clipped n
+-- ---- the lent slices
 
--- what the ring call answers
-unfoldable pub ringAnswer : List Float → TileBounds → ℕ → ℕ → ℕ → RingAnswer
-ringAnswer ring bounds a b out = answered (checked (length ring) a b out) (length (clipRing bounds (coords ring)))
+-- what is lent to be written: two scratch slices and the output
+pub record RingSlices : Type 0 where
+  pub first : List Float
+  pub second : List Float
+  pub output : List Float
 
--- "A refusal changes no lent buffer. A success fills scratch .. with zeros and leaves the output .. past the answer unchanged."
-abbrev pub scratchAfter : RingAnswer → List Float → List Float
-scratchAfter (Refused r) l = l
-scratchAfter (Clipped n) l = zeros (length l)
+abbrev pub ringSlices : List Float → List Float → List Float → RingSlices
+ringSlices a b out = record { first = a; second = b; output = out }
 
-abbrev pub outputAfter : RingAnswer → List Coord → List Float → List Float
-outputAfter (Refused r) ring l = l
-outputAfter (Clipped n) ring l = flat ring ++ drop (2 * n) l
+-- the refusal of a ring call, if there is one
+abbrev pub ringCallCheck : List Float → RingSlices → Check
+ringCallCheck ring lent = checkRing (length ring) (length (lent .first)) (length (lent .second)) (length (lent .output))
 
--- what a ring call that answers r leaves in the lent slices, and what it promises of the ring that it answers
-pub record Done (ring : List Float) (bounds : TileBounds) (a b out : List Float) (r : RingAnswer) (a′ b′ out′ : List Float) : Type 0 where
-  pub first : a′ ≡ scratchAfter r a
-  pub second : b′ ≡ scratchAfter r b
-  pub output : out′ ≡ outputAfter r (clipRing bounds (coords ring)) out
-  pub promise : (n : ℕ) → r ≡ Clipped n → Promise bounds (coords ring) (coords (take (2 * n) out′))
+-- ---- what is answered
 
--- the cut of a lent ring stands at the front of the output, r coordinates long; demand 3 holds of what stands there
-pub record ClippedTo (ring : List Float) (bounds : TileBounds) (out : List Float) (r : ℕ) (out′ : List Float) : Type 0 where
-  pub written : Written (clipRing bounds (coords ring)) out r out′
-  pub promise : Promise bounds (coords ring) (coords (take (2 * r) out′))
+abbrev pub ringAnswered : Check → ℕ → RingAnswer
+ringAnswered (Fails refusal) n = Refused refusal
+ringAnswered Passes n = Clipped n
+
+-- "It runs `clip_ring` on the ring, not closed beforehand, .. and answers their count."
+unfoldable pub ringCallAnswer : List Float → TileBounds → RingSlices → RingAnswer
+ringCallAnswer ring bounds lent = ringAnswered (ringCallCheck ring lent) (length (clipRing bounds (coords ring)))
 
 -- the answer as one number: the count of coordinates, or minus the refusal's number
-abbrev pub code : RingAnswer → ℤ
-code (Refused r) = negℤ (pos (number r))
-code (Clipped n) = pos n
+abbrev pub ringCallCode : RingAnswer → ℤ
+ringCallCode (Refused refusal) = negℤ (pos (refusalNumber refusal))
+ringCallCode (Clipped n) = pos n
+
+-- ---- the lent slices afterwards
+
+-- "A refusal changes no lent buffer. A success fills scratch .. with zeros and leaves the output .. past the answer unchanged."
+abbrev pub ringSlicesAfter : Check → List Coord → RingSlices → RingSlices
+ringSlicesAfter (Fails refusal) cut lent = lent
+ringSlicesAfter Passes cut lent =
+    ringSlices (zeros (length (lent .first))) (zeros (length (lent .second))) (over (flat cut) (lent .output))
+
+-- "writes the coordinates from the front of the output"
+unfoldable pub ringCallSlices : List Float → TileBounds → RingSlices → RingSlices
+ringCallSlices ring bounds lent = ringSlicesAfter (ringCallCheck ring lent) (clipRing bounds (coords ring)) lent
+
+-- "Demand 3 speaks of .. the ring that a ring call not refused answers": n coordinates at the front of the output
+abbrev pub RingCallPromise : List Float → TileBounds → RingAnswer → List Float → Type 0
+RingCallPromise ring bounds (Refused refusal) out = Unit {0}
+RingCallPromise ring bounds (Clipped n) out = Promise bounds (coords ring) (coords (take (2 * n) out))

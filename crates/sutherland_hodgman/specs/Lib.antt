@@ -5,3 +5,4 @@ pub mod Growth
 pub mod Promise
 pub mod Cutter
 pub mod Call
+pub mod Contracts

@@ -1,9 +1,11 @@
-// The ring call: a lent ring, four bounds used as given, two scratch slices and an output. It is open to callers and refuses what it can't cut.
+// The ring call: a lent ring, four bounds used as given, two scratch slices and an output. It is open to callers and refuses what it
+// can't cut.
 ghost use mathlib.Core.Path.{_≡_};
 ghost use Prim.Native.Nat.{_*_, _≤_};
-ghost use lib.ListN.{length};
 ghost use Rattle.sutherland_hodgman.specs.Growth.{halfGrowth, B, mostCoordinates};
-ghost use Rattle.sutherland_hodgman.specs.Call as S;
+ghost use Rattle.sutherland_hodgman.specs.Call.{checkRing, ringSlices, ringCallCheck, ringCallAnswer, ringCallSlices};
+ghost use Rattle.sutherland_hodgman.specs.Call.{RingCallPromise};
+ghost use Rattle.sutherland_hodgman.specs.Contracts.{ClippedTo};
 use super::clip_three_edges;
 use super::clip_top;
 use binary64::slices::clear;
@@ -53,7 +55,7 @@ pub fn room_for(n: usize) -> usize
 
 // The refusals of a ring call, in their order, by the count of numbers and the lengths of the other slices.
 pub fn check_ring(numbers: usize, a: usize, b: usize, out: usize) -> Check
-    ensures { λ r. ⌜ r ≡ S.checked numbers a b out ⌝ }
+    ensures { λ r. ⌜ r ≡ checkRing numbers a b out ⌝ }
 {
     if numbers % 2 == 1 {
         return Check::Fails(Refusal::Lengths);
@@ -75,7 +77,8 @@ pub fn check_ring(numbers: usize, a: usize, b: usize, out: usize) -> Check
     Check::Passes
 }
 
-// Cuts a ring that the checks pass. The last pass writes the output itself, but for a ring that may be given up: what stands there past the answer must not change. The scratch slices are left as the passes leave them.
+// Cuts a ring that the checks pass. The last pass writes the output itself, but for a ring that may be given up: what stands there past
+// the answer must not change. The scratch slices are left as the passes leave them.
 pub fn clip_lent(
     ring: &[f64],
     bounds: TileBounds,
@@ -83,8 +86,8 @@ pub fn clip_lent(
     b: &mut [f64],
     out: &mut [f64],
 ) -> usize
-    requires { ⌜ S.checked (length (now ring)) (length (now a)) (length (now b)) (length (now out)) ≡ Check.Passes ⌝ }
-    ensures { λ r. ⌜ S.ClippedTo (now (ring .entry)) bounds (now (out .entry)) r (now (out .exit)) ⌝ }
+    requires { ⌜ ringCallCheck (now ring) (ringSlices (now a) (now b) (now out)) ≡ Check.Passes ⌝ }
+    ensures { λ r. ⌜ ClippedTo (now (ring .entry)) bounds (now (out .entry)) r (now (out .exit)) ⌝ }
 {
     let bottom = clip_three_edges(ring, ring.len() / 2, bounds, a, b);
     if bottom.len < 4 {
@@ -95,8 +98,9 @@ pub fn clip_lent(
     clip_top(a, bottom.len, bounds, out)
 }
 
-// `clip_ring` on the ring as lent, not closed beforehand. A refusal changes nothing lent; a success fills both scratch slices with zeros, whole, and leaves the output past the answer unchanged.
-// The logic has one NaN: a NaN stands exactly where the definition has one, and its bits are free, also in a slice that is left unchanged.
+// `clip_ring` on the ring as lent, not closed beforehand. A refusal changes nothing lent; a success fills both scratch slices with zeros,
+// whole, and leaves the output past the answer unchanged. The logic has one NaN: a NaN stands exactly where the definition has one, and
+// its bits are free, also in a slice that is left unchanged.
 pub fn ring(
     ring: &[f64],
     bounds: TileBounds,
@@ -104,8 +108,11 @@ pub fn ring(
     b: &mut [f64],
     out: &mut [f64],
 ) -> RingAnswer
-    ensures { λ r. ⌜ r ≡ S.ringAnswer (now (ring .entry)) bounds (length (now (a .entry))) (length (now (b .entry))) (length (now (out .entry))) ⌝ }
-    ensures { λ r. ⌜ S.Done (now (ring .entry)) bounds (now (a .entry)) (now (b .entry)) (now (out .entry)) r (now (a .exit)) (now (b .exit)) (now (out .exit)) ⌝ }
+    ensures answer { λ r. ⌜ r ≡ ringCallAnswer (now (ring .entry)) bounds
+        (ringSlices (now (a .entry)) (now (b .entry)) (now (out .entry))) ⌝ }
+    ensures lent { λ _. ⌜ ringSlices (now (a .exit)) (now (b .exit)) (now (out .exit)) ≡ ringCallSlices (now (ring .entry)) bounds
+        (ringSlices (now (a .entry)) (now (b .entry)) (now (out .entry))) ⌝ }
+    ensures promise { λ r. ⌜ RingCallPromise (now (ring .entry)) bounds r (now (out .exit)) ⌝ }
 {
     match check_ring(ring.len(), a.len(), b.len(), out.len()) {
         Check::Fails(refusal) => RingAnswer::Refused(refusal),

@@ -6,8 +6,8 @@ use mir.Syntax.{w64}
 use mir.Val.{SFits}
 use mir.Facts.{toZ-ofZ}
 use borrow.Author.Needs.{needs, sfits-of}
-use Rattle.slices.specs.Slice as P
-use Rattle.slices.proofs.Answers.{answer-below}
+use Rattle.slices.specs.Slice.{sliceCallCode}
+use Rattle.slices.proofs.Answers.{answer-below, guards-told}
 use Rattle.ringcut_calls.proofs.Codes.{refusal-fits}
 use Rattle.ringcut_calls.proofs.ringcut_polygon.Statement.{statement}
 use Rattle.ringcut_calls.proofs.ringcut_polygon.Tie as tie
@@ -34,11 +34,11 @@ enum-known-answer : tie.Need-enum-known-answer
 enum-known-answer c = search needs
 
 answer-code-requires : tie.Need-answer-code-requires
-answer-code-requires c κs = answer-below _ _ _ _ _ _ _ _ _ _ _ (sym (c .before .before .before .before .before .before .before .before .before .before .before .before .before .polygon .ensures .0) ∙ c .before .answer .given .1)
+answer-code-requires c κs = answer-below _ _ _ _ _ _ _ _ (sym (c .before .before .before .before .before .before .before .before .before .before .before .before .before .polygon .ensures .0) ∙ c .before .answer .given .1)
 
 cast-result : tie.Need-cast-result
 cast-result c =
-    let b = answer-below _ _ _ _ _ _ _ _ _ _ _ (sym (c .before .before .before .before .before .before .before .before .before .before .before .before .before .before .polygon .ensures .0) ∙ c .before .before .answer .given .1) in
+    let b = answer-below _ _ _ _ _ _ _ _ (sym (c .before .before .before .before .before .before .before .before .before .before .before .before .before .before .polygon .ensures .0) ∙ c .before .before .answer .given .1) in
     sfits-of (omega (arith, c .answer-code .ensures))
 
 same-length : tie.Need-same-length
@@ -61,7 +61,14 @@ returns c =
     let e = c .before .before .before .before .before .before .before .before .before .before .before .before .before .before .polygon .ensures in
     let q = c .before .before .r .given .1 in
     let f : SFits w64 (c .refusal-code .result) = rw (c .refusal-code .ensures) (refusal-fits (c .before .before .r .given .0 .0)) in
-    rw (← c .before .before .before .before .before .before .before .before .before .before .before .before .before .before .before .before .before .before .before .before .before .before .is-set .ensures, ← c .before .before .before .before .before .before .before .before .before .before .before .before .before .before .before .before .before .before .before .before .before .is-set2 .ensures, ← c .before .before .before .before .before .before .before .before .before .before .before .before .before .before .before .before .before .before .before .before .new .ensures, ← e .0) (toZ-ofZ f ∙ c .refusal-code .ensures ∙ ap P.code (sym q), e .1)
+    let h = toZ-ofZ f ∙ c .refusal-code .ensures ∙ ap sliceCallCode (sym q) in
+    rw (
+      ← c .before .before .before .before .before .before .before .before .before .before .before .before .before .before .before .before .before .before .before .before .before .before .is-set .ensures,
+      ← c .before .before .before .before .before .before .before .before .before .before .before .before .before .before .before .before .before .before .before .before .before .is-set2 .ensures,
+      ← c .before .before .before .before .before .before .before .before .before .before .before .before .before .before .before .before .before .before .before .before .new .ensures,
+      ← e .0,
+    )
+    (h, (guards-told _ _ _ _ _ _ _ _ (e .0) h, e .1))
 
 same-length-6 : tie.Need-same-length-6
 same-length-6 c = search needs
@@ -82,9 +89,16 @@ returns-2 : tie.Need-returns-2
 returns-2 c =
     let e = c .before .before .before .before .before .before .before .before .before .before .before .before .before .before .polygon .ensures in
     let q = c .before .before .answer .given .1 in
-    let b = answer-below _ _ _ _ _ _ _ _ _ _ _ (sym (e .0) ∙ q) in
+    let b = answer-below _ _ _ _ _ _ _ _ (sym (e .0) ∙ q) in
     let f : SFits w64 (pos (c .answer-code .result)) = sfits-of (omega (arith, c .answer-code .ensures)) in
-    rw (← c .before .before .before .before .before .before .before .before .before .before .before .before .before .before .before .before .before .before .before .before .before .before .is-set .ensures, ← c .before .before .before .before .before .before .before .before .before .before .before .before .before .before .before .before .before .before .before .before .before .is-set2 .ensures, ← c .before .before .before .before .before .before .before .before .before .before .before .before .before .before .before .before .before .before .before .before .new .ensures, ← e .0) (toZ-ofZ f ∙ ap pos (c .answer-code .ensures) ∙ ap P.code (sym q), e .1)
+    let h = toZ-ofZ f ∙ ap pos (c .answer-code .ensures) ∙ ap sliceCallCode (sym q) in
+    rw (
+      ← c .before .before .before .before .before .before .before .before .before .before .before .before .before .before .before .before .before .before .before .before .before .before .is-set .ensures,
+      ← c .before .before .before .before .before .before .before .before .before .before .before .before .before .before .before .before .before .before .before .before .before .is-set2 .ensures,
+      ← c .before .before .before .before .before .before .before .before .before .before .before .before .before .before .before .before .before .before .before .before .new .ensures,
+      ← e .0,
+    )
+    (h, (guards-told _ _ _ _ _ _ _ _ (e .0) h, e .1))
 
 pub ringcut-polygon-spec : {M : Type 1} → statement M
 ringcut-polygon-spec =

@@ -1,5 +1,5 @@
 -- `agrees` meets its contract, by that of the ring call. Assumes nothing.
-use Rattle.replay.specs.Calls as S
+use Rattle.replay.specs.Calls.{ringAgrees}
 use borrow.Author.Needs.{needs}
 use Rattle.replay.proofs.ring_calls.agrees.Statement.{statement}
 use Rattle.replay.proofs.ring_calls.agrees.Tie as tie
@@ -23,10 +23,10 @@ same-length-3 : tie.Need-same-length-3
 same-length-3 c = search needs
 
 returns : tie.Need-returns
-unfolding S.ringAgrees
+unfolding ringAgrees
 returns c =
     let e = c .before .before .before .before .before .before .before .before .before .before .before .ring .ensures in
-    rw (← e .0, ← c .before .before .before .before .of-ring .ensures, ← e .1 .first, ← e .1 .second, ← e .1 .output) (c .answer-agrees .ensures)
+    rw (← e .0, ← c .before .before .before .before .of-ring .ensures, ← e .1 .0) (c .answer-agrees .ensures)
 
 pub agrees-spec : {M : Type 1} → statement M
 agrees-spec =

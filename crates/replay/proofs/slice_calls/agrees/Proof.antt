@@ -1,5 +1,5 @@
 -- `agrees` meets its contract, by that of the slice call. Assumes nothing.
-use Rattle.replay.specs.Calls as S
+use Rattle.replay.specs.Calls.{sliceAgrees}
 use Rattle.replay.proofs.Codes.{slice-fits}
 use borrow.Author.Needs.{needs}
 use Rattle.replay.proofs.slice_calls.agrees.Statement.{statement}
@@ -9,7 +9,7 @@ polygon-requires : tie.Need-polygon-requires
 polygon-requires c κs = search needs
 
 of-slice-requires : tie.Need-of-slice-requires
-of-slice-requires c κs = slice-fits _ _ _ _ _ _ _ _ _ _ _ (c .before .before .before .before .before .before .before .before .before .before .polygon .ensures .0)
+of-slice-requires c κs = slice-fits _ _ _ _ _ _ _ (c .before .before .before .before .before .before .before .before .before .before .polygon .ensures .0)
 
 slices-agree-requires : tie.Need-slices-agree-requires
 slices-agree-requires c κs = search needs
@@ -30,10 +30,10 @@ same-length-5 : tie.Need-same-length-5
 same-length-5 c = search needs
 
 returns : tie.Need-returns
-unfolding S.sliceAgrees
+unfolding sliceAgrees
 returns c =
     let e = c .before .before .before .before .before .before .before .before .before .before .before .before .before .before .before .before .before .polygon .ensures in
-    rw (← e .0, ← c .before .before .before .before .before .before .of-slice .ensures, ← e .1 .first, ← e .1 .second, ← e .1 .output, ← e .1 .positions, ← e .1 .lengths) (c .slices-agree .ensures)
+    rw (← e .0, ← c .before .before .before .before .before .before .of-slice .ensures, ← e .1) (c .slices-agree .ensures)
 
 pub agrees-spec : {M : Type 1} → statement M
 agrees-spec =

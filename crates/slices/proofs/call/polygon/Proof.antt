@@ -1,12 +1,12 @@
 -- `polygon` meets its contract: refused by the checks, or routed and the scratch and order slices cleared. Assumes nothing.
-use mathlib.Core.Path.{_≡_, refl, sym, _∙_, ap}
+use mathlib.Core.Path.{_≡_, sym, _∙_}
 use mathlib.Core.List.{List}
 use Prim.Native.Nat.{ℕ}
 use lib.ListN.{replicate}
 use borrow.Author.Needs.{needs}
 use Rattle.sutherland_hodgman.proofs.Calls.{cleared}
-use Rattle.slices.specs.Slice.{routeLent}
-use Rattle.slices.specs.declared.call.SliceAnswer.the-variants.{Answered}
+use Rattle.slices.specs.Slice.{routeLent, sliceCallAnswer, sliceCallSlices}
+use Rattle.slices.proofs.Answers.{answered, written}
 use Rattle.slices.proofs.call.polygon.Statement.{statement}
 use Rattle.slices.proofs.call.polygon.Tie as tie
 
@@ -20,7 +20,10 @@ enum-known-check : tie.Need-enum-known-check
 enum-known-check c = search needs
 
 returns : tie.Need-returns
-returns c = (rw (← c .before .before .before .check-polygon .ensures, c .before .check .given .1), rw (← c .before .before .before .check-polygon .ensures, c .before .check .given .1) (record { first = refl; second = refl; positions = refl; output = refl; lengths = refl }))
+unfolding sliceCallAnswer sliceCallSlices
+returns c =
+    let e = sym (c .before .before .before .check-polygon .ensures) ∙ c .before .check .given .1 in
+    (rw e, rw e)
 
 enum-told : tie.Need-enum-told
 enum-told c = search needs
@@ -55,15 +58,22 @@ same-length-4 c = search needs
 same-length-5 : tie.Need-same-length-5
 same-length-5 c = search needs
 
+guard-count-requires : tie.Need-guard-count-requires
+guard-count-requires c κs = search needs
+
 returns-2 : tie.Need-returns-2
-unfolding routeLent
+unfolding sliceCallAnswer sliceCallSlices routeLent
 returns-2 c =
-    let p = sym (c .before .before .before .before .before .before .before .before .before .before .before .before .before .before .before .before .before .before .before .before .before .before .before .before .before .before .before .before .before .before .before .check-polygon .ensures) ∙ c .before .before .before .before .before .before .before .before .before .before .before .before .before .before .before .before .before .before .before .before .before .before .before .before .before .before .before .before .before .enum-told .given .1 in
-    let cut = c .before .before .before .before .before .before .before .before .before .before .before .before .before .before .before .before .before .before .before .before .before .before .clip-polygon in
+    let p = sym (c .before .before .before .before .before .before .before .before .before .before .before .before .before .before .before .before .before .before .before .before .before .before .before .before .before .before .before .before .before .before .before .before .check-polygon .ensures)
+    ∙ c .before .before .before .before .before .before .before .before .before .before .before .before .before .before .before .before .before .before .before .before .before .before .before .before .before .before .before .before .before .before .enum-told .given .1 in
+    let cut = c .before .before .before .before .before .before .before .before .before .before .before .before .before .before .before .before .before .before .before .before .before .before .before .clip-polygon in
     let kept = cut .kept .1 .1 .1 .1 in
-    let b = c .before .before .before .before .before .before .before .before .before .before .before .before .before .before .before .before .before .before .before .before .before .before .before .before .before .before .before .before .buffered .ensures in (
-      rw p (ap Answered (cut .ensures .0 ∙ rw b)),
-      rw (p, ← b) (record { first = cleared _ _ _ (c .before .before .before .before .before .before .before .before .before .before .clear .ensures) (kept .0); second = cleared _ _ _ (c .before .before .before .before .before .before .clear2 .ensures) (kept .1 .0); positions = zeroed _ _ _ (c .before .before .clear-order .ensures) (kept .1 .1 .0); output = cut .ensures .1 .output; lengths = cut .ensures .1 .lengths }),
+    let b = c .before .before .before .before .before .before .before .before .before .before .before .before .before .before .before .before .before .before .before .before .before .before .before .before .before .before .before .before .before .buffered .ensures in (
+      answered _ _ p _ _ (cut .ensures .0 ∙ rw b) (c .guard-count .ensures),
+      rw (← b)
+          (written _ _ p _ _ _ _ _ _ (cleared _ _ _ (c .before .before .before .before .before .before .before .before .before .before .before .clear .ensures) (kept .0))
+          (cleared _ _ _ (c .before .before .before .before .before .before .before .clear2 .ensures) (kept .1 .0))
+          (zeroed _ _ _ (c .before .before .before .clear-order .ensures) (kept .1 .1 .0)) (cut .ensures .1)),
     )
 
 pub polygon-spec : {M : Type 1} → statement M
@@ -79,6 +89,7 @@ polygon-spec =
     clear-requires
     clear-requires-2
     clear-order-requires
+    guard-count-requires
     same-length
     same-length-2
     same-length-3

@@ -8,7 +8,7 @@ use borrow.Author.Needs.{needs}
 use Rattle.binary64.proofs.Fill.{tail-part}
 use Rattle.rings.specs.Rings.{closedRings}
 use Rattle.clip.specs.Polygon.{cutHoles}
-use Rattle.slices.specs.Slice.{PutHoles}
+use Rattle.slices.specs.Contracts.{PutHoles}
 use Rattle.slices.proofs.Holes.{exterior-room, start-fits, holes-room, same-room, cut-done}
 use Rattle.slices.proofs.call.put_cut.Statement.{statement}
 use Rattle.slices.proofs.call.put_cut.Tie as tie

@@ -11,7 +11,7 @@ use Rattle.rings.specs.Rings.{closedRings}
 use Rattle.rings.proofs.LentRings.{Left, left-start, left-ring, left-next, rings-step}
 use Rattle.clip.specs.Polygon.{cutHole, cutHoles}
 use Rattle.clip.proofs.Cuts.{hole-fits-room}
-use Rattle.slices.specs.Slice.{RingsRoom}
+use Rattle.slices.specs.Contracts.{LentRingsRoom}
 use Rattle.slices.proofs.Holes.{Ahead, ahead-start, ahead-then, ahead-ring, ahead-end, hole-room, put-room, next-room, room-here, room-there, same-room}
 use Rattle.slices.proofs.call.put_holes.Statement.{statement}
 use Rattle.slices.proofs.call.put_holes.Tie as tie
@@ -19,7 +19,7 @@ use Rattle.slices.proofs.call.put_holes.Tie as tie
 abbrev Inv-loop : tie.InvT-loop
 Inv-loop coords lengths bounds a₀ b₀ out₀ out-lengths₀ placed₀ at₀ k₀ a b out out-lengths placed at k =
     Left lengths coords k at
-    × RingsRoom (drop k lengths) (drop at coords) (length a) (length b) (length out) (length out-lengths) placed
+    × LentRingsRoom (drop k lengths) (drop at coords) (length a) (length b) (length out) (length out-lengths) placed
     × Ahead (cutHoles bounds (closedRings lengths coords)) placed₀ out₀ out-lengths₀ (cutHoles bounds (closedRings (drop k lengths) (drop at coords))) placed out out-lengths
     × (length a ≡ length a₀) × (length b ≡ length b₀) × (length out ≡ length out₀) × (length out-lengths ≡ length out-lengths₀)
 

@@ -3,8 +3,8 @@ use mathlib.Core.Path.{sym, _∙_, ap}
 use denote.Ref.{now}
 use borrow.Author.Needs.{needs}
 use Rattle.sutherland_hodgman.specs.declared.call.RingAnswer.the-variants.{Clipped}
-use Rattle.sutherland_hodgman.specs.Call.{ringAnswer}
-use Rattle.sutherland_hodgman.proofs.Calls.{clipped-done, cleared, refused-done}
+use Rattle.sutherland_hodgman.specs.Call.{ringSlices, ringCallAnswer}
+use Rattle.sutherland_hodgman.proofs.Calls.{refused-slices, clipped-slices, cleared}
 use Rattle.sutherland_hodgman.proofs.call.ring.Statement.{statement}
 use Rattle.sutherland_hodgman.proofs.call.ring.Tie as tie
 
@@ -27,8 +27,11 @@ clear-requires-2 : tie.Need-clear-requires-2
 clear-requires-2 c κs = search needs
 
 returns : tie.Need-returns
-unfolding ringAnswer
-returns c = let a = c .before .before .before .before .before .before .before .before .args in (rw (← c .before .before .before .check-ring .ensures, c .before .refusal .given .1), refused-done (now (a .ring)) (a .bounds) (now (a .a)) (now (a .b)) (now (a .out)) _)
+unfolding ringCallAnswer
+returns c =
+    let a = c .before .before .before .before .before .before .before .before .args in
+    let e = sym (c .before .before .before .check-ring .ensures) ∙ c .before .refusal .given .1 in
+    (rw e, (refused-slices (now (a .ring)) (a .bounds) (ringSlices (now (a .a)) (now (a .b)) (now (a .out))) _ e, tt))
 
 same-length : tie.Need-same-length
 same-length c = search needs
@@ -40,13 +43,19 @@ same-length-3 : tie.Need-same-length-3
 same-length-3 c = search needs
 
 returns-2 : tie.Need-returns-2
-unfolding ringAnswer
+unfolding ringCallAnswer
 returns-2 c =
     let a = c .before .before .before .before .before .before .before .before .before .before .before .before .before .before .before .before .before .before .before .before .before .before .before .before .before .args in
-    let cut = c .before .before .before .before .before .before .before .before .before .before .before .before .before .before .clip-lent in (
-      rw (← c .before .before .before .before .before .before .before .before .before .before .before .before .before .before .before .before .before .before .before .before .check-ring .ensures, c .before .before .before .before .before .before .before .before .before .before .before .before .before .before .before .before .before .before .enum-told .given .1) (ap Clipped (cut .ensures .written .count)),
-      clipped-done (now (a .ring)) (a .bounds) (now (a .a)) (now (a .b)) (now (a .out)) _ _ _ _ (cut .ensures)
-          (cleared _ _ _ (c .before .before .before .before .before .before .clear .ensures) (cut .kept .1 .1 .0)) (cleared _ _ _ (c .before .before .clear2 .ensures) (cut .kept .1 .1 .1 .0)),
+    let cut = c .before .before .before .before .before .before .before .before .before .before .before .before .before .before .clip-lent in
+    let e = sym (c .before .before .before .before .before .before .before .before .before .before .before .before .before .before .before .before .before .before .before .before .check-ring .ensures)
+    ∙ c .before .before .before .before .before .before .before .before .before .before .before .before .before .before .before .before .before .before .enum-told .given .1 in (
+      rw e (ap Clipped (cut .ensures .written .count)),
+      (
+        clipped-slices (now (a .ring)) (a .bounds) (ringSlices (now (a .a)) (now (a .b)) (now (a .out))) _ _ _ _ e
+            (cleared _ _ _ (c .before .before .before .before .before .before .clear .ensures) (cut .kept .1 .1 .0))
+            (cleared _ _ _ (c .before .before .clear2 .ensures) (cut .kept .1 .1 .1 .0)) (cut .ensures),
+        cut .ensures .promise,
+      ),
     )
 
 pub ring-spec : {M : Type 1} → statement M

@@ -1,0 +1,78 @@
+-- What the functions of this crate say to each other; a reader of the entry contracts need not read it. Definitions only.
+use mathlib.Core.Path.{_≡_}
+use mathlib.Core.Bool.{true}
+use mathlib.Core.List.{List, [], _∷_}
+use Prim.Native.Nat.{ℕ, zero, suc, _+_, _*_, _^_, _<_, _≤_}
+use lib.Ieee.{Float}
+use lib.ListN.{length}
+use lib.Seq.{sets}
+use Rattle.binary64.specs.Slices.{over}
+use Rattle.tile.specs.declared.Coord.{Coord}
+use Rattle.tile.specs.declared.TileBounds.{TileBounds}
+use Rattle.tile.specs.Ring.{Stands}
+use Rattle.rings.specs.Rings.{exterior, closedRings, total, largest, ringRoom, allClosed, Measurable}
+use Rattle.clip.specs.declared.polygon.Route.{Route}
+use Rattle.clip.specs.Polygon.{Routed, cutExterior, CutStands}
+use Rattle.slices.specs.declared.call.Placed.{Placed}
+use Rattle.slices.specs.Slice.{writtenRings, numbersOf, lengthsOf}
+
+-- what becomes of a polygon is written
+pub record Filled (to : Routed) (out : List Float) (outLengths : List ℕ) (out′ : List Float) (outLengths′ : List ℕ) : Type 0 where
+  pub output : out′ ≡ over (numbersOf (writtenRings to)) out
+  pub lengths : outLengths′ ≡ over (lengthsOf (writtenRings to)) outLengths
+
+-- the length of a ring that is not left out
+abbrev pub lengthUnlessNone : ℕ → List ℕ
+lengthUnlessNone zero = []
+lengthUnlessNone (suc n) = suc n ∷ []
+
+-- nothing is written yet
+abbrev pub nonePlaced : Placed
+nonePlaced = record { rings = 0; numbers = 0 }
+
+-- a ring of n coordinates at the front of a slice has room behind what is written
+pub record PutRoom (n : ℕ) (ring : List Float) (out outLengths : ℕ) (at : Placed) : Type 0 where
+  pub lent : 2 * n ≤ length ring
+  pub small : n < 2 ^ 32
+  pub output : at .numbers + 2 * n ≤ out
+  pub lengths : at .rings < outLengths
+
+-- its numbers, and its length if it has coordinates, are written there
+pub record Put (n : ℕ) (numbers : List Float) (at : Placed) (out : List Float) (outLengths : List ℕ) (r : Placed) (out′ : List Float)
+    (outLengths′ : List ℕ) : Type 0 where
+  pub output : out′ ≡ sets out (at .numbers) numbers
+  pub lengths : outLengths′ ≡ sets outLengths (at .rings) (lengthUnlessNone n)
+  pub numbers-after : r .numbers ≡ at .numbers + 2 * n
+  pub rings-after : r .rings ≡ at .rings + length (lengthUnlessNone n)
+
+-- lent rings can be cut in two slices of these lengths, and have room behind what is written; closing closes them, as no first
+-- coordinate holds a NaN
+pub record LentRingsRoom (lengths : List ℕ) (coords : List Float) (a b out outLengths : ℕ) (at : Placed) : Type 0 where
+  pub measurable : Measurable lengths coords
+  pub closes : allClosed (closedRings lengths coords) ≡ true
+  pub first : 2 * largest ringRoom (closedRings lengths coords) ≤ a
+  pub second : 2 * largest ringRoom (closedRings lengths coords) ≤ b
+  pub output : at .numbers + 2 * total ringRoom (closedRings lengths coords) ≤ out
+  pub room-lengths : at .rings + length lengths ≤ outLengths
+
+-- the cut holes that are not left out are written there
+pub record PutHoles (holes : List (List Coord)) (at : Placed) (out : List Float) (outLengths : List ℕ) (r : Placed) (out′ : List Float)
+    (outLengths′ : List ℕ) : Type 0 where
+  pub output : out′ ≡ sets out (at .numbers) (numbersOf holes)
+  pub lengths : outLengths′ ≡ sets outLengths (at .rings) (lengthsOf holes)
+  pub rings-after : r .rings ≡ at .rings + length holes
+
+-- the cut exterior, m coordinates long, stands at the front of b, and the holes can be cut
+pub record LentCutRoom (bounds : TileBounds) (lengths : List ℕ) (coords : List Float) (m a : ℕ) (b : List Float)
+    (out outLengths : ℕ) : Type 0 where
+  pub rings : LentRingsRoom lengths coords a (length b) out outLengths nonePlaced
+  pub some : 0 < length lengths
+  pub stands : Stands (cutExterior bounds (exterior (closedRings lengths coords))) m b
+  pub whole : 0 < m
+
+-- the exterior has this route, and where it is a cut, the cut exterior stands at the front of b
+pub record LentRouteRoom (route : Route) (bounds : TileBounds) (lengths : List ℕ) (coords : List Float) (a : ℕ) (b : List Float)
+    (out outLengths : ℕ) : Type 0 where
+  pub rings : LentRingsRoom lengths coords a (length b) out outLengths nonePlaced
+  pub some : 0 < length lengths
+  pub stands : CutStands bounds (exterior (closedRings lengths coords)) route b
