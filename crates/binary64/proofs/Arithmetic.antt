@@ -1,5 +1,7 @@
--- The four operations on numbers of a format, in whole numbers of units: a sum and a difference are the exact one, rounded; the quotient of a number by one that is
--- no nearer to zero, on its side, is from 0 to 1; and a product with a factor from 0 to 1 goes no further from zero than the other factor. Assumes nothing.
+-- The four operations on numbers of a format, in whole numbers of units: a sum and a difference are the exact one, rounded; the quotient of
+-- a number by one that is
+-- no nearer to zero, on its side, is from 0 to 1; and a product with a factor from 0 to 1 goes no further from zero than the other factor.
+-- Assumes nothing.
 use mathlib.Core.Path.{_≡_, refl, sym, ap, ap₂, _∙_}
 use mathlib.Core.Logic.{_⊎_, inl, inr}
 use mathlib.Core.Bool.{Bool, true, false, not, cond}
@@ -13,7 +15,7 @@ use lib.Ieee.Bits.{cond-no}
 use lib.Ieee.Fits.{down-pos, neg-fits}
 use lib.Ieee.Positive.{num, den, first-pos}
 use lib.Ieee.Scale.{grid, overflow, round-same}
-use Rattle.binary64.specs.Scaled.{mag, plus, minus}
+use Rattle.binary64.specs.Scaled.{mag, aboveZero, belowZero}
 use Rattle.binary64.proofs.Order.{above, under}
 use Rattle.binary64.proofs.Value.{Number, Parts, Held, distance, held-zero, mag-whole}
 use Rattle.binary64.proofs.Rounding.{rnd, rnd-zero, round-parts, round-units, held-pow, grid-le-held}
@@ -38,11 +40,17 @@ rnd-under f true n = refl
 rnd-under f false n = sym (rnd-zero f)
 
 -- the fraction N / C with the sign s is ±n units, and that is p - q
-round-sum : (f : Format) (s : Bool) (N C n p q : ℕ) → 0 < C → N * 2 ^ low f ≡ n * C → above s n ≡ p - q → under s n ≡ q - p → rnd f (distance p q) < overflow f → Rounded f (round f s N C) p q
+round-sum : (f : Format) (s : Bool) (N C n p q : ℕ) → 0 < C → N * 2 ^ low f ≡ n * C → above s n ≡ p - q → under s n ≡ q - p
+    → rnd f (distance p q) < overflow f → Rounded f (round f s N C) p q
 round-sum f s N C n p q c e a u o =
     let r = round-units f s n (rw (size s a u) o) in
     rw (round-same f s N C n (2 ^ low f) c (pow-pos (low f)) e)
-    (record { number = r .number; plus-is = r .plus-is ∙ rnd-above f s n ∙ ap (rnd f) a; minus-is = r .minus-is ∙ rnd-under f s n ∙ ap (rnd f) u })
+    (record {
+      number = r .number;
+      plus-is = r .plus-is ∙ rnd-above f s n ∙ ap (rnd f) a;
+      minus-is = r .minus-is ∙ rnd-under f s n
+          ∙ ap (rnd f) u;
+    })
   where
     size : (s : Bool) → above s n ≡ p - q → under s n ≡ q - p → n ≡ distance p q
     size true a u = omega arith
@@ -63,48 +71,66 @@ module _ (f : Format) (X Y a b C : ℕ) (c : 0 < C) (p : X * 2 ^ low f ≡ a * C
       sub-mul x y l = mul-comm (x - y) l ∙ mul-sub l x y ∙ ap₂ _-_ (mul-comm l x) (mul-comm l y)
 
 sum-rounded : (f : Format) (s : Bool) (X : ℕ) (t : Bool) (Y a b C : ℕ) → 0 < C → X * 2 ^ low f ≡ a * C → Y * 2 ^ low f ≡ b * C
-    → rnd f (distance (above s a + above t b) (under s a + under t b)) < overflow f → Rounded f (sum f s X t Y C) (above s a + above t b) (under s a + under t b)
+    → rnd f (distance (above s a + above t b) (under s a + under t b)) < overflow f
+    → Rounded f (sum f s X t Y C) (above s a + above t b) (under s a + under t b)
 unfolding sum
-sum-rounded f false X false Y a b C c p q o = round-sum f false (X + Y) C (a + b) (a + b) (0 + 0) c (together f X Y a b C c p q) (omega arith) (omega arith) o
-sum-rounded f true X true Y a b C c p q o = round-sum f true (X + Y) C (a + b) (0 + 0) (a + b) c (together f X Y a b C c p q) (omega arith) (omega arith) o
-sum-rounded f false X true Y a b C c p q o = go (ltb X Y) (λ t. in-order f X Y a b C c p q (le-of-lt (ltb→lt X Y t))) (λ t. in-order f Y X b a C c q p (nltb→le X Y t))
+sum-rounded f false X false Y a b C c p q o =
+    round-sum f false (X + Y) C (a + b) (a + b) (0 + 0) c (together f X Y a b C c p q) (omega arith) (omega arith) o
+sum-rounded f true X true Y a b C c p q o =
+    round-sum f true (X + Y) C (a + b) (0 + 0) (a + b) c (together f X Y a b C c p q) (omega arith) (omega arith) o
+sum-rounded f false X true Y a b C c p q o =
+    go (ltb X Y) (λ t. in-order f X Y a b C c p q (le-of-lt (ltb→lt X Y t))) (λ t. in-order f Y X b a C c q p (nltb→le X Y t))
   where
-    go : (less : Bool) → (T less → a ≤ b) → (T (not less) → b ≤ a) → Rounded f (cond less (round f true (Y - X) C) (round f false (X - Y) C)) (a + 0) (0 + b)
-    go true l g = let h = l tt in round-sum f true (Y - X) C (b - a) (a + 0) (0 + b) c (apart f Y X b a C c q p) (omega arith) (omega arith) o
-    go false l g = let h = g tt in round-sum f false (X - Y) C (a - b) (a + 0) (0 + b) c (apart f X Y a b C c p q) (omega arith) (omega arith) o
+    go : (less : Bool) → (T less → a ≤ b) → (T (not less) → b ≤ a)
+        → Rounded f (cond less (round f true (Y - X) C) (round f false (X - Y) C)) (a + 0) (0 + b)
+    go true l g =
+        let h = l tt in round-sum f true (Y - X) C (b - a) (a + 0) (0 + b) c (apart f Y X b a C c q p) (omega arith) (omega arith) o
+    go false l g =
+        let h = g tt in round-sum f false (X - Y) C (a - b) (a + 0) (0 + b) c (apart f X Y a b C c p q) (omega arith) (omega arith) o
 sum-rounded f true X false Y a b C c p q o =
-    go (ltb X Y) (ltb Y X) (λ t. in-order f X Y a b C c p q (le-of-lt (ltb→lt X Y t))) (λ t. in-order f Y X b a C c q p (nltb→le X Y t)) (λ t. in-order f X Y a b C c p q (nltb→le Y X t))
+    go (ltb X Y) (ltb Y X) (λ t. in-order f X Y a b C c p q (le-of-lt (ltb→lt X Y t))) (λ t. in-order f Y X b a C c q p (nltb→le X Y t))
+    (λ t. in-order f X Y a b C c p q (nltb→le Y X t))
   where
-    go : (less more : Bool) → (T less → a ≤ b) → (T (not less) → b ≤ a) → (T (not more) → a ≤ b) → Rounded f (cond less (round f false (Y - X) C) (round f more (X - Y) C)) (0 + b) (a + 0)
-    go true more l g m = let h = l tt in round-sum f false (Y - X) C (b - a) (0 + b) (a + 0) c (apart f Y X b a C c q p) (omega arith) (omega arith) o
-    go false true l g m = let h = g tt in round-sum f true (X - Y) C (a - b) (0 + b) (a + 0) c (apart f X Y a b C c p q) (omega arith) (omega arith) o
-    go false false l g m = let h = g tt in let k = m tt in round-sum f false (X - Y) C (a - b) (0 + b) (a + 0) c (apart f X Y a b C c p q) (omega arith) (omega arith) o
+    go : (less more : Bool) → (T less → a ≤ b) → (T (not less) → b ≤ a) → (T (not more) → a ≤ b)
+        → Rounded f (cond less (round f false (Y - X) C) (round f more (X - Y) C)) (0 + b) (a + 0)
+    go true more l g m =
+        let h = l tt in round-sum f false (Y - X) C (b - a) (0 + b) (a + 0) c (apart f Y X b a C c q p) (omega arith) (omega arith) o
+    go false true l g m =
+        let h = g tt in round-sum f true (X - Y) C (a - b) (0 + b) (a + 0) c (apart f X Y a b C c p q) (omega arith) (omega arith) o
+    go false false l g m =
+        let h = g tt in let k = m tt in round-sum f false (X - Y) C (a - b) (0 + b) (a + 0) c (apart f X Y a b C c p q) (omega arith)
+        (omega arith) o
 
-pub add-rounded : {f : Format} {x y : Float} → Number f x → Number f y → rnd f (distance (plus f x + plus f y) (minus f x + minus f y)) < overflow f
-    → Rounded f (add f x y) (plus f x + plus f y) (minus f x + minus f y)
-unfolding add plus minus
+pub add-rounded : {f : Format} {x y : Float} → Number f x → Number f y
+    → rnd f (distance (aboveZero f x + aboveZero f y) (belowZero f x + belowZero f y)) < overflow f
+    → Rounded f (add f x y) (aboveZero f x + aboveZero f y) (belowZero f x + belowZero f y)
+unfolding add aboveZero belowZero
 add-rounded {x = nan} hx hy = absurd (hx .is-finite)
 add-rounded {x = inf s} hx hy = absurd (hx .is-finite)
 add-rounded {x = fin s m e} {y = nan} hx hy = absurd (hy .is-finite)
 add-rounded {x = fin s m e} {y = inf t} hx hy = absurd (hy .is-finite)
 add-rounded {f} {x = fin s m e} {y = fin t n d} hx hy =
-    sum-rounded f s (m * up e * down d) t (n * up d * down e) (mag f (fin s m e)) (mag f (fin t n d)) (down e * down d) (mul-pos (down-pos e) (down-pos d))
+    sum-rounded f s (m * up e * down d) t (n * up d * down e) (mag f (fin s m e)) (mag f (fin t n d)) (down e * down d)
+    (mul-pos (down-pos e) (down-pos d))
     (over hx (down d) (down e * down d) refl) (over hy (down e) (down e * down d) (mul-comm (down e) (down d)))
 
-pub sub-rounded : {f : Format} {x y : Float} → Number f x → Number f y → rnd f (distance (plus f x + minus f y) (minus f x + plus f y)) < overflow f
-    → Rounded f (sub f x y) (plus f x + minus f y) (minus f x + plus f y)
-unfolding sub neg plus minus
+pub sub-rounded : {f : Format} {x y : Float} → Number f x → Number f y
+    → rnd f (distance (aboveZero f x + belowZero f y) (belowZero f x + aboveZero f y)) < overflow f
+    → Rounded f (sub f x y) (aboveZero f x + belowZero f y) (belowZero f x + aboveZero f y)
+unfolding sub neg aboveZero belowZero
 sub-rounded {y = nan} hx hy = absurd (hy .is-finite)
 sub-rounded {y = inf t} hx hy = absurd (hy .is-finite)
-sub-rounded {f} {y = fin true n d} hx hy = add-rounded {y = fin false n d} hx (record { is-finite = tt; in-format = neg-fits f (fin true n d) (hy .in-format) })
-sub-rounded {f} {y = fin false n d} hx hy = add-rounded {y = fin true n d} hx (record { is-finite = tt; in-format = neg-fits f (fin false n d) (hy .in-format) })
+sub-rounded {f} {y = fin true n d} hx hy =
+    add-rounded {y = fin false n d} hx (record { is-finite = tt; in-format = neg-fits f (fin true n d) (hy .in-format) })
+sub-rounded {f} {y = fin false n d} hx hy =
+    add-rounded {y = fin true n d} hx (record { is-finite = tt; in-format = neg-fits f (fin false n d) (hy .in-format) })
 
 -- ---- what goes no further from zero
 -- z is a number whose part above zero is at most p units, and whose part below zero is at most n
 pub record AtMost (f : Format) (z : Float) (p n : ℕ) : Type 0 where
   pub number : Number f z
-  pub plus-le : plus f z ≤ p
-  pub minus-le : minus f z ≤ n
+  pub plus-le : aboveZero f z ≤ p
+  pub minus-le : belowZero f z ≤ n
 
 weaken : {f : Format} {z : Float} {p n q m : ℕ} → AtMost f z p n → (p ≤ q) × (n ≤ m) → AtMost f z q m
 weaken h k = record { number = h .number; plus-le = le-trans (h .plus-le) (k .0); minus-le = le-trans (h .minus-le) (k .1) }
@@ -114,7 +140,8 @@ held-above {f} true h = held-zero f
 held-above false h = h
 
 -- a fraction that is at most w units, w being held, rounds to at most w units
-round-at-most : {f : Format} {w : ℕ} (s : Bool) (X Y : ℕ) → 0 < Y → X * 2 ^ low f ≤ w * Y → Held f w → AtMost f (round f s X Y) (above s w) (under s w)
+round-at-most : {f : Format} {w : ℕ} (s : Bool) (X Y : ℕ) → 0 < Y → X * 2 ^ low f ≤ w * Y → Held f w
+    → AtMost f (round f s X Y) (above s w) (under s w)
 round-at-most {f} {w} s X Y y h held =
     let g : grid f X Y ≤ w = grid-le-held X Y y h held in
     let r = round-parts f s X Y (lt-of-le-of-lt g (held .small)) in
@@ -134,10 +161,13 @@ abbrev pub Inside : ℕ → ℕ → ℕ → ℕ → Type 0
 Inside px nx py ny = (nx ≡ 0) × (ny ≡ 0) × (px ≤ py) × (0 < py)
 
 abbrev pub PartOf : Format → Float → Float → Type 0
-PartOf f x y = Inside (plus f x) (minus f x) (plus f y) (minus f y) ⊎ Inside (minus f x) (plus f x) (minus f y) (plus f y)
+PartOf f x y =
+    Inside (aboveZero f x) (belowZero f x) (aboveZero f y) (belowZero f y) ⊎ Inside (belowZero f x) (aboveZero f x) (belowZero f y)
+    (aboveZero f y)
 
 -- of ±a and ±b: the signs are alike and a is at most b, or a is 0
-sizes : (s t : Bool) (a b : ℕ) → Inside (above s a) (under s a) (above t b) (under t b) ⊎ Inside (under s a) (above s a) (under t b) (above t b) → (a ≤ above (unlike s t) b) × (0 < b)
+sizes : (s t : Bool) (a b : ℕ) → Inside (above s a) (under s a) (above t b) (under t b) ⊎ Inside (under s a) (above s a) (under t b)
+    (above t b) → (a ≤ above (unlike s t) b) × (0 < b)
 sizes true true a b (inl h) = omega arith
 sizes true true a b (inr h) = omega arith
 sizes true false a b (inl h) = omega arith
@@ -150,7 +180,8 @@ sizes false false a b (inr h) = omega arith
 not-zero : (n : ℕ) → 0 < n → T (not (eqb n 0))
 not-zero n h = not-T (eqb n 0) (λ (t : T (eqb n 0)). let e : n ≡ 0 = eqb→eq n 0 t in omega arith)
 
-ratio-of-sizes : (f : Format) (u : Bool) (X Y a b C : ℕ) → 0 < Y → X * 2 ^ low f ≡ a * C → Y * 2 ^ low f ≡ b * C → a ≤ above u b → Ratio f (round f u X Y)
+ratio-of-sizes : (f : Format) (u : Bool) (X Y a b C : ℕ) → 0 < Y → X * 2 ^ low f ≡ a * C → Y * 2 ^ low f ≡ b * C → a ≤ above u b
+    → Ratio f (round f u X Y)
 ratio-of-sizes f u X Y a b C y p q h =
     weaken (round-at-most u X Y y (bound u h) (held-above u (held-pow f (low f) (omega arith)))) (side u)
   where
@@ -163,7 +194,7 @@ ratio-of-sizes f u X Y a b C y p q h =
     side false = omega arith
 
 pub div-ratio : {f : Format} {x y : Float} → Number f x → Number f y → PartOf f x y → Ratio f (div f x y)
-unfolding div plus minus
+unfolding div aboveZero belowZero
 div-ratio {x = nan} hx hy h = absurd (hx .is-finite)
 div-ratio {x = inf s} hx hy h = absurd (hx .is-finite)
 div-ratio {x = fin s m e} {y = nan} hx hy h = absurd (hy .is-finite)
@@ -183,7 +214,8 @@ div-ratio {f} {x = fin s m e} {y = fin t n d} hx hy h =
 
 -- ---- products
 -- A / c is ±a units, from 0 to 1, and B / d is b units
-product-le : (s : Bool) (A B c d a b L : ℕ) → 0 < L → A * L ≡ a * c → B * L ≡ b * d → above s a ≤ L → under s a ≤ 0 → A * B * L ≤ above s b * (c * d)
+product-le : (s : Bool) (A B c d a b L : ℕ) → 0 < L → A * L ≡ a * c → B * L ≡ b * d → above s a ≤ L → under s a ≤ 0
+    → A * B * L ≤ above s b * (c * d)
 product-le true A B c d a b L l p q u v =
     let g : a * c ≤ 0 * c = mul-le-mul-right c v in
     let h : A * L * B ≤ 0 * B = mul-le-mul-right B (omega arith) in
@@ -195,8 +227,8 @@ product-le false A B c d a b L l p q u v =
     let k : A * (B * L) ≡ A * (b * d) = ap (λ (z : ℕ). A * z) q in
     omega arith
 
-pub mul-shrinks : {f : Format} {t y : Float} → Ratio f t → Number f y → AtMost f (mul f t y) (plus f y) (minus f y)
-unfolding mul plus minus
+pub mul-shrinks : {f : Format} {t y : Float} → Ratio f t → Number f y → AtMost f (mul f t y) (aboveZero f y) (belowZero f y)
+unfolding mul aboveZero belowZero
 mul-shrinks {t = nan} ht hy = absurd (ht .number .is-finite)
 mul-shrinks {t = inf s} ht hy = absurd (ht .number .is-finite)
 mul-shrinks {t = fin s m e} {y = nan} ht hy = absurd (hy .is-finite)
@@ -205,7 +237,8 @@ mul-shrinks {f} {t = fin s m e} {y = fin r n d} ht hy =
     let b = mag f (fin r n d) in
     weaken
     (round-at-most (unlike s r) (m * up e * (n * up d)) (down e * down d) (mul-pos (down-pos e) (down-pos d))
-    (product-le s (m * up e) (n * up d) (down e) (down d) (mag f (fin s m e)) b (2 ^ low f) (pow-pos (low f)) (mag-whole (ht .number) .0) (mag-whole hy .0) (ht .plus-le) (ht .minus-le))
+    (product-le s (m * up e) (n * up d) (down e) (down d) (mag f (fin s m e)) b (2 ^ low f) (pow-pos (low f))
+    (mag-whole (ht .number) .0) (mag-whole hy .0) (ht .plus-le) (ht .minus-le))
     (held-above s (mag-whole hy .1)))
     (side s r b)
   where

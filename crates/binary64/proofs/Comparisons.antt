@@ -13,7 +13,8 @@ use lib.Ieee.Compare.{differs-from-itself}
 use lib.Ieee.Scale.{finite}
 use lib.Ieee.Fits.{up-pos, down-pos}
 use borrow.Author.Tests.{lt-ltb, eq-eqb, ne-eqb}
-use Rattle.binary64.specs.Compare.{minimum, maximum, lower, higher, magnitude, tolerance, limit}
+use Rattle.binary64.specs.Compare.{minimum, maximum, magnitude, tolerance, limit}
+use Rattle.binary64.specs.Contracts.{lower, higher}
 
 -- a number differs from itself exactly if it is a NaN
 pub ne-self : (x : Float) → ne x x ≡ isNan x
@@ -59,15 +60,18 @@ not-level : (a b : ℕ) → 0 < b → eqb a b && eqb a 0 ≡ false
 not-level zero b h = rw (ne-eqb 0 b (λ q. omega arith))
 not-level (suc a) b h = rw (ne-eqb (suc a) 0 (λ q. omega arith)) (and-false (eqb (suc a) b))
 
-pub magnitude-below : (m : ℕ) (e : ℤ) (x : Float) → lt x (fin false (suc m) e) && lt (fin true (suc m) e) x ≡ lt (magnitude x) (fin false (suc m) e)
+pub magnitude-below : (m : ℕ) (e : ℤ) (x : Float) → lt x (fin false (suc m) e) && lt (fin true (suc m) e) x ≡ lt (magnitude x)
+    (fin false (suc m) e)
 unfolding lt magnitude
 magnitude-below m e nan = refl
 magnitude-below m e (inf true) = refl
 magnitude-below m e (inf false) = refl
-magnitude-below m e (fin false n d) = rw (lt-ltb 0 (suc m * up e * down d + n * up d * down e) (omega (arith, above-zero m e d))) (and-true _)
+magnitude-below m e (fin false n d) =
+    rw (lt-ltb 0 (suc m * up e * down d + n * up d * down e) (omega (arith, above-zero m e d))) (and-true _)
 magnitude-below m e (fin true n d) = rw (lt-ltb 0 (n * up d * down e + suc m * up e * down d) (omega (arith, above-zero m e d)))
 
-pub magnitude-reaches : (m : ℕ) (e : ℤ) (x : Float) → le (fin false (suc m) e) x || le x (fin true (suc m) e) ≡ le (fin false (suc m) e) (magnitude x)
+pub magnitude-reaches : (m : ℕ) (e : ℤ) (x : Float) → le (fin false (suc m) e) x || le x (fin true (suc m) e) ≡ le
+    (fin false (suc m) e) (magnitude x)
 unfolding le lt eq magnitude
 magnitude-reaches m e nan = refl
 magnitude-reaches m e (inf true) = refl

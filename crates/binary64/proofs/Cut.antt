@@ -1,4 +1,5 @@
--- One cut: `interpolate` leaves no range that both ends lie in by more than 2 ^ (k + 1) units, where the ends and the line are below 2 ^ (prec + k) units in size.
+-- One cut: `interpolate` leaves no range that both ends lie in by more than 2 ^ (k + 1) units, where the ends and the line are below 2 ^
+-- (prec + k) units in size.
 -- For a double and k = 1030: below 512, at most 1 / 2 ^ 43. Of the line it asks only that it lies between the ends. Assumes nothing.
 use mathlib.Core.Path.{_≡_, ap, _∙_}
 use mathlib.Core.Logic.{_⊎_, inl, inr}
@@ -9,7 +10,7 @@ use lib.Pow.{pow-mono}
 use lib.Ieee.{Float, Format, prec, emax, low, add, sub, mul, div}
 use lib.Ieee.Scale.{overflow}
 use Rattle.binary64.specs.Interpolation.{interpolate}
-use Rattle.binary64.specs.Scaled.{mag, plus, minus}
+use Rattle.binary64.specs.Scaled.{mag, aboveZero, belowZero}
 use Rattle.binary64.proofs.Value.{Le, Lt}
 use Rattle.binary64.proofs.Value.{Number, distance, mag-whole, mag-parts}
 use Rattle.binary64.proofs.Rounding.{rnd, rnd-zero, rnd-mono, rnd-small, rnd-pos, Off, rnd-off}
@@ -27,17 +28,19 @@ Room f k = prec f + suc k < low f + suc (emax f)
 twice : (f : Format) (k : ℕ) → 2 ^ (prec f + suc k) ≡ 2 ^ (prec f + k) + 2 ^ (prec f + k)
 twice f k = ap (λ (x : ℕ). 2 ^ x) (add-suc (prec f) k) ∙ two-pow-succ (prec f + k)
 
-parts-lt : {f : Format} {k : ℕ} {x : Float} → Small f k x → (plus f x < 2 ^ (prec f + k)) × (minus f x < 2 ^ (prec f + k))
+parts-lt : {f : Format} {k : ℕ} {x : Float} → Small f k x → (aboveZero f x < 2 ^ (prec f + k)) × (belowZero f x < 2 ^ (prec f + k))
 parts-lt {f} {x = x} h = let a = mag-parts f x in omega arith
 
 -- ---- differences
-difference-lt : {f : Format} {k : ℕ} {x y : Float} → Small f k x → Small f k y → distance (plus f x + minus f y) (minus f x + plus f y) < 2 ^ (prec f + suc k)
+difference-lt : {f : Format} {k : ℕ} {x y : Float} → Small f k x → Small f k y → distance (aboveZero f x + belowZero f y)
+    (belowZero f x + aboveZero f y) < 2 ^ (prec f + suc k)
 difference-lt {f} {k} hx hy =
     let a = parts-lt hx in
     let b = parts-lt hy in
     rw (twice f k) (omega arith)
 
-sub-small : {f : Format} {k : ℕ} {x y : Float} → Room f k → Small f k x → Small f k y → Rounded f (sub f x y) (plus f x + minus f y) (minus f x + plus f y)
+sub-small : {f : Format} {k : ℕ} {x y : Float} → Room f k → Small f k x → Small f k y
+    → Rounded f (sub f x y) (aboveZero f x + belowZero f y) (belowZero f x + aboveZero f y)
 sub-small {f} r hx hy = sub-rounded (hx .number) (hy .number) (rnd-small f (le-of-lt (difference-lt hx hy)) r)
 
 -- ---- the line lies between the ends, from the lower to the higher or the other way, and the ends differ
@@ -51,7 +54,8 @@ rnd-of-zero : (f : Format) (n : ℕ) → n ≡ 0 → rnd f n ≡ 0
 rnd-of-zero f n e = ap (rnd f) e ∙ rnd-zero f
 
 -- p - q lies from 0 to r - s, and so do the two when rounded
-inside-of-rounded : {px nx py ny : ℕ} (f : Format) (p q r s : ℕ) → px ≡ rnd f (p - q) → nx ≡ rnd f (q - p) → py ≡ rnd f (r - s) → ny ≡ rnd f (s - r)
+inside-of-rounded : {px nx py ny : ℕ} (f : Format) (p q r s : ℕ) → px ≡ rnd f (p - q) → nx ≡ rnd f (q - p) → py ≡ rnd f (r - s)
+    → ny ≡ rnd f (s - r)
     → py < overflow f → q ≤ p → s < r → p + s ≤ r + q → Inside px nx py ny
 inside-of-rounded f p q r s a b c d o u v w =
     let small : rnd f (r - s) < overflow f = rw c at o in (
@@ -62,16 +66,17 @@ inside-of-rounded f p q r s a b c d o u v w =
     )
 
 -- so t is from 0 to 1
-ratio : {f : Format} {k : ℕ} {c va vb : Float} → Room f k → Small f k c → Small f k va → Small f k vb → Between f va c vb → Ratio f (div f (sub f c va) (sub f vb va))
+ratio : {f : Format} {k : ℕ} {c va vb : Float} → Room f k → Small f k c → Small f k va → Small f k vb → Between f va c vb
+    → Ratio f (div f (sub f c va) (sub f vb va))
 ratio {f} {k} {c} {va} {vb} r hc ha hb w = div-ratio (x .number) (y .number) (go w)
   where
-    x : Rounded f (sub f c va) (plus f c + minus f va) (minus f c + plus f va)
+    x : Rounded f (sub f c va) (aboveZero f c + belowZero f va) (belowZero f c + aboveZero f va)
     x = sub-small r hc ha
 
-    y : Rounded f (sub f vb va) (plus f vb + minus f va) (minus f vb + plus f va)
+    y : Rounded f (sub f vb va) (aboveZero f vb + belowZero f va) (belowZero f vb + aboveZero f va)
     y = sub-small r hb ha
 
-    small : (plus f (sub f vb va) < overflow f) × (minus f (sub f vb va) < overflow f)
+    small : (aboveZero f (sub f vb va) < overflow f) × (belowZero f (sub f vb va) < overflow f)
     small =
         let a = mag-parts f (sub f vb va) in
         let b = mag-whole (y .number) .1 .small in
@@ -79,10 +84,12 @@ ratio {f} {k} {c} {va} {vb} r hc ha hb w = div-ratio (x .number) (y .number) (go
 
     go : Between f va c vb → PartOf f (sub f c va) (sub f vb va)
     go (inl b) =
-        inl (inside-of-rounded f (plus f c + minus f va) (minus f c + plus f va) (plus f vb + minus f va) (minus f vb + plus f va) (x .plus-is) (x .minus-is) (y .plus-is) (y .minus-is) (small .0)
+        inl (inside-of-rounded f (aboveZero f c + belowZero f va) (belowZero f c + aboveZero f va) (aboveZero f vb + belowZero f va)
+        (belowZero f vb + aboveZero f va) (x .plus-is) (x .minus-is) (y .plus-is) (y .minus-is) (small .0)
         (omega arith) (omega arith) (omega arith))
     go (inr b) =
-        inr (inside-of-rounded f (minus f c + plus f va) (plus f c + minus f va) (minus f vb + plus f va) (plus f vb + minus f va) (x .minus-is) (x .plus-is) (y .minus-is) (y .plus-is) (small .1)
+        inr (inside-of-rounded f (belowZero f c + aboveZero f va) (aboveZero f c + belowZero f va) (belowZero f vb + aboveZero f va)
+        (aboveZero f vb + belowZero f va) (x .minus-is) (x .plus-is) (y .minus-is) (y .plus-is) (small .1)
         (omega arith) (omega arith) (omega arith))
 
 -- ---- ranges of whole numbers, from lp - ln to hp - hn
@@ -95,15 +102,16 @@ pub record Range : Type 0 where
 -- a number of the format that lies in the range
 pub record In (f : Format) (r : Range) (x : Float) : Type 0 where
   pub number : Number f x
-  pub not-below : r .lp + minus f x ≤ plus f x + r .ln
-  pub not-above : plus f x + r .hn ≤ r .hp + minus f x
+  pub not-below : r .lp + belowZero f x ≤ aboveZero f x + r .ln
+  pub not-above : aboveZero f x + r .hn ≤ r .hp + belowZero f x
 
 -- wider by e at both ends
 abbrev pub widen : ℕ → Range → Range
 widen e r = record { lp = r .lp; ln = r .ln + e; hp = r .hp + e; hn = r .hn }
 
 -- ---- the cut
-rounded-off : {f : Format} {z : Float} (k p n : ℕ) → Rounded f z p n → distance p n < 2 ^ (prec f + suc k) → Off (plus f z + n) (p + minus f z) (2 ^ k)
+rounded-off : {f : Format} {z : Float} (k p n : ℕ) → Rounded f z p n → distance p n < 2 ^ (prec f + suc k)
+    → Off (aboveZero f z + n) (p + belowZero f z) (2 ^ k)
 rounded-off {f} {z} k p n h l =
     let u = h .plus-is in
     let v = h .minus-is in
@@ -115,30 +123,37 @@ rounded-off {f} {z} k p n h l =
     ]
 
 -- from pa - na, at most as far towards pb - nb as that is, and e: no further than the two, and e
-moved-lt : (pa na pb nb pp np e w : ℕ) → (pa < w) × (na < w) → (pb < w) × (nb < w) → pp ≤ pb + na - (nb + pa) + e → np ≤ nb + pa - (pb + na) + e → e ≤ w → distance (pa + pp) (na + np) < w + w
+moved-lt : (pa na pb nb pp np e w : ℕ) → (pa < w) × (na < w) → (pb < w) × (nb < w) → pp ≤ pb + na - (nb + pa) + e
+    → np ≤ nb + pa - (pb + na) + e → e ≤ w → distance (pa + pp) (na + np) < w + w
 moved-lt pa na pb nb pp np e w a b p n l = omega arith
 
 -- for any t from 0 to 1
-mixed-in : {f : Format} {k : ℕ} {t ua ub : Float} {r : Range} → Room f k → Ratio f t → Small f k ua → Small f k ub → In f r ua → In f r ub → In f (widen (2 ^ suc k) r) (add f ua (mul f t (sub f ub ua)))
+mixed-in : {f : Format} {k : ℕ} {t ua ub : Float} {r : Range} → Room f k → Ratio f t → Small f k ua → Small f k ub → In f r ua
+    → In f r ub → In f (widen (2 ^ suc k) r) (add f ua (mul f t (sub f ub ua)))
 mixed-in {f} {k} {t} {ua} {ub} {r} room ht ha hb ia ib =
     let d = sub f ub ua in
-    let hd : Rounded f d (plus f ub + minus f ua) (minus f ub + plus f ua) = sub-small room hb ha in
+    let hd : Rounded f d (aboveZero f ub + belowZero f ua) (belowZero f ub + aboveZero f ua) = sub-small room hb ha in
     let p = mul f t d in
-    let hp : AtMost f p (plus f d) (minus f d) = mul-shrinks ht (hd .number) in
+    let hp : AtMost f p (aboveZero f d) (belowZero f d) = mul-shrinks ht (hd .number) in
     let l = difference-lt hb ha in
-    let d1 = rnd-off f (plus f ub + minus f ua - (minus f ub + plus f ua)) k (omega arith) in
-    let d2 = rnd-off f (minus f ub + plus f ua - (plus f ub + minus f ua)) k (omega arith) in
-    let p1 : plus f p ≤ plus f ub + minus f ua - (minus f ub + plus f ua) + 2 ^ k = le-trans (hp .plus-le) (le-trans (le-of-eq (hd .plus-is)) (d1 .0)) in
-    let p2 : minus f p ≤ minus f ub + plus f ua - (plus f ub + minus f ua) + 2 ^ k = le-trans (hp .minus-le) (le-trans (le-of-eq (hd .minus-is)) (d2 .0)) in
-    let sum-lt : distance (plus f ua + plus f p) (minus f ua + minus f p) < 2 ^ (prec f + suc k) =
-    rw (twice f k) (moved-lt (plus f ua) (minus f ua) (plus f ub) (minus f ub) (plus f p) (minus f p) (2 ^ k) (2 ^ (prec f + k)) (parts-lt ha) (parts-lt hb) p1 p2 (pow-mono (omega arith))) in
-    let hu : Rounded f (add f ua p) (plus f ua + plus f p) (minus f ua + minus f p) = add-rounded (ha .number) (hp .number) (rnd-small f (le-of-lt sum-lt) room) in
-    let u = rounded-off k (plus f ua + plus f p) (minus f ua + minus f p) hu sum-lt in
+    let d1 = rnd-off f (aboveZero f ub + belowZero f ua - (belowZero f ub + aboveZero f ua)) k (omega arith) in
+    let d2 = rnd-off f (belowZero f ub + aboveZero f ua - (aboveZero f ub + belowZero f ua)) k (omega arith) in
+    let p1 : aboveZero f p ≤ aboveZero f ub + belowZero f ua - (belowZero f ub + aboveZero f ua) + 2 ^ k = le-trans (hp .plus-le)
+    (le-trans (le-of-eq (hd .plus-is)) (d1 .0)) in
+    let p2 : belowZero f p ≤ belowZero f ub + aboveZero f ua - (aboveZero f ub + belowZero f ua) + 2 ^ k = le-trans (hp .minus-le)
+    (le-trans (le-of-eq (hd .minus-is)) (d2 .0)) in
+    let sum-lt : distance (aboveZero f ua + aboveZero f p) (belowZero f ua + belowZero f p) < 2 ^ (prec f + suc k) =
+    rw (twice f k) (moved-lt (aboveZero f ua) (belowZero f ua) (aboveZero f ub) (belowZero f ub) (aboveZero f p) (belowZero f p) (2 ^ k)
+    (2 ^ (prec f + k)) (parts-lt ha) (parts-lt hb) p1 p2 (pow-mono (omega arith))) in
+    let hu : Rounded f (add f ua p) (aboveZero f ua + aboveZero f p) (belowZero f ua + belowZero f p) = add-rounded (ha .number)
+    (hp .number) (rnd-small f (le-of-lt sum-lt) room) in
+    let u = rounded-off k (aboveZero f ua + aboveZero f p) (belowZero f ua + belowZero f p) hu sum-lt in
     let e = two-pow-succ k in
     record { number = hu .number; not-below = omega arith; not-above = omega arith }
 
 -- the law of one cut
-pub interpolate-in : {f : Format} {k : ℕ} {c va vb ua ub : Float} {r : Range} → Room f k → Small f k c → Small f k va → Small f k vb → Small f k ua → Small f k ub
+pub interpolate-in : {f : Format} {k : ℕ} {c va vb ua ub : Float} {r : Range} → Room f k → Small f k c → Small f k va → Small f k vb
+    → Small f k ua → Small f k ub
     → Between f va c vb → In f r ua → In f r ub → In f (widen (2 ^ suc k) r) (interpolate f c va vb ua ub)
 unfolding interpolate
 interpolate-in room hc hva hvb hua hub w = mixed-in room (ratio room hc hva hvb w) hua hub

@@ -16,11 +16,20 @@ pub record Upto {A : Type 0} (F d : List A) (j : ℕ) (l : List A) : Type 0 wher
 pub upto-start : {A : Type 0} (F d : List A) → Upto F d 0 d
 upto-start F d = record { here = refl; same = refl }
 
-pub upto-step : {A : Type 0} {F d l : List A} {j : ℕ} (z v : A) → j < length d → j < length F → v ≡ getD F j z → Upto F d j l → Upto F d (j + 1) (set l j v)
+pub upto-step : {A : Type 0} {F d l : List A} {j : ℕ} (z v : A) → j < length d → j < length F → v ≡ getD F j z → Upto F d j l
+    → Upto F d (j + 1) (set l j v)
 upto-step {F = F} {d = d} {l = l} {j = j} z v hd hf e u = record {
   here =
       let n : length (take j F) ≡ j = length-take-le j F (omega arith) in
-      rw (u .here, e, add-one, drop-cons d j z hd, set-at (take j F) (getD d j z) (drop (suc j) d) (getD F j z) j n, take-suc F j z hf, append-assoc);
+      rw (
+        u .here,
+        e,
+        add-one,
+        drop-cons d j z hd,
+        set-at (take j F) (getD d j z) (drop (suc j) d) (getD F j z) j n,
+        take-suc F j z hf,
+        append-assoc,
+      );
   same = length-set l j v ∙ u .same;
 }
 
@@ -43,7 +52,8 @@ pub tail-part : {A : Type 0} (s : List A) (at : ℕ) → take (length s - at) (d
 tail-part s at = take-all (length s - at) (drop at s) (omega (arith, length-drop at s))
 
 -- k elements copied to the front of that part
-pub sets-part : {A : Type 0} (from to part to′ : List A) (at k : ℕ) → k ≤ length from → at + k ≤ length to → part ≡ take k from ++ drop k (take (length to - at) (drop at to))
+pub sets-part : {A : Type 0} (from to part to′ : List A) (at k : ℕ) → k ≤ length from → at + k ≤ length to
+    → part ≡ take k from ++ drop k (take (length to - at) (drop at to))
     → to′ ≡ take at to ++ (part ++ drop (length to - at) (drop at to)) → to′ ≡ sets to at (take k from)
 sets-part from to part to′ at k hf ht hp h =
     let n : length (take k from) ≡ k = length-take-le k from hf in

@@ -1,4 +1,5 @@
--- The order of doubles, with NaN and infinities: a number below one that is not above a third is below the third; what a comparison says of NaN;
+-- The order of doubles, with NaN and infinities: a number below one that is not above a third is below the third; what a comparison says of
+-- NaN;
 -- a NaN goes through differences and products. Assumes nothing.
 use mathlib.Core.Path.{_≡_, refl, sym, _∙_}
 use mathlib.Core.Bool.{Bool, true, false, _||_, cond, true≢false, false≢true}

@@ -51,19 +51,24 @@ both-zero : (a b : ℕ) → a ≡ b → a ≡ 0 → T (eqb a b && eqb a 0)
 both-zero a b p q = and-i (eqb a b) (eqb a 0) (eq→eqb p) (eq→eqb q)
 
 ord-of-test : (s : Bool) (a c : ℕ) (t : Bool) (b d : ℕ) → T (below s (a * d) t (b * c) || level s (a * d) t (b * c)) → Ord s a c t b d
-ord-of-test false a c false b d h = let g : a * d ≤ b * c = le-of-test (a * d) (b * c) (eqb (a * d) (b * c) && true) (eq-of-level (a * d) (b * c) true) h in omega arith
+ord-of-test false a c false b d h =
+    let g : a * d ≤ b * c = le-of-test (a * d) (b * c) (eqb (a * d) (b * c) && true) (eq-of-level (a * d) (b * c) true) h in omega arith
 ord-of-test false a c true b d h =
     let p : a * d ≡ b * c = eq-of-level (a * d) (b * c) (eqb (a * d) 0) h in
     let q : a * d ≡ 0 = eqb→eq (a * d) 0 (and-r (eqb (a * d) (b * c)) (eqb (a * d) 0) h) in
     omega arith
 ord-of-test true a c false b d h = omega arith
-ord-of-test true a c true b d h = let g : b * c ≤ a * d = le-of-test (b * c) (a * d) (eqb (a * d) (b * c) && true) (λ t. sym (eq-of-level (a * d) (b * c) true t)) h in omega arith
+ord-of-test true a c true b d h =
+    let g : b * c ≤ a * d = le-of-test (b * c) (a * d) (eqb (a * d) (b * c) && true) (λ t. sym (eq-of-level (a * d) (b * c) true t)) h
+    in omega arith
 
 test-of-ord : (s : Bool) (a c : ℕ) (t : Bool) (b d : ℕ) → Ord s a c t b d → T (below s (a * d) t (b * c) || level s (a * d) t (b * c))
 test-of-ord false a c false b d h = test-of-le (a * d) (b * c) (eqb (a * d) (b * c) && true) (level-of-eq (a * d) (b * c)) (omega arith)
 test-of-ord false a c true b d h = both-zero (a * d) (b * c) (omega arith) (omega arith)
-test-of-ord true a c false b d h = test-of-le 0 (a * d + b * c) (eqb (a * d) (b * c) && eqb (a * d) 0) (λ p. both-zero (a * d) (b * c) (omega arith) (omega arith)) zero-le
-test-of-ord true a c true b d h = test-of-le (b * c) (a * d) (eqb (a * d) (b * c) && true) (λ p. level-of-eq (a * d) (b * c) (sym p)) (omega arith)
+test-of-ord true a c false b d h =
+    test-of-le 0 (a * d + b * c) (eqb (a * d) (b * c) && eqb (a * d) 0) (λ p. both-zero (a * d) (b * c) (omega arith) (omega arith)) zero-le
+test-of-ord true a c true b d h =
+    test-of-le (b * c) (a * d) (eqb (a * d) (b * c) && true) (λ p. level-of-eq (a * d) (b * c) (sym p)) (omega arith)
 
 -- ---- the numerators of a float's part above zero and of its part below zero; the denominator is `den`
 abbrev pub plusNum : Float → ℕ
@@ -81,7 +86,8 @@ le-is-fractions nan y p q = absurd p
 le-is-fractions (inf s) y p q = absurd p
 le-is-fractions (fin s m e) nan p q = absurd q
 le-is-fractions (fin s m e) (inf t) p q = absurd q
-le-is-fractions (fin s m e) (fin t n d) p q = (ord-of-test s (m * up e) (down e) t (n * up d) (down d), test-of-ord s (m * up e) (down e) t (n * up d) (down d))
+le-is-fractions (fin s m e) (fin t n d) p q =
+    (ord-of-test s (m * up e) (down e) t (n * up d) (down d), test-of-ord s (m * up e) (down e) t (n * up d) (down d))
 
 -- ---- the order
 pub le-not-nan : (x y : Float) → T (le x y) → T (not (isNan x)) × T (not (isNan y))
@@ -99,7 +105,9 @@ unfolding le isNan
 le-self nan h = h
 le-self (inf true) h = tt
 le-self (inf false) h = tt
-le-self (fin s m e) h = le-is-fractions (fin s m e) (fin s m e) tt tt .1 (le-refl (plusNum (fin s m e) * den (fin s m e) + minusNum (fin s m e) * den (fin s m e)))
+le-self (fin s m e) h =
+    le-is-fractions (fin s m e) (fin s m e) tt tt .1
+    (le-refl (plusNum (fin s m e) * den (fin s m e) + minusNum (fin s m e) * den (fin s m e)))
 
 -- what is compared and found in order is at most itself
 pub le-self-of-le : (x y : Float) → T (le x y) → T (le x x) × T (le y y)

@@ -1,9 +1,11 @@
--- A fraction rounded to a format, in units: `grid f a c` is a / c rounded, `rnd f n` is n units rounded. Rounding leaves what the format holds, keeps the order,
+-- A fraction rounded to a format, in units: `grid f a c` is a / c rounded, `rnd f n` is n units rounded. Rounding leaves what the format
+-- holds, keeps the order,
 -- and below 2 ^ (prec + k + 1) units it is at most 2 ^ k units off. Assumes nothing.
 use mathlib.Core.Path.{_≡_, sym, ap, _∙_}
 use mathlib.Core.Bool.{Bool, false, not}
 use Prim.Native.Nat.{ℕ, suc, _+_, _*_, _/_, _%_, _^_, _≤_, _<_, compare, Ordering, Ordering·lt, Ordering·eq, Ordering·gt}
-use native.Mathlib.Nat.{le-trans, le-of-eq, lt-of-le-of-lt, mod-lt, one-mul, zero-mul, mul-le-mul-right, mul-le-mul-left, mul-lt-mul-of-pos-right, le-of-mul-le-mul-right, mul-pos, div-add-mod', div-lt-iff-lt-mul, two-pow-succ}
+use native.Mathlib.Nat.{le-trans, le-of-eq, lt-of-le-of-lt, mod-lt, one-mul, zero-mul, mul-le-mul-right, mul-le-mul-left}
+use native.Mathlib.Nat.{mul-lt-mul-of-pos-right, le-of-mul-le-mul-right, mul-pos, div-add-mod', div-lt-iff-lt-mul, two-pow-succ}
 use native.Mathlib.Omega.{arith}
 use lib.Dec.{T, isLe, isEq, leb→le, nleb→lt, eqb→eq}
 use lib.Pow.{pow-pos, pow-mono, pow-lt}
@@ -22,13 +24,16 @@ pub rnd : Format → ℕ → ℕ
 rnd f n = grid f n (2 ^ low f)
 
 -- ---- `round`, by its parts
-pub round-parts : (f : Format) (s : Bool) (a c : ℕ) → grid f a c < overflow f → Parts f (round f s a c) (above s (grid f a c)) (under s (grid f a c))
+pub round-parts : (f : Format) (s : Bool) (a c : ℕ) → grid f a c < overflow f → Parts f (round f s a c) (above s (grid f a c))
+    (under s (grid f a c))
 round-parts f s a c h =
     let n = a * 2 ^ low f in
-    let v : HasValue (round f s a c) s (grid f a c) (2 ^ low f) = rw (round-is f s a c) (units-val f s (kept (prec f) n c) (drop (prec f) n c) h) in
+    let v : HasValue (round f s a c) s (grid f a c) (2 ^ low f) = rw (round-is f s a c)
+    (units-val f s (kept (prec f) n c) (drop (prec f) n c) h) in
     parts-of-value f (round f s a c) s (grid f a c) v (round-fits f s a c)
 
-pub round-units : (f : Format) (s : Bool) (n : ℕ) → rnd f n < overflow f → Parts f (round f s n (2 ^ low f)) (above s (rnd f n)) (under s (rnd f n))
+pub round-units : (f : Format) (s : Bool) (n : ℕ) → rnd f n < overflow f → Parts f (round f s n (2 ^ low f)) (above s (rnd f n))
+    (under s (rnd f n))
 unfolding rnd
 round-units f s n = round-parts f s n (2 ^ low f)
 
@@ -43,8 +48,10 @@ unfolding rnd
 rnd-held {f} {w} h =
     let l = 2 ^ low f in
     let x = round f false w l in
-    let v : HasValue x false w l = round-exact f false w l (h .digits) (h .zeros) (pow-pos (low f)) (h .few) (rw (← h .is) (h .small)) (ap (λ (z : ℕ). z * l) (h .is)) in
-    sym (round-parts f false w l (round-under f w l (finite-of-value x false w l v)) .plus-is) ∙ parts-of-value f x false w v (round-fits f false w l) .plus-is
+    let v : HasValue x false w l = round-exact f false w l (h .digits) (h .zeros) (pow-pos (low f)) (h .few) (rw (← h .is) (h .small))
+    (ap (λ (z : ℕ). z * l) (h .is)) in
+    sym (round-parts f false w l (round-under f w l (finite-of-value x false w l v)) .plus-is) ∙ parts-of-value f x false w v
+    (round-fits f false w l) .plus-is
 
 pub rnd-zero : (f : Format) → rnd f 0 ≡ 0
 rnd-zero f = rnd-held (held-zero f)
@@ -54,7 +61,9 @@ held-pow f j h = record { digits = 1; zeros = j; is = sym (one-mul (2 ^ j)); few
 
 -- ---- the order stays, as long as nothing overflows
 zero-finite : (f : Format) → T (finite (round f false 0 1))
-zero-finite f = finite-of-value (round f false 0 1) false 0 1 (round-exact f false 0 1 0 0 (pow-pos 0) (pow-pos (prec f)) (pow-pos (low f + suc (emax f))) (zero-mul (2 ^ low f)))
+zero-finite f =
+    finite-of-value (round f false 0 1) false 0 1 (round-exact f false 0 1 0 0 (pow-pos 0) (pow-pos (prec f))
+    (pow-pos (low f + suc (emax f))) (zero-mul (2 ^ low f)))
 
 grid-mono : (f : Format) (a b c d : ℕ) → 0 < b → 0 < d → a * d ≤ c * b → grid f c d < overflow f → grid f a b ≤ grid f c d
 grid-mono f a b c d B D h o =
@@ -62,7 +71,8 @@ grid-mono f a b c d B D h o =
     let y = round f false c d in
     let py = round-parts f false c d o in
     let l : T (le x y) = round-mono f a b c d B D h in
-    let x-finite : T (finite x) = finite-between (round f false 0 1) x y (zero-finite f) (py .number .is-finite) (round-mono f 0 1 a b (pow-pos 0) B (omega arith)) l in
+    let x-finite : T (finite x) = finite-between (round f false 0 1) x y (zero-finite f) (py .number .is-finite)
+    (round-mono f 0 1 a b (pow-pos 0) B (omega arith)) l in
     let px = round-parts f false a b (round-under f a b x-finite) in
     let g : Le f x y = Le-of-le (px .number) (py .number) l in
     let x1 = px .plus-is in
@@ -97,7 +107,8 @@ abbrev pub Off : ℕ → ℕ → ℕ → Type 0
 Off x y e = (x ≤ y + e) × (y ≤ x + e)
 
 -- a = q * b + r, over b, to the nearest whole number: at most half of one off
-nearest-off : (q r b a : ℕ) (o : Ordering) → q * b + r ≡ a → r < b → (T (isLe o) → r * 2 ≤ b) → (T (not (isLe o)) → b < r * 2) → (T (isEq o) → r * 2 ≡ b) → Off (nearest q o * b * 2) (a * 2) b
+nearest-off : (q r b a : ℕ) (o : Ordering) → q * b + r ≡ a → r < b → (T (isLe o) → r * 2 ≤ b) → (T (not (isLe o)) → b < r * 2)
+    → (T (isEq o) → r * 2 ≡ b) → Off (nearest q o * b * 2) (a * 2) b
 nearest-off q r b a Ordering·lt e l less more same = let h = less tt in omega arith
 nearest-off q r b a Ordering·eq e l less more same =
     let h = same tt in
@@ -106,7 +117,9 @@ nearest-off q r b a Ordering·eq e l less more same =
 nearest-off q r b a Ordering·gt e l less more same = let h = more tt in omega arith
 
 closest-off : (a b : ℕ) → 0 < b → Off (closest a b * b * 2) (a * 2) b
-closest-off a b B = nearest-off (a / b) (a % b) b a (compare (a % b * 2) b) (div-add-mod' a b) (mod-lt a B) (leb→le (a % b * 2) b) (nleb→lt (a % b * 2) b) (eqb→eq (a % b * 2) b)
+closest-off a b B =
+    nearest-off (a / b) (a % b) b a (compare (a % b * 2) b) (div-add-mod' a b) (mod-lt a B) (leb→le (a % b * 2) b)
+    (nleb→lt (a % b * 2) b) (eqb→eq (a % b * 2) b)
 
 drop-le : (p n c k : ℕ) → 0 < c → n < 2 ^ (p + k) * c → drop p n c ≤ k
 drop-le p n c k C h = let z : size (n / c) ≤ p + k = size-le (n / c) (p + k) (div-lt-iff-lt-mul C .1 h) in omega arith

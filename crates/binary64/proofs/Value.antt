@@ -1,9 +1,11 @@
--- A finite number of a format, in whole numbers (specs/Scaled.antt): which whole numbers the format holds, a number's two parts, and its order as theirs.
+-- A finite number of a format, in whole numbers (specs/Scaled.antt): which whole numbers the format holds, a number's two parts, and its
+-- order as theirs.
 -- A unit is the format's smallest value, 1 / 2 ^ low. Assumes nothing.
 use mathlib.Core.Path.{_≡_, refl, sym, ap, ap₂, _∙_}
 use mathlib.Core.Bool.{Bool, true, false, not, _&&_}
 use Prim.Native.Nat.{ℕ, zero, suc, _+_, _-_, _*_, _/_, _%_, _^_, _≤_, _<_}
-use native.Mathlib.Nat.{le-of-suc-le-suc, le-of-eq, lt-of-lt-of-le, lt-of-not-le, not-le-of-lt, zero-mul, mul-one, mul-assoc, mul-le-mul-right, le-of-mul-le-mul-right, lt-of-mul-lt-mul-right, mul-lt-mul-of-pos-right, mul-pos, mul-div-cancel}
+use native.Mathlib.Nat.{le-of-suc-le-suc, le-of-eq, lt-of-lt-of-le, lt-of-not-le, not-le-of-lt, zero-mul, mul-one, mul-assoc}
+use native.Mathlib.Nat.{mul-le-mul-right, le-of-mul-le-mul-right, lt-of-mul-lt-mul-right, mul-lt-mul-of-pos-right, mul-pos, mul-div-cancel}
 use native.Mathlib.Omega.{arith}
 use lib.IntN.{ℤ, pos, negsuc}
 use lib.Dec.{T, leb, ltb, eqb, leb→le, ltb→lt, T-not}
@@ -14,15 +16,15 @@ use lib.Ieee.Exact.{HasValue}
 use lib.Ieee.Fits.{down-pos, and-l, and-r}
 use lib.Ieee.Positive.{num, den, den-pos}
 use lib.Ieee.Scale.{overflow, finite}
-use Rattle.binary64.specs.Scaled.{sign, mag, plus, minus}
+use Rattle.binary64.specs.Scaled.{sign, mag, aboveZero, belowZero}
 use Rattle.binary64.proofs.Order.{above, under, plusNum, minusNum, le-is-fractions}
 
 -- x ≤ y and x < y, of the whole numbers
 abbrev pub Le : Format → Float → Float → Type 0
-Le f x y = plus f x + minus f y ≤ plus f y + minus f x
+Le f x y = aboveZero f x + belowZero f y ≤ aboveZero f y + belowZero f x
 
 abbrev pub Lt : Format → Float → Float → Type 0
-Lt f x y = plus f x + minus f y < plus f y + minus f x
+Lt f x y = aboveZero f x + belowZero f y < aboveZero f y + belowZero f x
 
 -- a finite number of the format
 pub record Number (f : Format) (x : Float) : Type 0 where
@@ -32,8 +34,8 @@ pub record Number (f : Format) (x : Float) : Type 0 where
 -- ... whose part above zero is p units, and whose part below zero is n
 pub record Parts (f : Format) (x : Float) (p n : ℕ) : Type 0 where
   pub number : Number f x
-  pub plus-is : plus f x ≡ p
-  pub minus-is : minus f x ≡ n
+  pub plus-is : aboveZero f x ≡ p
+  pub minus-is : belowZero f x ≡ n
 
 -- the format holds w units: they have at most prec digits, then zeros, and do not overflow
 pub record Held (f : Format) (w : ℕ) : Type 0 where
@@ -61,12 +63,24 @@ under-overflow f a w d e h =
 
 whole-at : (f : Format) (m : ℕ) (e : ℤ) → m < 2 ^ prec f → down e ≤ 2 ^ low f → m * up e < 2 ^ suc (emax f) * down e → Whole f m e
 whole-at f m (pos k) few fine small =
-    let q : m * 2 ^ k * 2 ^ low f ≡ m * 2 ^ (k + low f) * 1 = simp (mul-assoc, mul-one, pow-add) in
-    (m * 2 ^ (k + low f), q, record { digits = m; zeros = k + low f; is = refl; few = few; small = under-overflow f (m * 2 ^ k) (m * 2 ^ (k + low f)) 1 q small })
+    let q : m * 2 ^ k * 2 ^ low f ≡ m * 2 ^ (k + low f) * 1 = simp (mul-assoc, mul-one, pow-add) in (
+      m * 2 ^ (k + low f),
+      q,
+      record {
+        digits = m;
+        zeros = k + low f;
+        is = refl;
+        few = few;
+        small = under-overflow f (m * 2 ^ k)
+            (m * 2 ^ (k + low f)) 1 q small;
+      },
+    )
 whole-at f m (negsuc k) few fine small =
     let j = low f - suc k in
     let q : m * 1 * 2 ^ low f ≡ m * 2 ^ j * 2 ^ suc k =
-    ap (λ (x : ℕ). x * 2 ^ low f) (mul-one m) ∙ ap (λ (x : ℕ). m * x) (ap (λ (x : ℕ). 2 ^ x) (sym (back (low f) (suc k) (exponent-le (suc k) (low f) fine))) ∙ pow-add 2 j (suc k)) ∙ sym (mul-assoc m (2 ^ j) (2 ^ suc k)) in
+    ap (λ (x : ℕ). x * 2 ^ low f) (mul-one m) ∙ ap (λ (x : ℕ). m * x)
+    (ap (λ (x : ℕ). 2 ^ x) (sym (back (low f) (suc k) (exponent-le (suc k) (low f) fine))) ∙ pow-add 2 j (suc k))
+    ∙ sym (mul-assoc m (2 ^ j) (2 ^ suc k)) in
     (m * 2 ^ j, q, record { digits = m; zeros = j; is = refl; few = few; small = under-overflow f (m * 1) (m * 2 ^ j) (2 ^ suc k) q small })
 
 pub held-zero : (f : Format) → Held f 0
@@ -81,7 +95,8 @@ whole f s (suc m) e t =
     let c : Bool = leb (down e) (2 ^ low f) in
     let d : Bool = ltb (suc m * up e) (2 ^ suc (emax f) * down e) in
     let abc : T (a && b && c) = and-l (a && b && c) d t in
-    whole-at f (suc m) e (ltb→lt (suc m) (2 ^ prec f) (and-r a b (and-l (a && b) c abc))) (leb→le (down e) (2 ^ low f) (and-r (a && b) c abc))
+    whole-at f (suc m) e (ltb→lt (suc m) (2 ^ prec f) (and-r a b (and-l (a && b) c abc)))
+    (leb→le (down e) (2 ^ low f) (and-r (a && b) c abc))
     (ltb→lt (suc m * up e) (2 ^ suc (emax f) * down e) (and-r (a && b && c) d t))
 
 mag-is : (f : Format) (s : Bool) (m : ℕ) (e : ℤ) (w : ℕ) → m * up e * 2 ^ low f ≡ w * down e → mag f (fin s m e) ≡ w
@@ -98,16 +113,17 @@ mag-whole {f} {x = fin s m e} h =
 
 -- ---- the two parts
 -- one of them is the size, and the other is 0
-pub mag-parts : (f : Format) (x : Float) → (plus f x + minus f x ≡ mag f x) × (distance (plus f x) (minus f x) ≡ mag f x)
-unfolding plus minus
+pub mag-parts : (f : Format) (x : Float) → (aboveZero f x + belowZero f x ≡ mag f x) × (distance (aboveZero f x) (belowZero f x) ≡ mag f x)
+unfolding aboveZero belowZero
 mag-parts f x = go (sign x) (mag f x)
   where
     go : (s : Bool) (a : ℕ) → (above s a + under s a ≡ a) × (distance (above s a) (under s a) ≡ a)
     go true a = omega arith
     go false a = omega arith
 
-pub parts-of-value : (f : Format) (x : Float) (s : Bool) (a : ℕ) → HasValue x s a (2 ^ low f) → T (fits f x) → Parts f x (above s a) (under s a)
-unfolding plus minus
+pub parts-of-value : (f : Format) (x : Float) (s : Bool) (a : ℕ) → HasValue x s a (2 ^ low f) → T (fits f x)
+    → Parts f x (above s a) (under s a)
+unfolding aboveZero belowZero
 parts-of-value f nan s a h k = absurd h
 parts-of-value f (inf t) s a h k = absurd h
 parts-of-value f (fin t m e) s a h k =
@@ -115,8 +131,9 @@ parts-of-value f (fin t m e) s a h k =
     record { number = record { is-finite = tt; in-format = k }; plus-is = ap₂ above (h .0) is; minus-is = ap₂ under (h .0) is }
 
 -- ---- the order of two numbers is that of the whole numbers
-parts-whole : {f : Format} {x : Float} → Number f x → (plusNum x * 2 ^ low f ≡ plus f x * den x) × (minusNum x * 2 ^ low f ≡ minus f x * den x)
-unfolding plus minus
+parts-whole : {f : Format} {x : Float} → Number f x → (plusNum x * 2 ^ low f ≡ aboveZero f x * den x)
+    × (minusNum x * 2 ^ low f ≡ belowZero f x * den x)
+unfolding aboveZero belowZero
 parts-whole {f} {x} h = go (sign x) (num x) (mag f x) (den x) (mag-whole h .0)
   where
     go : (s : Bool) (n a d : ℕ) → n * 2 ^ low f ≡ a * d → (above s n * 2 ^ low f ≡ above s a * d) × (under s n * 2 ^ low f ≡ under s a * d)
@@ -124,10 +141,11 @@ parts-whole {f} {x} h = go (sign x) (num x) (mag f x) (den x) (mag-whole h .0)
     go false n a d e = (e, omega arith)
 
 -- x - y, over the product of the denominators and in units
-scaled : {f : Format} {x y : Float} → Number f x → Number f y → (plusNum x * den y + minusNum y * den x) * 2 ^ low f ≡ (plus f x + minus f y) * (den x * den y)
+scaled : {f : Format} {x y : Float} → Number f x → Number f y → (plusNum x * den y + minusNum y * den x) * 2 ^ low f
+    ≡ (aboveZero f x + belowZero f y) * (den x * den y)
 scaled {f} {x} {y} hx hy =
-    let p : plusNum x * 2 ^ low f * den y ≡ plus f x * den x * den y = ap (λ (z : ℕ). z * den y) (parts-whole hx .0) in
-    let n : minusNum y * 2 ^ low f * den x ≡ minus f y * den y * den x = ap (λ (z : ℕ). z * den x) (parts-whole hy .1) in
+    let p : plusNum x * 2 ^ low f * den y ≡ aboveZero f x * den x * den y = ap (λ (z : ℕ). z * den y) (parts-whole hx .0) in
+    let n : minusNum y * 2 ^ low f * den x ≡ belowZero f y * den y * den x = ap (λ (z : ℕ). z * den x) (parts-whole hy .1) in
     omega arith
 
 pub Le-of-le : {f : Format} {x y : Float} → Number f x → Number f y → T (le x y) → Le f x y
@@ -139,7 +157,8 @@ Le-of-le {f} {x} {y} hx hy h =
 
 le-of-Le : {f : Format} {x y : Float} → Number f x → Number f y → Le f x y → T (le x y)
 le-of-Le {f} {x} {y} hx hy h =
-    let g : (plus f x + minus f y) * (den x * den y) ≤ (plus f y + minus f x) * (den x * den y) = mul-le-mul-right (den x * den y) h in
+    let g : (aboveZero f x + belowZero f y) * (den x * den y) ≤ (aboveZero f y + belowZero f x) * (den x * den y) =
+    mul-le-mul-right (den x * den y) h in
     let a = scaled hx hy in
     let b = scaled hy hx in
     le-is-fractions x y (hx .is-finite) (hy .is-finite) .1 (le-of-mul-le-mul-right {k = 2 ^ low f} (omega arith) (pow-pos (low f)))

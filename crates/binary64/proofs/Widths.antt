@@ -2,7 +2,8 @@
 use mathlib.Core.Path.{_≡_, refl, ap}
 use mathlib.Core.List.{List, [], _∷_, _++_, reverse-reverse}
 use Prim.Native.Nat.{ℕ, zero, suc, _+_, _*_, _/_, _^_, _≤_, _<_}
-use native.Mathlib.Nat.{zero-add, add-zero, suc-add, add-suc, mul-assoc, pow-suc, pow-succ', div-one, mod-add-div, div-div-eq-div-mul, div-lt-iff-lt-mul}
+use native.Mathlib.Nat.{zero-add, add-zero, suc-add, add-suc, mul-assoc, pow-suc, pow-succ', div-one, mod-add-div, div-div-eq-div-mul}
+use native.Mathlib.Nat.{div-lt-iff-lt-mul}
 use native.Mathlib.Numerals.{add-one}
 use native.Mathlib.Omega.{arith}
 use lib.Dec.{T, lit<}
@@ -10,7 +11,7 @@ use lib.Ieee.{Float, nan, binary64, fits, toBits}
 use lib.Ieee.Bits.{ofBits-toBits, toBits-lt}
 use lib.ListN.{length, take, drop, getD, set, length-drop}
 use lib.Seq.{sets, drop-cons, take-add, drop-drop, length-take-le}
-use Rattle.binary64.specs.Bytes.{Order, Little, Big, fromLow, toLow, number, bytes, double, doubleBytes}
+use Rattle.binary64.specs.Bytes.{Order, Little, Big, fromLow, toLow, numberOf, bytesOf, double, doubleBytes}
 
 -- ---- reading
 
@@ -19,7 +20,8 @@ unfolding fromLow
 fromLow-append [] b = omega arith
 fromLow-append (x ∷ a) b = rw pow-succ' (omega (arith, fromLow-append a b, mul-assoc 256 (256 ^ length a) (fromLow b)))
 
-pub fromLow-joined : (l : List ℕ) (i j k : ℕ) → i + j ≤ length l → fromLow (take (j + k) (drop i l)) ≡ fromLow (take j (drop i l)) + 256 ^ j * fromLow (take k (drop (i + j) l))
+pub fromLow-joined : (l : List ℕ) (i j k : ℕ) → i + j ≤ length l → fromLow (take (j + k) (drop i l)) ≡ fromLow (take j (drop i l)) + 256
+    ^ j * fromLow (take k (drop (i + j) l))
 fromLow-joined l i j k h =
     let n : length (take j (drop i l)) ≡ j = length-take-le j (drop i l) (simp length-drop (omega arith)) in
     rw (take-add j k (drop i l), drop-drop j i l) (rw n at (fromLow-append (take j (drop i l)) (take k (drop (i + j) l))))
@@ -45,7 +47,8 @@ sets-joined l i [] b = rw add-zero
 sets-joined l i (x ∷ a) b = rw (add-suc, ← suc-add) (sets-joined (set l i x) (suc i) a b)
 
 -- a number written as its j lowest bytes and then the k above them
-pub written-joined : (l d r : List ℕ) (i j k n : ℕ) → d ≡ sets l i (toLow j n) → r ≡ sets d (i + j) (toLow k (n / 256 ^ j)) → r ≡ sets l i (toLow (j + k) n)
+pub written-joined : (l d r : List ℕ) (i j k n : ℕ) → d ≡ sets l i (toLow j n) → r ≡ sets d (i + j) (toLow k (n / 256 ^ j))
+    → r ≡ sets l i (toLow (j + k) n)
 written-joined l d r i j k n p q =
     let e : sets (sets l i (toLow j n)) (i + j) (toLow k (n / 256 ^ j)) ≡ sets l i (toLow j n ++ toLow k (n / 256 ^ j)) =
     rw (length-toLow j n) at (sets-joined l i (toLow j n) (toLow k (n / 256 ^ j))) in
@@ -58,7 +61,7 @@ unfolding fromLow toLow
 fromLow-toLow zero n h = omega arith
 fromLow-toLow (suc k) n h = rw (fromLow-toLow k (n / 256) (div-lt-iff-lt-mul (lit< tt) .1 (rw pow-suc at h))) (mod-add-div n 256)
 
-pub number-bytes : (o : Order) (k n : ℕ) → n < 256 ^ k → number o (bytes o k n) ≡ n
+pub number-bytes : (o : Order) (k n : ℕ) → n < 256 ^ k → numberOf o (bytesOf o k n) ≡ n
 number-bytes Little k n h = fromLow-toLow k n h
 number-bytes Big k n h = rw reverse-reverse (fromLow-toLow k n h)
 

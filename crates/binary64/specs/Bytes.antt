@@ -22,15 +22,15 @@ toLow zero n = []
 toLow (suc k) n = n % 256 ∷ toLow k (n / 256)
 
 -- the number that bytes stand for, and the k bytes of a number
-abbrev pub number : Order → List ℕ → ℕ
-number o l = fromLow (ordered o l)
+abbrev pub numberOf : Order → List ℕ → ℕ
+numberOf o l = fromLow (ordered o l)
 
-abbrev pub bytes : Order → ℕ → ℕ → List ℕ
-bytes o k n = ordered o (toLow k n)
+abbrev pub bytesOf : Order → ℕ → ℕ → List ℕ
+bytesOf o k n = ordered o (toLow k n)
 
 -- a double from its 8 bytes, and to them; `ofBits` reads every NaN pattern as the NaN, and `toBits` writes it as 7ff8000000000000
 abbrev pub double : Order → List ℕ → Float
-double o l = ofBits binary64 (number o l)
+double o l = ofBits binary64 (numberOf o l)
 
 abbrev pub doubleBytes : Order → Float → List ℕ
-doubleBytes o x = bytes o 8 (toBits binary64 x)
+doubleBytes o x = bytesOf o 8 (toBits binary64 x)

@@ -1,4 +1,5 @@
--- Comparisons of doubles as document 01 uses them: minimum and maximum (its head), nearness ("Unchanged", "Overlay wanted"), size ("Overlay wanted"). And the lower and the higher of two numbers, as the code computes them. Definitions only.
+-- Comparisons of doubles as document 01 uses them: minimum and maximum (its head), nearness ("Unchanged", "Overlay wanted"), size ("Overlay
+-- wanted"). And the lower and the higher of two numbers, as the code computes them. Definitions only.
 -- That a number is neither NaN nor infinite is `finite` of `lib.Ieee.Scale`.
 use mathlib.Core.Bool.{Bool, false, _||_, cond}
 use Prim.Native.Nat.{_^_}
@@ -10,14 +11,6 @@ minimum a b = cond (lt b a || isNan a) b a
 
 unfoldable pub maximum : Float → Float → Float
 maximum a b = cond (lt a b || isNan a) b a
-
--- the lower of two numbers, by one comparison; a where one of them is NaN. It is the minimum where a is none
-unfoldable pub lower : Float → Float → Float
-lower a b = cond (lt b a) b a
-
--- the higher of two numbers; a where one of them is NaN. It is the maximum where a is none
-unfoldable pub higher : Float → Float → Float
-higher a b = cond (lt a b) b a
 
 -- a number without its sign
 unfoldable pub magnitude : Float → Float

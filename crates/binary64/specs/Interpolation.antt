@@ -1,14 +1,17 @@
--- What one line of the cutter works out of two coordinates: the test whether a vertex is in, and the crossing's free coordinate (document 01, "Cut rings"). Definitions only.
+-- What one line of the cutter works out of two coordinates: the test whether a vertex is in, and the crossing's free coordinate (document
+-- 01, "Cut rings"). Definitions only.
 use mathlib.Core.Bool.{Bool, true, false}
 use lib.Ieee.{Float, Format, add, sub, mul, div, le}
 
--- Whether v is in, by the line at c: a low line (Left, Bottom) keeps what is at c or above it, another (Right, Top) what is at c or below it.
+-- Whether v is in, by the line at c: a low line (Left, Bottom) keeps what is at c or above it, another (Right, Top) what is at c or below
+-- it.
 -- So on the line counts as in, and NaN is out.
 abbrev pub within : Bool → Float → Float → Bool
 within true c v = le c v
 within false c v = le v c
 
--- The crossing's free coordinate, where the line takes `bound` in the fixed one: start plus t times (end − start), t being (bound − start) ÷ (end − start) in the fixed coordinate.
+-- The crossing's free coordinate, where the line takes `bound` in the fixed one: start plus t times (end − start), t being (bound − start)
+-- ÷ (end − start) in the fixed coordinate.
 -- Each difference, quotient, product and sum is rounded once.
 unfoldable pub interpolate : Format → Float → Float → Float → Float → Float → Float
 interpolate f bound startFixed endFixed startFree endFree =

@@ -1,7 +1,7 @@
-pub mod Bytes
 pub mod Compare
 pub mod Interpolation
-pub mod Lists
 pub mod Scaled
+pub mod Lists
+pub mod Bytes
 pub mod Slices
-pub mod TotalOrder
+pub mod Contracts

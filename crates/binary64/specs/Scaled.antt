@@ -1,4 +1,5 @@
--- A finite number as a whole number: each taken times 2 ^ low, which for a double is 2 ^ 1074 (document 01, "Cut rings"). Every number of the format is whole then. Definitions only.
+-- A finite number as a whole number: each taken times 2 ^ low, which for a double is 2 ^ 1074 (document 01, "Cut rings"). Every number of
+-- the format is whole then. Definitions only.
 use Prim.Native.Nat.{ℕ, _+_, _*_, _/_, _^_, _≤_}
 use mathlib.Core.Bool.{Bool, false, cond}
 use lib.Ieee.{Float, nan, inf, fin, Format, low, up, down}
@@ -14,13 +15,14 @@ mag f nan = 0
 mag f (inf s) = 0
 mag f (fin s m e) = m * up e * 2 ^ low f / down e
 
--- the part above zero and the part below zero: the number is `plus` less `minus`, and one of the two is 0; both are 0 for both zeros
-unfoldable pub plus : Format → Float → ℕ
-plus f x = cond (sign x) 0 (mag f x)
+-- the part above zero and the part below zero: the number is `aboveZero` less `belowZero`, and one of the two is 0; both are 0 for both
+-- zeros
+unfoldable pub aboveZero : Format → Float → ℕ
+aboveZero f x = cond (sign x) 0 (mag f x)
 
-unfoldable pub minus : Format → Float → ℕ
-minus f x = cond (sign x) (mag f x) 0
+unfoldable pub belowZero : Format → Float → ℕ
+belowZero f x = cond (sign x) (mag f x) 0
 
 -- a less b is at most e
 abbrev pub LessAtMost : Format → Float → Float → ℕ → Type 0
-LessAtMost f a b e = plus f a + minus f b ≤ plus f b + minus f a + e
+LessAtMost f a b e = aboveZero f a + belowZero f b ≤ aboveZero f b + belowZero f a + e

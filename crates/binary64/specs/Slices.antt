@@ -1,4 +1,5 @@
--- What a call leaves in a lent slice (document 01, "Frames": "fills scratch and order with zeros and leaves the output .. past the answer unchanged"). Definitions only.
+-- What a call leaves in a lent slice (document 01, "Frames": "fills scratch and order with zeros and leaves the output .. past the answer
+-- unchanged"). Definitions only.
 use mathlib.Core.Bool.{false}
 use mathlib.Core.List.{List, _++_}
 use Prim.Native.Nat.{ℕ}

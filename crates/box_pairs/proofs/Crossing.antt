@@ -1,14 +1,18 @@
--- Laws of the crossing test: symmetric, not between boxes that are apart, not where a coordinate is NaN. Nothing above this file unfolds `cross`. Assumes nothing.
+-- Laws of the crossing test: symmetric, not between boxes that are apart, not where a coordinate is NaN. Nothing above this file unfolds
+-- `cross`. Assumes nothing.
 use mathlib.Core.Path.{_≡_, refl, sym, _∙_}
 use mathlib.Core.Bool.{Bool, true, false, not, _||_, cond, and-true, and-false, or-false, and-comm, or-comm}
 use mathlib.Mathlib.Data.Bool.Basic.{eq-false-of-not-eq-true}
 use lib.Ieee.{Float, binary64, isNan, lt, sub, mul}
-use Rattle.binary64.specs.Compare.{minimum, maximum, lower, higher}
+use Rattle.binary64.specs.Compare.{minimum, maximum}
+use Rattle.binary64.specs.Contracts.{lower, higher}
 use Rattle.binary64.proofs.Booleans.{both, never-both}
 use Rattle.binary64.proofs.Comparisons.{lower-minimum, higher-maximum}
-use Rattle.binary64.proofs.FloatOrder.{lt-not-above, lt-left, lt-right, lt-asym, sub-numbers, mul-numbers, ends, ends-order, ends-low, ends-high}
+use Rattle.binary64.proofs.FloatOrder.{lt-not-above, lt-left, lt-right, lt-asym, sub-numbers, mul-numbers, ends, ends-order, ends-low}
+use Rattle.binary64.proofs.FloatOrder.{ends-high}
 use Rattle.tile.specs.declared.Coord.{Coord}
-use Rattle.box_pairs.specs.Cross.{crossProductSign, zero64, aboveBelow, splits, intersectProperly, short, apartOn, apart, cross, separate}
+use Rattle.box_pairs.specs.Cross.{crossProductSign, zero64, aboveBelow, splits, intersectProperly, short, apartOn, apart, cross}
+use Rattle.box_pairs.specs.Contracts.{separate}
 
 -- ---- symmetric
 
@@ -68,7 +72,8 @@ record Sides (a b c : Coord) : Type 0 where
 product-numbers : (a b c : Coord) → isNan (crossProductSign a b c) ≡ false → Sides a b c
 unfolding crossProductSign
 product-numbers a b c h =
-    let terms = sub-numbers (mul binary64 (sub binary64 (b .x) (a .x)) (sub binary64 (c .y) (a .y))) (mul binary64 (sub binary64 (b .y) (a .y)) (sub binary64 (c .x) (a .x))) h in
+    let terms = sub-numbers (mul binary64 (sub binary64 (b .x) (a .x)) (sub binary64 (c .y) (a .y)))
+    (mul binary64 (sub binary64 (b .y) (a .y)) (sub binary64 (c .x) (a .x))) h in
     let one = mul-numbers (sub binary64 (b .x) (a .x)) (sub binary64 (c .y) (a .y)) (terms .0) in
     let two = mul-numbers (sub binary64 (b .y) (a .y)) (sub binary64 (c .x) (a .x)) (terms .1) in
     let x = sub-numbers (b .x) (a .x) (one .0) in
@@ -82,10 +87,19 @@ unfolding splits
 splits-numbers a b c d h =
     let n = sides-numbers (crossProductSign a b c) (crossProductSign a b d) h in
     let p = product-numbers a b c (n .0) in
-    let q = product-numbers a b d (n .1) in
-    (record { first = p .ax; second = p .bx; third = p .cx; fourth = q .cx }, record { first = p .ay; second = p .by; third = p .cy; fourth = q .cy })
+    let q = product-numbers a b d (n .1) in (
+      record { first = p .ax; second = p .bx; third = p .cx; fourth = q .cx },
+      record {
+        first = p .ay;
+        second = p .by;
+        third =
+            p .cy;
+        fourth = q .cy;
+      },
+    )
 
-properly-numbers : (a1 a2 b1 b2 : Coord) → intersectProperly a1 a2 b1 b2 ≡ true → NoNan (a1 .x) (a2 .x) (b1 .x) (b2 .x) × NoNan (a1 .y) (a2 .y) (b1 .y) (b2 .y)
+properly-numbers : (a1 a2 b1 b2 : Coord) → intersectProperly a1 a2 b1 b2 ≡ true → NoNan (a1 .x) (a2 .x) (b1 .x) (b2 .x)
+    × NoNan (a1 .y) (a2 .y) (b1 .y) (b2 .y)
 unfolding intersectProperly
 properly-numbers a1 a2 b1 b2 h = splits-numbers a1 a2 b1 b2 (both (splits b1 b2 a1 a2) (splits a1 a2 b1 b2) h .1)
 
@@ -141,7 +155,8 @@ apart-x a1 a2 b1 b2 h = go (intersectProperly a1 a2 b1 b2) refl
   where
     go : (p : Bool) → intersectProperly a1 a2 b1 b2 ≡ p → cross a1 a2 b1 b2 ≡ false
     go true e =
-        let t : apartOn (a1 .x) (a2 .x) (b1 .x) (b2 .x) ≡ true = sym (separate-apart (a1 .x) (a2 .x) (b1 .x) (b2 .x) (properly-numbers a1 a2 b1 b2 e .0)) ∙ h in
+        let t : apartOn (a1 .x) (a2 .x) (b1 .x) (b2 .x) ≡ true =
+        sym (separate-apart (a1 .x) (a2 .x) (b1 .x) (b2 .x) (properly-numbers a1 a2 b1 b2 e .0)) ∙ h in
         cross-apart a1 a2 b1 b2 (rw t)
     go false e = not-properly a1 a2 b1 b2 e
 
@@ -151,7 +166,8 @@ apart-y a1 a2 b1 b2 h = go (intersectProperly a1 a2 b1 b2) refl
   where
     go : (p : Bool) → intersectProperly a1 a2 b1 b2 ≡ p → cross a1 a2 b1 b2 ≡ false
     go true e =
-        let t : apartOn (a1 .y) (a2 .y) (b1 .y) (b2 .y) ≡ true = sym (separate-apart (a1 .y) (a2 .y) (b1 .y) (b2 .y) (properly-numbers a1 a2 b1 b2 e .1)) ∙ h in
+        let t : apartOn (a1 .y) (a2 .y) (b1 .y) (b2 .y) ≡ true =
+        sym (separate-apart (a1 .y) (a2 .y) (b1 .y) (b2 .y) (properly-numbers a1 a2 b1 b2 e .1)) ∙ h in
         cross-apart a1 a2 b1 b2 (rw t (or-comm (apartOn (a1 .x) (a2 .x) (b1 .x) (b2 .x)) true))
     go false e = not-properly a1 a2 b1 b2 e
 
@@ -167,7 +183,8 @@ cross-properly a1 a2 b1 b2 e hx hy =
     rw (x, y, e) (and-true (not (short a1 a2 || short b1 b2)))
 
 -- "no crossing where a coordinate is NaN": edges that cross hold numbers only
-pub cross-numbers : (a1 a2 b1 b2 : Coord) → cross a1 a2 b1 b2 ≡ true → NoNan (a1 .x) (a2 .x) (b1 .x) (b2 .x) × NoNan (a1 .y) (a2 .y) (b1 .y) (b2 .y)
+pub cross-numbers : (a1 a2 b1 b2 : Coord) → cross a1 a2 b1 b2 ≡ true → NoNan (a1 .x) (a2 .x) (b1 .x) (b2 .x)
+    × NoNan (a1 .y) (a2 .y) (b1 .y) (b2 .y)
 cross-numbers a1 a2 b1 b2 h = properly-numbers a1 a2 b1 b2 (go (intersectProperly a1 a2 b1 b2) refl)
   where
     go : (p : Bool) → intersectProperly a1 a2 b1 b2 ≡ p → intersectProperly a1 a2 b1 b2 ≡ true

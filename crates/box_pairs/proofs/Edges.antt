@@ -1,4 +1,5 @@
--- The edges of the ring at the front of a slice: the sweep's law holds of their crossings, by their lowest x in the total order. Assumes nothing.
+-- The edges of the ring at the front of a slice: the sweep's law holds of their crossings, by their lowest x in the total order. Assumes
+-- nothing.
 use mathlib.Core.Path.{_≡_, refl, sym, ap, ap₂, subst, _∙_}
 use mathlib.Core.Bool.{Bool, true, false, true≢false}
 use mathlib.Mathlib.Data.Bool.Basic.{eq-false-of-not-eq-true}
@@ -12,38 +13,40 @@ use lib.ListN.{length, getD, set, drop, length-set}
 use lib.Seq.{getD-set-same, getD-set-other, drop-set-lt, drop-drop, getD-take}
 use native.Mathlib.Decide.{ℕ-discrete}
 use Rattle.binary64.specs.Compare.{minimum, maximum}
-use Rattle.binary64.specs.TotalOrder.{key}
+use Rattle.binary64.specs.Contracts.{key}
 use Rattle.binary64.proofs.Booleans.{never-both}
 use Rattle.binary64.proofs.KeyOrder.{key-order}
 use Rattle.binary64.proofs.FloatOrder.{lt-not-above, ends, ends-low}
 use Rattle.tile.specs.declared.Coord.{Coord}
-use Rattle.tile.specs.Ring.{coordAt, coords}
+use Rattle.tile.specs.Contracts.{coordAt}
+use Rattle.tile.specs.Ring.{coords}
 use Rattle.tile.proofs.Rings.{front-at, length-front}
 use Rattle.box_pairs.specs.Cross.{cross}
-use Rattle.box_pairs.specs.Sort.{keyAt, Kept, Sorted}
-use Rattle.box_pairs.specs.Pairs.{front, at, edgesCross, anyBelow, anyPair, selfIntersecting, edgesAt, mayMeetInY, lowX, Noted, Swept}
-use Rattle.box_pairs.specs.Pairs.{isScanned, ScannedOrSwept}
-use Rattle.box_pairs.specs.Issue.{Unused}
+use Rattle.box_pairs.specs.Contracts.{keyAt, Kept, Sorted, front, edgesAt, mayMeetInY, lowX, Noted, Swept, isScanned, ScannedOrSwept}
+use Rattle.box_pairs.specs.Contracts.{Unused}
+use Rattle.box_pairs.specs.Pairs.{vertexAt, edgesCross, anyBelow, anyPair, selfIntersecting}
 use Rattle.box_pairs.proofs.Crossing.{cross-mirror, cross-numbers, apart-left, apart-y, minimum-is-number}
 use Rattle.box_pairs.proofs.Sweep.{Sweeps}
 
 -- the highest x of an edge
 unfoldable pub highX : List Coord → ℕ → Float
-highX r i = maximum (at r i .x) (at r (i + 1) .x)
+highX r i = maximum (vertexAt r i .x) (vertexAt r (i + 1) .x)
 
 -- ---- the n edges of the ring of n + 1 coordinates at the front of s
 
 module _ (s : List Float) (n : ℕ) (room : 2 * (n + 1) ≤ length s) where
-  at-front : (i : ℕ) → i < n + 1 → at (front s (n + 1)) i ≡ coordAt s i
+  at-front : (i : ℕ) → i < n + 1 → vertexAt (front s (n + 1)) i ≡ coordAt s i
   at-front i l = front-at s (n + 1) i (record { x = nan; y = nan }) room l
 
   pub crossing-front : selfIntersecting (front s (n + 1)) ≡ anyPair (edgesCross (front s (n + 1))) n
   unfolding selfIntersecting
   crossing-front = let e : length (front s (n + 1)) - 1 ≡ n = omega (arith, length-front s (n + 1) room) in rw e
 
-  pub edges-front : (i j : ℕ) → i < n → j < n → cross (coordAt s i) (coordAt s (i + 1)) (coordAt s j) (coordAt s (j + 1)) ≡ edgesCross (front s (n + 1)) i j
+  pub edges-front : (i j : ℕ) → i < n → j < n → cross (coordAt s i) (coordAt s (i + 1)) (coordAt s j) (coordAt s (j + 1)) ≡ edgesCross
+      (front s (n + 1)) i j
   unfolding edgesCross
-  edges-front i j li lj = rw (at-front i (omega arith), at-front (i + 1) (omega arith), at-front j (omega arith), at-front (j + 1) (omega arith))
+  edges-front i j li lj =
+      rw (at-front i (omega arith), at-front (i + 1) (omega arith), at-front j (omega arith), at-front (j + 1) (omega arith))
 
   pub low-front : (i : ℕ) → i < n → minimum (coordAt s i .x) (coordAt s (i + 1) .x) ≡ lowX (front s (n + 1)) i
   unfolding lowX
@@ -54,7 +57,9 @@ module _ (s : List Float) (n : ℕ) (room : 2 * (n + 1) ≤ length s) where
   high-front i l = ap₂ (λ (p q : Coord). maximum (p .x) (q .x)) (sym (at-front i (omega arith))) (sym (at-front (i + 1) (omega arith)))
 
   low-fits : ((i : ℕ) → T (fits binary64 (getD s i nan))) → (i : ℕ) → i < n → T (fits binary64 (lowX (front s (n + 1)) i))
-  low-fits f i l = rw (← low-front i l) (ends-low (λ z. T (fits binary64 z)) (ends (coordAt s i .x) (coordAt s (i + 1) .x)) (f (2 * i)) (f (2 * (i + 1))))
+  low-fits f i l =
+      rw (← low-front i l) (ends-low (λ z. T (fits binary64 z)) (ends (coordAt s i .x) (coordAt s (i + 1) .x)) (f (2 * i))
+      (f (2 * (i + 1))))
 
 -- edges whose boxes are separate in y do not cross
 pub never-meet : (s : List Float) (i j : ℕ) → mayMeetInY s i j ≡ false → edgesAt s i j ≡ false
@@ -68,22 +73,28 @@ abbrev pub stops : List Coord → ℕ → ℕ → Bool
 stops r i j = lt (highX r i) (lowX r j)
 
 -- edges that cross hold numbers, and the one does not start past the other's end
-past-end : (r : List Coord) (i j l : ℕ) → T (fits binary64 (lowX r j)) → T (fits binary64 (lowX r l)) → key (lowX r j) ≤ key (lowX r l) → stops r i j ≡ true → edgesCross r i l ≡ false
+past-end : (r : List Coord) (i j l : ℕ) → T (fits binary64 (lowX r j)) → T (fits binary64 (lowX r l)) → key (lowX r j) ≤ key (lowX r l)
+    → stops r i j ≡ true → edgesCross r i l ≡ false
 unfolding edgesCross lowX highX
 past-end r i j l fj fl k s = eq-false-of-not-eq-true (λ e.
-    let n = cross-numbers (at r i) (at r (i + 1)) (at r l) (at r (l + 1)) e .0 in
-    let number : isNan (lowX r l) ≡ false = minimum-is-number (at r l .x) (at r (l + 1) .x) (n .third) (n .fourth) in
-    let beyond : lt (highX r i) (lowX r l) ≡ true = lt-not-above (highX r i) (lowX r j) (lowX r l) number s (key-order (lowX r j) (lowX r l) fj fl k) in
-    never-both e (apart-left (at r i) (at r (i + 1)) (at r l) (at r (l + 1)) beyond))
+    let n = cross-numbers (vertexAt r i) (vertexAt r (i + 1)) (vertexAt r l) (vertexAt r (l + 1)) e .0 in
+    let number : isNan (lowX r l) ≡ false = minimum-is-number (vertexAt r l .x) (vertexAt r (l + 1) .x) (n .third) (n .fourth) in
+    let beyond : lt (highX r i) (lowX r l) ≡ true = lt-not-above (highX r i) (lowX r j) (lowX r l) number s
+    (key-order (lowX r j) (lowX r l) fj fl k) in
+    never-both e (apart-left (vertexAt r i) (vertexAt r (i + 1)) (vertexAt r l) (vertexAt r (l + 1)) beyond))
 
 edges-mirror : (r : List Coord) (i j : ℕ) → edgesCross r i j ≡ edgesCross r j i
 unfolding edgesCross
-edges-mirror r i j = cross-mirror (at r i) (at r (i + 1)) (at r j) (at r (j + 1))
+edges-mirror r i j = cross-mirror (vertexAt r i) (vertexAt r (i + 1)) (vertexAt r j) (vertexAt r (j + 1))
 
 pub edge-sweeps : (s : List Float) (n : ℕ) → 2 * (n + 1) ≤ length s → ((i : ℕ) → T (fits binary64 (getD s i nan)))
     → Sweeps (λ i. key (lowX (front s (n + 1)) i)) n (stops (front s (n + 1))) (edgesCross (front s (n + 1)))
 edge-sweeps s n room f =
-    record { mirror = edges-mirror (front s (n + 1)); past = λ i j l li lj ll k e. past-end (front s (n + 1)) i j l (low-fits s n room f j lj) (low-fits s n room f l ll) k e }
+    record {
+      mirror = edges-mirror (front s (n + 1));
+      past = λ i j l li lj ll k e. past-end (front s (n + 1)) i j l
+          (low-fits s n room f j lj) (low-fits s n room f l ll) k e;
+    }
 
 -- ---- the loop that notes the lowest x
 
@@ -96,7 +107,8 @@ pub record Noting (n i : ℕ) (r : List Coord) (before after : List Float) : Typ
 pub note-start : (n : ℕ) (r : List Coord) (w : List Float) → Noting n 0 r w w
 note-start n r w = record { inside = omega arith; same = refl; lows = λ j l. absurd (omega arith); rest = refl }
 
-pub note-step : (n i : ℕ) (r : List Coord) (w₀ w : List Float) (x : Float) → i < n → n ≤ length w₀ → x ≡ lowX r i → Noting n i r w₀ w → Noting n (i + 1) r w₀ (set w i x)
+pub note-step : (n i : ℕ) (r : List Coord) (w₀ w : List Float) (x : Float) → i < n → n ≤ length w₀ → x ≡ lowX r i → Noting n i r w₀ w
+    → Noting n (i + 1) r w₀ (set w i x)
 note-step n i r w₀ w x l room e h =
     let li : i < length w = omega (arith, h .same) in
     record {
@@ -121,7 +133,8 @@ drop-more k l xs ys h e =
     let q : k + (l - k) ≡ l = omega arith in
     subst (λ (m : ℕ). drop m xs ≡ drop m ys) q (sym (drop-drop (l - k) k xs) ∙ rw e (drop-drop (l - k) k ys))
 
-module _ (n : ℕ) (r : List Coord) (w₀ w₁ w₂ : List Float) (o₀ o₁ : List ℕ) (noted : Noted n r w₀ w₁) (kept : Kept n w₁ w₂) (sorted : Sorted (keyAt n w₁) n o₀ o₁) where
+module _ (n : ℕ) (r : List Coord) (w₀ w₁ w₂ : List Float) (o₀ o₁ : List ℕ) (noted : Noted n r w₀ w₁) (kept : Kept n w₁ w₂)
+    (sorted : Sorted (keyAt n w₁) n o₀ o₁) where
   key-low : (i : ℕ) → i < n → keyAt n w₁ i ≡ key (lowX r i)
   key-low i l = ap key (getD-take n w₁ i nan l ∙ noted .lows i l)
 
@@ -131,13 +144,20 @@ module _ (n : ℕ) (r : List Coord) (w₀ w₁ w₂ : List Float) (o₀ o₁ : L
         noted = λ i l. sym (getD-take n w₂ i nan l) ∙ rw (kept .numbers) (getD-take n w₁ i nan l) ∙ noted .lows i l;
         positions = sorted .positions;
         sorted = λ i j ij jn.
-            omega (arith, sorted .inOrder i j ij jn, key-low (getD o₁ i 0) (sorted .positions .below i (omega arith)), key-low (getD o₁ j 0) (sorted .positions .below j jn));
+            omega (
+              arith,
+              sorted .inOrder i j ij jn,
+              key-low (getD o₁ i 0) (sorted .positions .below i (omega arith)),
+              key-low
+                  (getD o₁ j 0) (sorted .positions .below j jn),
+            );
       }
 
   pub noted-unused : Unused (n + 1) w₀ o₀ w₂ o₁
   noted-unused =
       record {
-        past-work = drop-more (2 * n) (2 * (n + 1)) w₂ w₁ (omega arith) (kept .rest) ∙ drop-more n (2 * (n + 1)) w₁ w₀ (omega arith) (noted .rest);
+        past-work =
+            drop-more (2 * n) (2 * (n + 1)) w₂ w₁ (omega arith) (kept .rest) ∙ drop-more n (2 * (n + 1)) w₁ w₀ (omega arith) (noted .rest);
         past-order = drop-more n (n + 1) o₁ o₀ (omega arith) (sorted .rest);
       }
 

@@ -10,11 +10,12 @@ use lib.Seq.{drop-cons}
 use lib.Ieee.{Float, nan}
 use borrow.Author.Tests.{lt-ltb, le-ltb}
 use Rattle.tile.specs.declared.Coord.{Coord}
-use Rattle.tile.specs.Ring.{coordAt}
+use Rattle.tile.specs.Contracts.{coordAt}
 use Rattle.tile.proofs.Rings.{front-at, length-front}
 use Rattle.box_pairs.specs.declared.Issue.the-variants.{Sound, Short, Repeated, Crossing}
 use Rattle.box_pairs.specs.Cross.{short}
-use Rattle.box_pairs.specs.Pairs.{front, selfIntersecting}
+use Rattle.box_pairs.specs.Contracts.{front}
+use Rattle.box_pairs.specs.Pairs.{selfIntersecting}
 use Rattle.box_pairs.specs.Issue.{repeated, issueOf}
 
 -- ---- neighbours
@@ -26,15 +27,19 @@ few (p ∷ []) h = refl
 few (p ∷ q ∷ []) h = refl
 few (p ∷ q ∷ s ∷ l) h = absurd (omega arith)
 
-pub one-more : (l : List Coord) (k : ℕ) (z : Coord) → k + 2 < length l → repeated (drop k l) ≡ short (getD l k z) (getD l (k + 1) z) || repeated (drop (k + 1) l)
+pub one-more : (l : List Coord) (k : ℕ) (z : Coord) → k + 2 < length l → repeated (drop k l) ≡ short (getD l k z) (getD l (k + 1) z) ||
+    repeated (drop (k + 1) l)
 unfolding repeated
-one-more l k z h = rw (add-one k, drop-cons l k z (omega arith), drop-cons l (suc k) z (omega arith), drop-cons l (suc (suc k)) z (omega arith))
+one-more l k z h =
+    rw (add-one k, drop-cons l k z (omega arith), drop-cons l (suc k) z (omega arith), drop-cons l (suc (suc k)) z (omega arith))
 
 module _ (s : List Float) (n : ℕ) (room : 2 * n ≤ length s) where
-  pub repeated-next : (k : ℕ) → k + 2 < n → repeated (drop k (front s n)) ≡ short (coordAt s k) (coordAt s (k + 1)) || repeated (drop (k + 1) (front s n))
+  pub repeated-next : (k : ℕ) → k + 2 < n → repeated (drop k (front s n)) ≡ short (coordAt s k) (coordAt s (k + 1)) || repeated
+      (drop (k + 1) (front s n))
   repeated-next k l =
       let z : Coord = record { x = nan; y = nan } in
-      one-more (front s n) k z (omega (arith, length-front s n room)) ∙ rw (front-at s n k z room (omega arith), front-at s n (k + 1) z room (omega arith))
+      one-more (front s n) k z (omega (arith, length-front s n room))
+      ∙ rw (front-at s n k z room (omega arith), front-at s n (k + 1) z room (omega arith))
 
   pub repeated-end : (k : ℕ) → n ≤ k + 2 → repeated (drop k (front s n)) ≡ false
   repeated-end k l = few (drop k (front s n)) (omega (arith, length-drop k (front s n), length-front s n room))
@@ -45,7 +50,8 @@ module _ (s : List Float) (n : ℕ) (room : 2 * n ≤ length s) where
   unfolding issueOf
   issue-short b l = rw (length-front s n room, lt-ltb n 4 l)
 
-  long : 4 ≤ n → (b : Bool) → issueOf b (front s n) ≡ cond (repeated (front s n)) Repeated (cond (not b && selfIntersecting (front s n)) Crossing Sound)
+  long : 4 ≤ n → (b : Bool) → issueOf b (front s n) ≡ cond (repeated (front s n)) Repeated
+      (cond (not b && selfIntersecting (front s n)) Crossing Sound)
   unfolding issueOf
   long l b = rw (length-front s n room, le-ltb n 4 l)
 
@@ -55,8 +61,10 @@ module _ (s : List Float) (n : ℕ) (room : 2 * n ≤ length s) where
   pub issue-simple : (b : Bool) → 4 ≤ n → repeated (front s n) ≡ false → b ≡ true → issueOf b (front s n) ≡ Sound
   issue-simple b l e t = long l b ∙ rw (e, t)
 
-  pub issue-crossing : (b : Bool) → 4 ≤ n → repeated (front s n) ≡ false → b ≡ false → selfIntersecting (front s n) ≡ true → issueOf b (front s n) ≡ Crossing
+  pub issue-crossing : (b : Bool) → 4 ≤ n → repeated (front s n) ≡ false → b ≡ false → selfIntersecting (front s n) ≡ true
+      → issueOf b (front s n) ≡ Crossing
   issue-crossing b l e t x = long l b ∙ rw (e, t, x)
 
-  pub issue-sound : (b : Bool) → 4 ≤ n → repeated (front s n) ≡ false → b ≡ false → selfIntersecting (front s n) ≡ false → issueOf b (front s n) ≡ Sound
+  pub issue-sound : (b : Bool) → 4 ≤ n → repeated (front s n) ≡ false → b ≡ false → selfIntersecting (front s n) ≡ false
+      → issueOf b (front s n) ≡ Sound
   issue-sound b l e t x = long l b ∙ rw (e, t, x)

@@ -7,7 +7,7 @@ use native.Mathlib.Nat.{le-refl}
 use native.Mathlib.Decide.{ℕ-discrete, decLt}
 use native.Mathlib.Omega.{arith}
 use lib.ListN.{getD}
-use Rattle.box_pairs.specs.Sort.{Positions, InOrder}
+use Rattle.box_pairs.specs.Contracts.{Positions, InOrder}
 use Rattle.box_pairs.specs.Pairs.{anyBelow, anyPair}
 
 -- ---- the definition
@@ -74,7 +74,8 @@ inner-next g n p q found l s e =
       clear = λ q′ a b. elim (ℕ-discrete q′ q) [ yes z ↦ rw z e | no ne ↦ s .clear q′ a (omega arith) ];
     }
 
-pub outer-next : (g : ℕ → ℕ → Bool) (n p q : ℕ) (found₀ found : Bool) → p < n → Outer g n p found₀ → Inner g n p q found → Clear g p n → Outer g n (p + 1) found
+pub outer-next : (g : ℕ → ℕ → Bool) (n p q : ℕ) (found₀ found : Bool) → p < n → Outer g n p found₀ → Inner g n p q found → Clear g p n
+    → Outer g n (p + 1) found
 outer-next g n p q found₀ found l o s c =
     record {
       inside = omega arith;
@@ -97,7 +98,8 @@ pub record Sweeps (k : ℕ → ℕ) (n : ℕ) (stop hit : ℕ → ℕ → Bool) 
 abbrev pub atSlots : (ℕ → ℕ → Bool) → List ℕ → ℕ → ℕ → Bool
 atSlots f xs p q = f (getD xs p 0) (getD xs q 0)
 
-module _ (k : ℕ → ℕ) (n : ℕ) (stop hit : ℕ → ℕ → Bool) (w : Sweeps k n stop hit) (xs : List ℕ) (ps : Positions n xs) (so : InOrder k n xs) where
+module _ (k : ℕ → ℕ) (n : ℕ) (stop hit : ℕ → ℕ → Bool) (w : Sweeps k n stop hit) (xs : List ℕ) (ps : Positions n xs)
+    (so : InOrder k n xs) where
   -- a pair of slots that is hit is a pair of positions that is
   pub sweep-hit : (p q : ℕ) → p < q → q < n → atSlots hit xs p q ≡ true → anyPair hit n ≡ true
   sweep-hit p q pq qn e =

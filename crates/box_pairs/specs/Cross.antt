@@ -1,7 +1,7 @@
 -- When two edges cross (document 01, "Unchanged"; the source's `edges_intersect_properly`, `cross_product_sign`). Definitions only.
 use mathlib.Core.Bool.{Bool, not, _&&_, _||_}
 use lib.Ieee.{Float, binary64, lt, sub, mul, ofBits}
-use Rattle.binary64.specs.Compare.{minimum, maximum, lower, higher, near}
+use Rattle.binary64.specs.Compare.{minimum, maximum, near}
 use Rattle.tile.specs.declared.Coord.{Coord}
 
 abbrev pub zero64 : Float
@@ -10,14 +10,16 @@ zero64 = ofBits binary64 0
 -- which side of the line from a to b the point c lies on, by the sign; each operation rounded once, in the source's order
 unfoldable pub crossProductSign : Coord → Coord → Coord → Float
 crossProductSign a b c =
-    sub binary64 (mul binary64 (sub binary64 (b .x) (a .x)) (sub binary64 (c .y) (a .y))) (mul binary64 (sub binary64 (b .y) (a .y)) (sub binary64 (c .x) (a .x)))
+    sub binary64 (mul binary64 (sub binary64 (b .x) (a .x)) (sub binary64 (c .y) (a .y)))
+    (mul binary64 (sub binary64 (b .y) (a .y)) (sub binary64 (c .x) (a .x)))
 
 unfoldable pub aboveBelow : Float → Float → Bool
 aboveBelow d e = lt zero64 d && lt e zero64
 
 -- the ends c and d of an edge lie strictly on opposite sides of the line through a and b, in floats
 unfoldable pub splits : Coord → Coord → Coord → Coord → Bool
-splits a b c d = aboveBelow (crossProductSign a b c) (crossProductSign a b d) || aboveBelow (crossProductSign a b d) (crossProductSign a b c)
+splits a b c d =
+    aboveBelow (crossProductSign a b c) (crossProductSign a b d) || aboveBelow (crossProductSign a b d) (crossProductSign a b c)
 
 -- "`edges_intersect_properly` says so in floats"
 unfoldable pub intersectProperly : Coord → Coord → Coord → Coord → Bool
@@ -37,9 +39,3 @@ apart a1 a2 b1 b2 = apartOn (a1 .x) (a2 .x) (b1 .x) (b2 .x) || apartOn (a1 .y) (
 -- "Two edges cross if their boxes are not apart, neither is shorter than 1e-10 in both axes, and `edges_intersect_properly` says so"
 unfoldable pub cross : Coord → Coord → Coord → Coord → Bool
 cross a1 a2 b1 b2 = not (apart a1 a2 b1 b2) && (not (short a1 a2 || short b1 b2) && intersectProperly a1 a2 b1 b2)
-
--- ---- the test of the boxes in an axis, as it is computed
-
--- the lower of the two high ends is below the higher of the two low ends; where none of the four is NaN, this is `apartOn`
-unfoldable pub separate : Float → Float → Float → Float → Bool
-separate a1 a2 b1 b2 = lt (lower (higher b1 b2) (higher a1 a2)) (higher (lower b1 b2) (lower a1 a2))

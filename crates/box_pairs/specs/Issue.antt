@@ -1,11 +1,8 @@
 -- What is wrong with an exterior (document 01, "Unchanged"). Definitions only.
-use mathlib.Core.Path.{_≡_}
 use mathlib.Core.Bool.{Bool, true, false, not, cond, _&&_, _||_}
 use mathlib.Core.List.{List, [], _∷_}
-use Prim.Native.Nat.{ℕ, _*_, _<_, _≤_, _^_}
 use lib.Dec.{ltb}
-use lib.Ieee.{Float}
-use lib.ListN.{length, drop}
+use lib.ListN.{length}
 use Rattle.tile.specs.declared.Coord.{Coord}
 use Rattle.box_pairs.specs.declared.Issue.{Issue}
 use Rattle.box_pairs.specs.declared.Issue.the-variants.{Sound, Short, Repeated, Crossing}
@@ -33,15 +30,3 @@ hasIssue Short = true
 hasIssue Repeated = true
 -- "two edges cross"
 hasIssue Crossing = true
-
--- the room that the work on a ring of n coordinates needs; `small` is for the positions, which are u32
-pub record IssueRoom (n : ℕ) (ring work : List Float) (order : List ℕ) : Type 0 where
-  pub ring-room : 2 * n ≤ length ring
-  pub work-room : 2 * n ≤ length work
-  pub order-room : n ≤ length order
-  pub small : n < 2 ^ 32
-
--- what lies past that room is as it was
-pub record Unused (n : ℕ) (work : List Float) (order : List ℕ) (work′ : List Float) (order′ : List ℕ) : Type 0 where
-  pub past-work : drop (2 * n) work′ ≡ drop (2 * n) work
-  pub past-order : drop n order′ ≡ drop n order

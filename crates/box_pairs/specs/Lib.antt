@@ -1,5 +1,4 @@
 pub mod Cross
-pub mod Issue
 pub mod Pairs
-pub mod Runs
-pub mod Sort
+pub mod Issue
+pub mod Contracts

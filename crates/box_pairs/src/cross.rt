@@ -1,6 +1,7 @@
 // Whether two edges cross: the source's `edges_intersect_properly`, between edges that are long enough and whose boxes meet.
 ghost use mathlib.Core.Path.{_≡_};
-ghost use Rattle.box_pairs.specs.Cross as S;
+ghost use Rattle.box_pairs.specs.Cross as Cross;
+ghost use Rattle.box_pairs.specs.Contracts as Contracts;
 use binary64::compare::higher;
 use binary64::compare::is_near;
 use binary64::compare::lower;
@@ -8,20 +9,20 @@ use tile::Coord;
 
 // Which side of the line from a to b the point c lies on, by the sign.
 fn cross_product_sign(a: Coord, b: Coord, c: Coord) -> f64
-    ensures { λ r. ⌜ r ≡ S.crossProductSign a b c ⌝ }
+    ensures { λ r. ⌜ r ≡ Cross.crossProductSign a b c ⌝ }
 {
     (b.x - a.x) * (c.y - a.y) - (b.y - a.y) * (c.x - a.x)
 }
 
 fn above_below(d: f64, e: f64) -> bool
-    ensures { λ r. ⌜ r ≡ S.aboveBelow d e ⌝ }
+    ensures { λ r. ⌜ r ≡ Cross.aboveBelow d e ⌝ }
 {
     d > 0.0 && e < 0.0
 }
 
 // Whether c and d lie strictly on opposite sides of the line through a and b, in floats.
 fn splits(a: Coord, b: Coord, c: Coord, d: Coord) -> bool
-    ensures { λ r. ⌜ r ≡ S.splits a b c d ⌝ }
+    ensures { λ r. ⌜ r ≡ Cross.splits a b c d ⌝ }
 {
     let side = cross_product_sign(a, b, c);
     let other = cross_product_sign(a, b, d);
@@ -29,21 +30,22 @@ fn splits(a: Coord, b: Coord, c: Coord, d: Coord) -> bool
 }
 
 fn edges_intersect_properly(a1: Coord, a2: Coord, b1: Coord, b2: Coord) -> bool
-    ensures { λ r. ⌜ r ≡ S.intersectProperly a1 a2 b1 b2 ⌝ }
+    ensures { λ r. ⌜ r ≡ Cross.intersectProperly a1 a2 b1 b2 ⌝ }
 {
     splits(b1, b2, a1, a2) && splits(a1, a2, b1, b2)
 }
 
 // Shorter than 1e-10 in both axes: the source's `degenerate`.
 pub fn is_short(a: Coord, b: Coord) -> bool
-    ensures { λ r. ⌜ r ≡ S.short a b ⌝ }
+    ensures { λ r. ⌜ r ≡ Cross.short a b ⌝ }
 {
     is_near(a.x, b.x) && is_near(a.y, b.y)
 }
 
-// Whether the numbers from a1 to a2 and those from b1 to b2 are apart, where none of the four is NaN: one branch, which is predicted more often than two.
+// Whether the numbers from a1 to a2 and those from b1 to b2 are apart, where none of the four is NaN: one branch, which is predicted more
+// often than two.
 pub fn is_apart(a1: f64, a2: f64, b1: f64, b2: f64) -> bool
-    ensures { λ r. ⌜ r ≡ S.separate a1 a2 b1 b2 ⌝ }
+    ensures { λ r. ⌜ r ≡ Contracts.separate a1 a2 b1 b2 ⌝ }
 {
     let low = higher(lower(b1, b2), lower(a1, a2));
     let high = lower(higher(b1, b2), higher(a1, a2));
@@ -52,7 +54,7 @@ pub fn is_apart(a1: f64, a2: f64, b1: f64, b2: f64) -> bool
 
 // Whether the edges from a1 to a2 and from b1 to b2 cross. Where a coordinate is NaN they do not, whatever their boxes.
 pub fn crosses(a1: Coord, a2: Coord, b1: Coord, b2: Coord) -> bool
-    ensures { λ r. ⌜ r ≡ S.cross a1 a2 b1 b2 ⌝ }
+    ensures { λ r. ⌜ r ≡ Cross.cross a1 a2 b1 b2 ⌝ }
 {
     if is_apart(a1.y, a2.y, b1.y, b2.y) {
         return false;

@@ -3,8 +3,8 @@
 ghost use mathlib.Core.Path.{_≡_};
 ghost use Prim.Native.Nat.{_*_, _-_, _≤_};
 ghost use lib.ListN.{length};
-ghost use Rattle.box_pairs.specs.Pairs.{front, KeptIfScanned};
-ghost use Rattle.box_pairs.specs.Issue.{repeated, issueOf, hasIssue, IssueRoom, Unused};
+ghost use Rattle.box_pairs.specs.Contracts.{front, KeptIfScanned, IssueRoom, Unused};
+ghost use Rattle.box_pairs.specs.Issue.{repeated, issueOf, hasIssue};
 use tile::ring::coord_at;
 
 pub mod cross;

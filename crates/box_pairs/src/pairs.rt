@@ -2,9 +2,9 @@
 ghost use mathlib.Core.Path.{_≡_};
 ghost use Prim.Native.Nat.{_+_, _*_, _-_, _<_, _≤_};
 ghost use lib.ListN.{length};
-ghost use Rattle.box_pairs.specs.Pairs.{front, edgesAt, mayMeetInY, selfIntersecting, HasEdges, isScanned};
-ghost use Rattle.box_pairs.specs.Pairs.{ScannedOrSwept, Noted, Swept};
-ghost use Rattle.box_pairs.specs.Issue.{IssueRoom, Unused};
+ghost use Rattle.box_pairs.specs.Contracts.{front, edgesAt, mayMeetInY, HasEdges, isScanned, ScannedOrSwept, Noted, Swept, IssueRoom};
+ghost use Rattle.box_pairs.specs.Contracts.{Unused};
+ghost use Rattle.box_pairs.specs.Pairs.{selfIntersecting};
 use super::cross::crosses;
 use super::cross::is_apart;
 use super::merge::sort;

@@ -10,21 +10,24 @@ use lib.ListN.{length, take, drop}
 use lib.Seq.{take-at, length-take-le}
 use Rattle.tile.specs.declared.Coord.{Coord}
 use Rattle.tile.specs.declared.TileBounds.{TileBounds}
-use Rattle.tile.specs.Ring.{coords, close, Stands, Written}
+use Rattle.tile.specs.Ring.{coords, close}
+use Rattle.tile.specs.Contracts.{Stands, Written}
 use Rattle.tile.proofs.Rings.{length-front, stands-front, length-close, close-most}
 use Rattle.box_pairs.specs.declared.Issue.{Issue}
 use Rattle.box_pairs.specs.Issue.{hasIssue, issueOf}
 use Rattle.sutherland_hodgman.specs.Growth.{B}
 use Rattle.sutherland_hodgman.specs.Clip.{clipRing}
-use Rattle.sutherland_hodgman.specs.Cutter.{Room, Cut}
+use Rattle.sutherland_hodgman.specs.Contracts.{CutterRoom, RingCut}
 use Rattle.sutherland_hodgman.proofs.Offered.{B-mono, clip-fits, clip-close}
 use Rattle.rings.specs.declared.bridge.Bridge.{Bridge}
 use Rattle.rings.specs.declared.bridge.Bridge.the-variants.{None, Along}
 use Rattle.clip.specs.declared.polygon.Flags.{Flags}
-use Rattle.clip.specs.declared.polygon.Reason.the-variants as Because
+use Rattle.clip.specs.declared.polygon.Reason.the-variants as Reasons
 use Rattle.clip.specs.declared.polygon.Route.{Route}
-use Rattle.clip.specs.declared.polygon.Route.the-variants as To
-use Rattle.clip.specs.Polygon.{overlayIfIssue, bridgeUnlessSkipped, overlayIfBridge, cutExterior, routeCut, leftOut, cutHole, RingRoom, CutStands, cutRings, unlessNone, cutHoles}
+use Rattle.clip.specs.declared.polygon.Route.the-variants as Routes
+use Rattle.clip.specs.Polygon.{overlayIfIssue, bridgeUnlessSkipped, overlayIfBridge, cutExterior, routeCut, leftOut, cutHole}
+use Rattle.clip.specs.Polygon.{cutRings, unlessNone, cutHoles}
+use Rattle.clip.specs.Contracts.{RingRoom, CutStands}
 
 -- ---- room
 
@@ -59,10 +62,12 @@ module _ (n : ℕ) (s : List Float) (a b : ℕ) (room : RingRoom n s a b) where
   pub lent-count : n ≤ length (close (coords (take (2 * n) s)))
   lent-count = omega (arith, length-front s n (room .lent), length-close (coords (take (2 * n) s)))
 
-  pub cutter-room : Room n (length s) a b
-  cutter-room = let m = B-mono n (length (close (coords (take (2 * n) s)))) lent-count in record { vertices = room .lent; first = omega (arith, room .first); second = omega (arith, room .second) }
+  pub cutter-room : CutterRoom n (length s) a b
+  cutter-room =
+      let m = B-mono n (length (close (coords (take (2 * n) s)))) lent-count in record
+      { vertices = room .lent; first = omega (arith, room .first); second = omega (arith, room .second) }
 
-  module _ (bounds : TileBounds) (k : ℕ) (after : List Float) (c : Cut bounds (coords (take (2 * n) s)) k after) where
+  module _ (bounds : TileBounds) (k : ℕ) (after : List Float) (c : RingCut bounds (coords (take (2 * n) s)) k after) where
     pub cut-ring : coords (take (2 * k) after) ≡ clipRing bounds (close (coords (take (2 * n) s)))
     cut-ring = stands-front (c .stands) ∙ sym (clip-close bounds (coords (take (2 * n) s)) (room .closes))
 
@@ -78,22 +83,26 @@ module _ (n : ℕ) (s : List Float) (a b : ℕ) (room : RingRoom n s a b) where
       closed-written = rw cut-ring at w
 
       pub closed-fits : 0 < k → r ≤ B (length (close (coords (take (2 * n) s))))
-      closed-fits h = omega (arith, closed-written .count, cut-count, cut-fits h, close-most (clipRing bounds (close (coords (take (2 * n) s)))))
+      closed-fits h =
+          omega (arith, closed-written .count, cut-count, cut-fits h, close-most (clipRing bounds (close (coords (take (2 * n) s)))))
 
       pub closed-some : 0 < k → 0 < r
       closed-some h = omega (arith, closed-written .count, cut-count, length-close (clipRing bounds (close (coords (take (2 * n) s)))))
 
 -- ---- a cut exterior, judged
 
-module _ (flags : Flags) (b : TileBounds) (r ring : List Coord) (issue : Issue) (n : ℕ) (to : Route) (is : to ≡ overlayIfIssue issue (Because.Cut issue) (overlayIfBridge (bridgeUnlessSkipped flags b ring) (To.Cut n))) where
-  pub judged-route : 0 < length (clipRing b r) → ring ≡ cutExterior b r → issue ≡ issueOf (flags .«assume_simple») ring → n ≡ length (cutExterior b r) → to ≡ routeCut flags b r
+module _ (flags : Flags) (b : TileBounds) (r ring : List Coord) (issue : Issue) (n : ℕ) (to : Route)
+    (is : to ≡ overlayIfIssue issue (Reasons.Cut issue) (overlayIfBridge (bridgeUnlessSkipped flags b ring) (Routes.Cut n))) where
+  pub judged-route : 0 < length (clipRing b r) → ring ≡ cutExterior b r → issue ≡ issueOf (flags .«assume_simple») ring
+      → n ≡ length (cutExterior b r) → to ≡ routeCut flags b r
   unfolding routeCut
   judged-route some hr hi hn = is ∙ rw (lt-ltb _ _ some, hi, hr, hn)
 
   pub judged-stands : (after : List Float) → Stands (cutExterior b r) n after → 0 < n → CutStands b r to after
   judged-stands after stands some = rw is (go (hasIssue issue) (bridgeUnlessSkipped flags b ring))
     where
-      go : (t : Bool) (bridge : Bridge) → CutStands b r (cond t (To.Overlay (Because.Cut issue)) (overlayIfBridge bridge (To.Cut n))) after
+      go : (t : Bool) (bridge : Bridge) → CutStands b r
+          (cond t (Routes.Overlay (Reasons.Cut issue)) (overlayIfBridge bridge (Routes.Cut n))) after
       go true bridge = tt
       go false (Along edge) = tt
       go false None = (stands, some)

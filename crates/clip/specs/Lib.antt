@@ -1,1 +1,2 @@
 pub mod Polygon
+pub mod Contracts

@@ -1,19 +1,17 @@
--- What becomes of one polygon at a tile, in document 01's order ("Nothing, or dropped", "Unchanged", "Cut rings", "Overlay wanted"), and the numbers of its answers ("Frames"). Definitions only.
-use mathlib.Core.Path.{_≡_}
-use mathlib.Core.Bool.{Bool, true, _&&_, cond}
+-- What becomes of one polygon at a tile, in document 01's order ("Nothing, or dropped", "Unchanged", "Cut rings", "Overlay wanted"), and
+-- the numbers of its answers ("Frames"). Definitions only.
+use mathlib.Core.Bool.{Bool, _&&_, cond}
 use mathlib.Core.List.{List, [], _∷_}
-use Prim.Native.Nat.{ℕ, _*_, _<_, _≤_}
+use Prim.Native.Nat.{ℕ}
 use lib.Dec.{ltb}
-use lib.Ieee.{Float}
-use lib.ListN.{length, take}
+use lib.ListN.{length}
 use Rattle.tile.specs.declared.Coord.{Coord}
 use Rattle.tile.specs.declared.TileBounds.{TileBounds}
 use Rattle.tile.specs.declared.Edge.{Edge}
 use Rattle.tile.specs.declared.Edge.the-variants.{Left, Right, Bottom, Top}
-use Rattle.tile.specs.Ring.{coords, closed, close, Stands}
+use Rattle.tile.specs.Ring.{close}
 use Rattle.box_pairs.specs.declared.Issue.{Issue}
 use Rattle.box_pairs.specs.Issue.{issueOf, hasIssue}
-use Rattle.sutherland_hodgman.specs.Growth.{B, mostCoordinates}
 use Rattle.sutherland_hodgman.specs.Clip.{clipRing}
 use Rattle.rings.specs.declared.bridge.Bridge.{Bridge}
 use Rattle.rings.specs.declared.bridge.Bridge.the-variants.{None, Along}
@@ -22,20 +20,20 @@ use Rattle.rings.specs.declared.rectangle.Rect.the-variants as Rects
 use Rattle.rings.specs.Bridge.{firstBridge}
 use Rattle.rings.specs.Rectangle.{rectangle, intersectsBounds, isFullyInside}
 use Rattle.rings.specs.Representable.{anyHugeRing}
-use Rattle.rings.specs.Rings.{exterior}
+use Rattle.rings.specs.LentRings.{exterior}
 use Rattle.clip.specs.declared.polygon.Flags.{Flags}
 use Rattle.clip.specs.declared.polygon.Reason.{Reason}
-use Rattle.clip.specs.declared.polygon.Reason.the-variants as Because
+use Rattle.clip.specs.declared.polygon.Reason.the-variants as Reasons
 use Rattle.clip.specs.declared.polygon.Route.{Route}
-use Rattle.clip.specs.declared.polygon.Route.the-variants as To
+use Rattle.clip.specs.declared.polygon.Route.the-variants as Routes
 use Rattle.clip.specs.declared.polygon.PolygonAnswer.{PolygonAnswer}
-use Rattle.clip.specs.declared.polygon.PolygonAnswer.the-variants as Is
+use Rattle.clip.specs.declared.polygon.PolygonAnswer.the-variants as PolygonAnswers
 
 -- ---- the exterior decides
 
 -- an exterior with an issue wants an overlay
 abbrev pub overlayIfIssue : Issue → Reason → Route → Route
-overlayIfIssue issue reason route = cond (hasIssue issue) (To.Overlay reason) route
+overlayIfIssue issue reason route = cond (hasIssue issue) (Routes.Overlay reason) route
 
 -- "This last test is skipped only if both flags are set."
 unfoldable pub bridgeUnlessSkipped : Flags → TileBounds → List Coord → Bridge
@@ -43,7 +41,7 @@ bridgeUnlessSkipped flags b r = cond (flags .«assume_simple» && flags .«skip_
 
 -- "Reasons 3 to 6: no issue, but an edge of the cut exterior .."
 abbrev pub overlayIfBridge : Bridge → Route → Route
-overlayIfBridge (Along edge) route = To.Overlay (Because.Bridge edge)
+overlayIfBridge (Along edge) route = Routes.Overlay (Reasons.Bridge edge)
 overlayIfBridge None route = route
 
 -- the cut exterior as the polygon holds it: "This also applies to cut rings"
@@ -55,13 +53,16 @@ unfoldable pub routeCut : Flags → TileBounds → List Coord → Route
 routeCut flags b r =
     let cut = cutExterior b r in
     let issue = issueOf (flags .«assume_simple») cut in
-    cond (ltb 0 (length (clipRing b r))) (overlayIfIssue issue (Because.Cut issue) (overlayIfBridge (bridgeUnlessSkipped flags b cut) (To.Cut (length cut)))) To.Nothing
+    cond (ltb 0 (length (clipRing b r))) (overlayIfIssue issue (Reasons.Cut issue)
+    (overlayIfBridge (bridgeUnlessSkipped flags b cut) (Routes.Cut (length cut)))) Routes.Nothing
 
--- "Rectangle and buffered bounds apart: nothing." "Reason 1: the input exterior has an issue." "No issue and rectangle inside the bounds (edges included): unchanged."
+-- "Rectangle and buffered bounds apart: nothing." "Reason 1: the input exterior has an issue." "No issue and rectangle inside the bounds
+-- (edges included): unchanged."
 unfoldable pub routeExterior : Flags → Rect → TileBounds → List Coord → Route
 routeExterior flags rect b r =
     let issue = issueOf (flags .«assume_simple») r in
-    cond (intersectsBounds rect b) (overlayIfIssue issue (Because.Input issue) (cond (isFullyInside rect b) To.Unchanged (routeCut flags b r))) To.Nothing
+    cond (intersectsBounds rect b) (overlayIfIssue issue (Reasons.Input issue)
+    (cond (isFullyInside rect b) Routes.Unchanged (routeCut flags b r))) Routes.Nothing
 
 -- ---- all rings
 
@@ -97,10 +98,10 @@ unfoldable pub overlayOrDropped : List (List Coord) → Reason → Routed
 overlayOrDropped rings reason = cond (anyHugeRing rings) dropped (overlay reason)
 
 abbrev pub routed : Route → TileBounds → List (List Coord) → Routed
-routed To.Nothing b rings = nothing
-routed To.Unchanged b rings = unchanged
-routed (To.Cut n) b rings = cut (cutRings b rings)
-routed (To.Overlay reason) b rings = overlayOrDropped rings reason
+routed Routes.Nothing b rings = nothing
+routed Routes.Unchanged b rings = unchanged
+routed (Routes.Cut n) b rings = cut (cutRings b rings)
+routed (Routes.Overlay reason) b rings = overlayOrDropped rings reason
 
 -- a polygon as if rect were its rectangle; `routeRect` gives it one of four numbers
 abbrev pub routeMeasured : Flags → Rect → TileBounds → List (List Coord) → Routed
@@ -125,62 +126,40 @@ edgeNumber Top = 6
 
 -- the paper's number of each reason
 abbrev pub reasonNumber : Reason → ℕ
-reasonNumber (Because.Input issue) = 1
-reasonNumber (Because.Cut issue) = 2
-reasonNumber (Because.Bridge edge) = edgeNumber edge
+reasonNumber (Reasons.Input issue) = 1
+reasonNumber (Reasons.Cut issue) = 2
+reasonNumber (Reasons.Bridge edge) = edgeNumber edge
 
 -- ---- answers
 
 -- the answer, without the rings of a cut
 abbrev pub answerOf : Routed → PolygonAnswer
-answerOf nothing = Is.Nothing
-answerOf dropped = Is.Dropped
-answerOf unchanged = Is.Unchanged
-answerOf (cut rings) = Is.Cut (length rings)
-answerOf (overlay reason) = Is.Overlay reason
+answerOf nothing = PolygonAnswers.Nothing
+answerOf dropped = PolygonAnswers.Dropped
+answerOf unchanged = PolygonAnswers.Unchanged
+answerOf (cut rings) = PolygonAnswers.Cut (length rings)
+answerOf (overlay reason) = PolygonAnswers.Overlay reason
 
 -- "dropped, guard count 1"; every other answer has none
 abbrev pub guardCount : PolygonAnswer → ℕ
-guardCount Is.Nothing = 0
-guardCount Is.Dropped = 1
-guardCount Is.Unchanged = 0
-guardCount (Is.Cut rings) = 0
-guardCount (Is.Overlay reason) = 0
+guardCount PolygonAnswers.Nothing = 0
+guardCount PolygonAnswers.Dropped = 1
+guardCount PolygonAnswers.Unchanged = 0
+guardCount (PolygonAnswers.Cut rings) = 0
+guardCount (PolygonAnswers.Overlay reason) = 0
 
 -- "(0 nothing, 1 whole dropped, 2 whole unchanged, ..", "(2 unchanged, 4 cut, 5 overlay)"
 abbrev pub answerNumber : PolygonAnswer → ℕ
-answerNumber Is.Nothing = 0
-answerNumber Is.Dropped = 1
-answerNumber Is.Unchanged = 2
-answerNumber (Is.Cut rings) = 4
-answerNumber (Is.Overlay reason) = 5
+answerNumber PolygonAnswers.Nothing = 0
+answerNumber PolygonAnswers.Dropped = 1
+answerNumber PolygonAnswers.Unchanged = 2
+answerNumber (PolygonAnswers.Cut rings) = 4
+answerNumber (PolygonAnswers.Overlay reason) = 5
 
 -- "reason, 1 byte, 0 unless overlay"
 abbrev pub answerReason : PolygonAnswer → ℕ
-answerReason Is.Nothing = 0
-answerReason Is.Dropped = 0
-answerReason Is.Unchanged = 0
-answerReason (Is.Cut rings) = 0
-answerReason (Is.Overlay reason) = reasonNumber reason
-
--- ---- what the code asks for and leaves
-
--- a ring of n coordinates, lent at the front of a slice, can be closed and cut in two slices of these lengths; closing closes it, as its first coordinate holds no NaN
-pub record RingRoom (n : ℕ) (ring : List Float) (a b : ℕ) : Type 0 where
-  pub lent : 2 * n ≤ length ring
-  pub few : length (close (coords (take (2 * n) ring))) ≤ mostCoordinates
-  pub closes : closed (close (coords (take (2 * n) ring))) ≡ true
-  pub first : 2 * B (length (close (coords (take (2 * n) ring)))) ≤ a
-  pub second : 2 * B (length (close (coords (take (2 * n) ring)))) ≤ b
-
--- an exterior takes positions besides
-pub record ExteriorRoom (n : ℕ) (ring : List Float) (a b order : ℕ) : Type 0 where
-  pub room : RingRoom n ring a b
-  pub positions : B (length (close (coords (take (2 * n) ring)))) ≤ order
-
--- where the route is a cut, the cut exterior, which has coordinates, stands at the front of the slice
-abbrev pub CutStands : TileBounds → List Coord → Route → List Float → Type 0
-CutStands b ring To.Nothing after = Unit {0}
-CutStands b ring To.Unchanged after = Unit {0}
-CutStands b ring (To.Cut n) after = Stands (cutExterior b ring) n after × (0 < n)
-CutStands b ring (To.Overlay reason) after = Unit {0}
+answerReason PolygonAnswers.Nothing = 0
+answerReason PolygonAnswers.Dropped = 0
+answerReason PolygonAnswers.Unchanged = 0
+answerReason (PolygonAnswers.Cut rings) = 0
+answerReason (PolygonAnswers.Overlay reason) = reasonNumber reason

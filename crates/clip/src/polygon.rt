@@ -1,11 +1,14 @@
-// The routing of one polygon by its exterior, and the cut of a hole: the source's `clip_polygon` and `clip_polygon_sh`. Rings are lent as x, y numbers, closed or not, and closed here.
+// The routing of one polygon by its exterior, and the cut of a hole: the source's `clip_polygon` and `clip_polygon_sh`. Rings are lent as
+// x, y numbers, closed or not, and closed here.
 ghost use mathlib.Core.Path.{_≡_};
 ghost use mathlib.Core.Bool.{_&&_};
 ghost use Prim.Native.Nat.{_*_, _≤_};
 ghost use lib.ListN.{length, take};
-ghost use Rattle.tile.specs.Ring as T;
+ghost use Rattle.tile.specs.Ring as Ring;
+ghost use Rattle.tile.specs.Contracts as TileContracts;
 ghost use Rattle.box_pairs.specs.Issue.{issueOf};
-ghost use Rattle.clip.specs.Polygon as S;
+ghost use Rattle.clip.specs.Polygon as Polygon;
+ghost use Rattle.clip.specs.Contracts as Contracts;
 ghost use Rattle.clip.specs.Polygon.{guardCount};
 use binary64::slices::copy;
 use box_pairs::Issue;
@@ -22,7 +25,8 @@ use tile::TileBounds;
 use tile::ring::close;
 use tile::ring::is_closed;
 
-// Whether the crossing test of the exterior and of the cut exterior is left out, and whether, if both are set, the test for edges along a bound is too.
+// Whether the crossing test of the exterior and of the cut exterior is left out, and whether, if both are set, the test for edges along a
+// bound is too.
 pub struct Flags {
     pub assume_simple: bool,
     pub skip_boundary_fallback: bool,
@@ -78,7 +82,7 @@ pub fn guard_count(answer: PolygonAnswer) -> usize
 
 // The number of the edge that a bridge runs along, as a reason.
 fn edge_number(edge: Edge) -> u8
-    ensures { λ r. ⌜ r ≡ S.edgeNumber edge ⌝ }
+    ensures { λ r. ⌜ r ≡ Polygon.edgeNumber edge ⌝ }
 {
     match edge {
         Edge::Left => 3,
@@ -90,7 +94,7 @@ fn edge_number(edge: Edge) -> u8
 
 // Document 01's number of a reason.
 pub fn reason_number(reason: Reason) -> u8
-    ensures { λ r. ⌜ r ≡ S.reasonNumber reason ⌝ }
+    ensures { λ r. ⌜ r ≡ Polygon.reasonNumber reason ⌝ }
 {
     match reason {
         Reason::Input(issue) => 1,
@@ -108,8 +112,8 @@ fn closed_issue(
     b: &mut [f64],
     order: &mut [u32],
 ) -> Issue
-    requires { ⌜ S.ExteriorRoom n (now ring) (length (now a)) (length (now b)) (length (now order)) ⌝ }
-    ensures { λ r. ⌜ r ≡ issueOf «assume_simple» (T.close (T.coords (take (2 * n) (now (ring .entry))))) ⌝ }
+    requires { ⌜ Contracts.ExteriorRoom n (now ring) (length (now a)) (length (now b)) (length (now order)) ⌝ }
+    ensures { λ r. ⌜ r ≡ issueOf «assume_simple» (Ring.close (Ring.coords (take (2 * n) (now (ring .entry))))) ⌝ }
 {
     if is_closed(ring, n) {
         return find_issue(ring, n, assume_simple, a, order);
@@ -128,7 +132,7 @@ fn skips_bridges(flags: Flags) -> bool
 
 fn bridge_unless_skipped(ring: &[f64], n: usize, flags: Flags, bounds: TileBounds) -> Bridge
     requires { ⌜ 2 * n ≤ length (now ring) ⌝ }
-    ensures { λ r. ⌜ r ≡ S.bridgeUnlessSkipped flags bounds (T.coords (take (2 * n) (now (ring .entry)))) ⌝ }
+    ensures { λ r. ⌜ r ≡ Polygon.bridgeUnlessSkipped flags bounds (Ring.coords (take (2 * n) (now (ring .entry)))) ⌝ }
 {
     if skips_bridges(flags) {
         return Bridge::None;
@@ -139,7 +143,9 @@ fn bridge_unless_skipped(ring: &[f64], n: usize, flags: Flags, bounds: TileBound
 // What becomes of a cut exterior of n coordinates, at the front of a slice, that has this issue.
 fn judge_cut(ring: &[f64], n: usize, issue: Issue, flags: Flags, bounds: TileBounds) -> Route
     requires { ⌜ 2 * n ≤ length (now ring) ⌝ }
-    ensures { λ r. ⌜ r ≡ S.overlayIfIssue issue (Reason.Cut issue) (S.overlayIfBridge (S.bridgeUnlessSkipped flags bounds (T.coords (take (2 * n) (now (ring .entry))))) (Route.Cut n)) ⌝ }
+    ensures { λ r. ⌜ r ≡ Polygon.overlayIfIssue issue (Reason.Cut issue)
+        (Polygon.overlayIfBridge (Polygon.bridgeUnlessSkipped flags bounds (Ring.coords (take (2 * n) (now (ring .entry)))))
+        (Route.Cut n)) ⌝ }
 {
     if has_issue(issue) {
         return Route::Overlay(Reason::Cut(issue));
@@ -161,9 +167,9 @@ fn route_cut(
     b: &mut [f64],
     order: &mut [u32],
 ) -> Route
-    requires { ⌜ S.ExteriorRoom n (now ring) (length (now a)) (length (now b)) (length (now order)) ⌝ }
-    ensures { λ r. ⌜ r ≡ S.routeCut flags bounds (T.close (T.coords (take (2 * n) (now (ring .entry))))) ⌝ }
-    ensures { λ r. ⌜ S.CutStands bounds (T.close (T.coords (take (2 * n) (now (ring .entry))))) r (now (b .exit)) ⌝ }
+    requires { ⌜ Contracts.ExteriorRoom n (now ring) (length (now a)) (length (now b)) (length (now order)) ⌝ }
+    ensures { λ r. ⌜ r ≡ Polygon.routeCut flags bounds (Ring.close (Ring.coords (take (2 * n) (now (ring .entry))))) ⌝ }
+    ensures { λ r. ⌜ Contracts.CutStands bounds (Ring.close (Ring.coords (take (2 * n) (now (ring .entry))))) r (now (b .exit)) ⌝ }
 {
     let clipped = clip_ring(ring, n, bounds, a, b);
     if clipped == 0 {
@@ -185,9 +191,9 @@ pub fn route_exterior(
     b: &mut [f64],
     order: &mut [u32],
 ) -> Route
-    requires { ⌜ S.ExteriorRoom n (now ring) (length (now a)) (length (now b)) (length (now order)) ⌝ }
-    ensures { λ r. ⌜ r ≡ S.routeExterior flags rect bounds (T.close (T.coords (take (2 * n) (now (ring .entry))))) ⌝ }
-    ensures { λ r. ⌜ S.CutStands bounds (T.close (T.coords (take (2 * n) (now (ring .entry))))) r (now (b .exit)) ⌝ }
+    requires { ⌜ Contracts.ExteriorRoom n (now ring) (length (now a)) (length (now b)) (length (now order)) ⌝ }
+    ensures { λ r. ⌜ r ≡ Polygon.routeExterior flags rect bounds (Ring.close (Ring.coords (take (2 * n) (now (ring .entry))))) ⌝ }
+    ensures { λ r. ⌜ Contracts.CutStands bounds (Ring.close (Ring.coords (take (2 * n) (now (ring .entry))))) r (now (b .exit)) ⌝ }
 {
     if !intersects_bounds(rect, bounds) {
         return Route::Nothing;
@@ -204,8 +210,9 @@ pub fn route_exterior(
 
 // Cuts a hole, to the front of b, and answers how many coordinates it has; one that is left out has none.
 pub fn clip_hole(ring: &[f64], n: usize, bounds: TileBounds, a: &mut [f64], b: &mut [f64]) -> usize
-    requires { ⌜ S.RingRoom n (now ring) (length (now a)) (length (now b)) ⌝ }
-    ensures { λ r. ⌜ T.Stands (S.cutHole bounds (T.close (T.coords (take (2 * n) (now (ring .entry)))))) r (now (b .exit)) ⌝ }
+    requires { ⌜ Contracts.RingRoom n (now ring) (length (now a)) (length (now b)) ⌝ }
+    ensures { λ r. ⌜ TileContracts.Stands (Polygon.cutHole bounds (Ring.close (Ring.coords (take (2 * n) (now (ring .entry)))))) r
+        (now (b .exit)) ⌝ }
 {
     let clipped = clip_ring(ring, n, bounds, a, b);
     if clipped < 4 {

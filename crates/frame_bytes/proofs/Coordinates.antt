@@ -1,4 +1,5 @@
--- The coordinates of a ring in a frame: how many they are, the last of them, and what is left when one more is passed or written. Assumes nothing.
+-- The coordinates of a ring in a frame: how many they are, the last of them, and what is left when one more is passed or written. Assumes
+-- nothing.
 use mathlib.Core.Path.{_≡_, refl, sym, _∙_, ap}
 use mathlib.Core.List.{List, [], _∷_}
 use Prim.Native.Nat.{ℕ, zero, suc, _+_, _*_, _-_, _<_, _≤_}
@@ -24,7 +25,8 @@ last-coordsOf (suc n) l =
     rw (e, ← drop-drop (16 * n) 16 l) (last-coordsOf n (drop 16 l))
 
 -- closed, by the first and the last coordinate
-pub closed-coordsOf : (frame : List ℕ) (at n : ℕ) → 0 < n → closed (coordsOf n (drop at frame)) ≡ same (coordOf (drop at frame)) (coordOf (drop (at + 16 * (n - 1)) frame))
+pub closed-coordsOf : (frame : List ℕ) (at n : ℕ) → 0 < n → closed (coordsOf n (drop at frame)) ≡ same (coordOf (drop at frame))
+    (coordOf (drop (at + 16 * (n - 1)) frame))
 unfolding closed coordsOf
 closed-coordsOf frame at zero h = absurd (omega arith)
 closed-coordsOf frame at (suc n) h =
@@ -63,7 +65,9 @@ module _ (frame : List ℕ) (at n : ℕ) where
   none-written ring = rw (left-none frame at n)
 
   pub one-written : (ring : List Float) (i : ℕ) → i < n
-      → sets ring (2 * i) (flat (left frame at n i)) ≡ sets (sets ring (2 * i) (coordOf (drop (at + 16 * i) frame) .x ∷ coordOf (drop (at + 16 * i) frame) .y ∷ [])) (2 * (i + 1)) (flat (left frame at n (i + 1)))
+      → sets ring (2 * i) (flat (left frame at n i)) ≡ sets
+      (sets ring (2 * i) (coordOf (drop (at + 16 * i) frame) .x ∷ coordOf (drop (at + 16 * i) frame) .y ∷ [])) (2 * (i + 1))
+      (flat (left frame at n (i + 1)))
   unfolding flat
   one-written ring i h =
       let p : 2 * (i + 1) ≡ suc (suc (2 * i)) = omega arith in
@@ -74,7 +78,9 @@ module _ (frame : List ℕ) (at n : ℕ) where
   all-written ring i h = rw (left-all frame at n i h)
 
 -- a ring that was written to the front of a slice stands there
-pub decoded : (ring : List Float) (n : ℕ) (l : List ℕ) → 2 * n ≤ length ring → coords (take (2 * n) (sets ring 0 (flat (coordsOf n l)))) ≡ coordsOf n l
+pub decoded : (ring : List Float) (n : ℕ) (l : List ℕ) → 2 * n ≤ length ring → coords (take (2 * n) (sets ring 0 (flat (coordsOf n l))))
+    ≡ coordsOf n l
 decoded ring n l h =
     let m : length (flat (coordsOf n l)) ≡ 2 * n = length-flat (coordsOf n l) ∙ rw (length-coordsOf n l) in
-    coords-front (coordsOf n l) (drop (0 + length (flat (coordsOf n l))) ring) (sets ring 0 (flat (coordsOf n l))) n (sym (length-coordsOf n l)) (sets-eq (flat (coordsOf n l)) ring 0 (omega arith))
+    coords-front (coordsOf n l) (drop (0 + length (flat (coordsOf n l))) ring) (sets ring 0 (flat (coordsOf n l))) n
+    (sym (length-coordsOf n l)) (sets-eq (flat (coordsOf n l)) ring 0 (omega arith))

@@ -18,10 +18,11 @@ use Rattle.binary64.specs.Bytes.{fromLow}
 use Rattle.tile.specs.Ring.{same, last, closed, close}
 use Rattle.sutherland_hodgman.specs.Growth.{halfGrowth, fourHalfGrowths, B}
 use Rattle.sutherland_hodgman.proofs.Offered.{B-mono, B-none, B-closed}
-use Rattle.rings.specs.Rings.{mostRings, total, ringRoom}
-use Rattle.frame_bytes.specs.Frame.{longest, headBytes, multipolygon, Reading, refused, read, readMany, countOf, coordsOf}
+use Rattle.rings.specs.LentRings.{mostRings, total, ringRoom}
+use Rattle.frame_bytes.specs.Frame.{longest, headBytes, multipolygonKind, Reading, refused, read, readMany, countOf, coordsOf}
 use Rattle.frame_bytes.specs.Frame.{readCount, readCoords, readRing, readPart, readParts, Frame, partCountOf, readFrame}
-use Rattle.frame_bytes.specs.Room.{leastRoom, coordinateBytes, partRoom, room, mostRoom, readCall, frameRoom}
+use Rattle.frame_bytes.specs.Room.{leastRoom, coordinateBytes, partRoom, outputRoom, mostRoom, readCall}
+use Rattle.frame_bytes.specs.Contracts.{frameRoom}
 use Rattle.frame_bytes.proofs.Coordinates.{close-grows}
 use Rattle.frame_bytes.proofs.Places.{no-more}
 use Rattle.frame_bytes.proofs.Readings.{many-first, ring-read, part-read, frame-read}
@@ -146,8 +147,8 @@ most parts asked bytes left h c = by-coordinates (ltb (c .coordinates) 282) refl
         by-parts (suc (suc k)) p = omega (arith, p, ltb-false (c .coordinates) 282 e, c .lent, c .enough)
 
 pub frame-most : (l : List ℕ) (f : Frame) (rest : List ℕ) → readFrame l ≡ read f rest
-    → room coordinateBytes (f .parts) ≤ mostRoom
-unfolding room
+    → outputRoom coordinateBytes (f .parts) ≤ mostRoom
+unfolding outputRoom
 frame-most l f rest e =
     let r = frame-read l f rest e in
     let c =
@@ -165,8 +166,8 @@ has-room l out h = by-reading (readFrame l) refl
     by-reading : (x : Reading Frame) → readFrame l ≡ x → readCall l out ≡ x
     by-reading (refused r) e = rw e
     by-reading (read f rest) e =
-        let enough : room coordinateBytes (f .parts) ≤ out = omega (arith, h, frame-most l f rest e) in
-        rw (e, le-ltb out (room coordinateBytes (f .parts)) enough)
+        let enough : outputRoom coordinateBytes (f .parts) ≤ out = omega (arith, h, frame-most l f rest e) in
+        rw (e, le-ltb out (outputRoom coordinateBytes (f .parts)) enough)
 
 -- ---- the bound is reached
 
@@ -181,7 +182,7 @@ manyParts zero = 33 ∷ 0 ∷ manyRings 33
 manyParts (suc k) = 31 ∷ 0 ∷ manyRings 31 ++ manyParts k
 
 -- a frame of 5,120 bytes: nine parts with 281 rings
-reached : frameRoom coordinateBytes (readFrame (multipolygon ∷ replicate 41 0 ++ 9 ∷ 0 ∷ manyParts 8)) ≡ mostRoom
+reached : frameRoom coordinateBytes (readFrame (multipolygonKind ∷ replicate 41 0 ++ 9 ∷ 0 ∷ manyParts 8)) ≡ mostRoom
 unfolding manyRings manyParts readFrame readParts readPart readRing readCoords readCount readMany coordsOf countOf fromLow
-    room partRoom total B fourHalfGrowths halfGrowth close closed last same ofBits eq
+    outputRoom partRoom total B fourHalfGrowths halfGrowth close closed last same ofBits eq
 reached = refl

@@ -5,8 +5,9 @@ use Prim.Native.Nat.{ℕ, _+_, _*_, _-_, _<_, _≤_}
 use lib.ListN.{length, drop}
 use Rattle.tile.specs.declared.Coord.{Coord}
 use Rattle.tile.specs.Ring.{close}
-use Rattle.rings.specs.Rings.{mostRings}
-use Rattle.frame_bytes.specs.Frame.{read, Accepted, countOf, coordsOf, readRing, readMany, readPart, allIn, partAt, ringsFrom}
+use Rattle.rings.specs.LentRings.{mostRings}
+use Rattle.frame_bytes.specs.Frame.{read, countOf, coordsOf, readRing, readMany, readPart}
+use Rattle.frame_bytes.specs.Contracts.{Accepted, allIn, partAt, ringsFrom}
 use Rattle.frame_bytes.proofs.Readings.{taken, ring-reads}
 use Rattle.frame_bytes.proofs.Places.{step, ring-at, part-at}
 
@@ -14,17 +15,20 @@ use Rattle.frame_bytes.proofs.Places.{step, ring-at, part-at}
 
 pub record NextRing (frame : List ℕ) (at k : ℕ) : Type 0 where
   pub whole : at + 2 + 16 * countOf (drop at frame) ≤ length frame
-  pub here : ringsFrom frame at k ≡ close (coordsOf (countOf (drop at frame)) (drop (at + 2) frame)) ∷ ringsFrom frame (at + 2 + 16 * countOf (drop at frame)) (k - 1)
+  pub here : ringsFrom frame at k ≡ close (coordsOf (countOf (drop at frame)) (drop (at + 2) frame)) ∷ ringsFrom frame
+      (at + 2 + 16 * countOf (drop at frame)) (k - 1)
   pub later : Accepted (readMany readRing (k - 1) (drop (at + 2 + 16 * countOf (drop at frame)) frame))
 
-pub next-ring : (frame : List ℕ) (at k : ℕ) → at ≤ length frame → 0 < k → Accepted (readMany readRing k (drop at frame)) → NextRing frame at k
+pub next-ring : (frame : List ℕ) (at k : ℕ) → at ≤ length frame → 0 < k → Accepted (readMany readRing k (drop at frame))
+    → NextRing frame at k
 next-ring frame at k h pos a = let t = taken (readMany readRing k (drop at frame)) a in go (t .value) (t .rest) (t .is)
   where
     go : (all : List (List Coord)) (rest : List ℕ) → readMany readRing k (drop at frame) ≡ read all rest → NextRing frame at k
     go all rest e =
         let s = step readRing ring-reads frame at k all rest h pos e in
         let r = ring-at frame at (s .value) (drop (s .next) frame) h (s .first) in
-        let n : readMany readRing (k - 1) (drop (at + 2 + 16 * countOf (drop at frame)) frame) ≡ read (s .others) rest = rw (← r .follows) (s .later) in
+        let n : readMany readRing (k - 1) (drop (at + 2 + 16 * countOf (drop at frame)) frame) ≡ read (s .others) rest =
+        rw (← r .follows) (s .later) in
         record {
           whole = r .whole;
           here = ap allIn e ∙ s .whole ∙ rw (r .coordinates, n);

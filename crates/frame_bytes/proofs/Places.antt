@@ -7,7 +7,7 @@ use lib.ListN.{length, drop, length-drop}
 use lib.Seq.{drop-drop}
 use Rattle.tile.specs.declared.Coord.{Coord}
 use Rattle.tile.specs.Ring.{close}
-use Rattle.rings.specs.Rings.{mostRings}
+use Rattle.rings.specs.LentRings.{mostRings}
 use Rattle.frame_bytes.specs.Frame.{Reading, read, readMany, countOf, coordsOf, readRing, readPart, mostInRing}
 use Rattle.frame_bytes.proofs.Readings.{Reads, place, many-first, ring-read, part-read}
 
@@ -23,7 +23,8 @@ pub record Step {A : Type 0} (f : List ℕ → Reading A) (frame : List ℕ) (at
   pub later : readMany f (k - 1) (drop next frame) ≡ read others rest
   pub whole : all ≡ value ∷ others
 
-pub step : {A : Type 0} (f : List ℕ → Reading A) → Reads f → (frame : List ℕ) (at k : ℕ) (all : List A) (rest : List ℕ) → at ≤ length frame → 0 < k
+pub step : {A : Type 0} (f : List ℕ → Reading A) → Reads f → (frame : List ℕ) (at k : ℕ) (all : List A) (rest : List ℕ)
+    → at ≤ length frame → 0 < k
     → readMany f k (drop at frame) ≡ read all rest → Step f frame at k all rest
 step f reads frame at zero all rest h pos e = absurd (omega arith)
 step f reads frame at (suc k) all rest h pos e =
@@ -42,7 +43,8 @@ step f reads frame at (suc k) all rest h pos e =
     }
 
 -- none is left
-pub no-more : {A : Type 0} (f : List ℕ → Reading A) (k : ℕ) (l : List ℕ) (all : List A) (rest : List ℕ) → k ≤ 0 → readMany f k l ≡ read all rest → (all ≡ []) × (rest ≡ l)
+pub no-more : {A : Type 0} (f : List ℕ → Reading A) (k : ℕ) (l : List ℕ) (all : List A) (rest : List ℕ) → k ≤ 0
+    → readMany f k l ≡ read all rest → (all ≡ []) × (rest ≡ l)
 unfolding readMany
 no-more f zero l all rest h e = (cc, cc)
 no-more f (suc k) l all rest h e = absurd (omega arith)
@@ -55,7 +57,8 @@ pub record RingAt (frame : List ℕ) (at : ℕ) (ring : List Coord) (rest : List
   pub coordinates : ring ≡ close (coordsOf (countOf (drop at frame)) (drop (at + 2) frame))
   pub follows : rest ≡ drop (at + 2 + 16 * countOf (drop at frame)) frame
 
-pub ring-at : (frame : List ℕ) (at : ℕ) (ring : List Coord) (rest : List ℕ) → at ≤ length frame → readRing (drop at frame) ≡ read ring rest → RingAt frame at ring rest
+pub ring-at : (frame : List ℕ) (at : ℕ) (ring : List Coord) (rest : List ℕ) → at ≤ length frame → readRing (drop at frame) ≡ read ring
+    rest → RingAt frame at ring rest
 ring-at frame at ring rest h e =
     let p = ring-read (drop at frame) ring rest e in
     let w = p .whole in
@@ -73,7 +76,8 @@ pub record PartAt (frame : List ℕ) (at : ℕ) (part : List (List Coord)) (rest
   pub few : countOf (drop at frame) ≤ mostRings
   pub rings : readMany readRing (countOf (drop at frame)) (drop (at + 2) frame) ≡ read part rest
 
-pub part-at : (frame : List ℕ) (at : ℕ) (part : List (List Coord)) (rest : List ℕ) → at ≤ length frame → readPart (drop at frame) ≡ read part rest → PartAt frame at part rest
+pub part-at : (frame : List ℕ) (at : ℕ) (part : List (List Coord)) (rest : List ℕ) → at ≤ length frame → readPart (drop at frame) ≡ read
+    part rest → PartAt frame at part rest
 part-at frame at part rest h e =
     let p = part-read (drop at frame) part rest e in
     let w = p .whole in

@@ -1,4 +1,5 @@
--- Reading from the front of bytes: what a count, a ring, a part and a frame that are read hold, and that what follows is a tail of the bytes. Assumes nothing.
+-- Reading from the front of bytes: what a count, a ring, a part and a frame that are read hold, and that what follows is a tail of the
+-- bytes. Assumes nothing.
 use mathlib.Core.Path.{_≡_, refl, sym, _∙_, ap, ap₂}
 use mathlib.Core.Bool.{Bool, true, false, not, _&&_}
 use mathlib.Core.List.{List, [], _∷_}
@@ -12,10 +13,15 @@ use Rattle.binary64.specs.Lists.{Every}
 use Rattle.binary64.proofs.Booleans.{neither}
 use Rattle.tile.specs.declared.Coord.{Coord}
 use Rattle.tile.specs.Ring.{close}
-use Rattle.rings.specs.Rings.{mostRings}
+use Rattle.rings.specs.LentRings.{mostRings}
 use Rattle.frame_bytes.specs.declared.reader.FrameRefusal.{FrameRefusal}
-use Rattle.frame_bytes.specs.declared.reader.FrameRefusal.the-variants.{Size, Kind, Flags, PartCount, Truncated, RingCount, CoordinateCount, Trailing}
-use Rattle.frame_bytes.specs.Frame.{Reading, refused, read, refuse, andThen, readMany, countOf, coordsOf, readCount, readCoords, readRing, readPart, wrongRingCount, mostInRing, shortest, longest, mostFlags, mostParts, headBytes, polygon, readParts, Frame, kindOf, flagsOf, partCountOf, headOf, wrongSize, wrongKind, wrongPartCount, readFrame, Accepted}
+use Rattle.frame_bytes.specs.declared.reader.FrameRefusal.the-variants.{Size, Kind, Flags, PartCount, Truncated, RingCount}
+use Rattle.frame_bytes.specs.declared.reader.FrameRefusal.the-variants.{CoordinateCount, Trailing}
+use Rattle.frame_bytes.specs.Frame.{Reading, refused, read, refusedIf, andThen, readMany, countOf, coordsOf, readCount, readCoords}
+use Rattle.frame_bytes.specs.Frame.{readRing, readPart, wrongRingCount, mostInRing, shortest, longest, mostFlags, mostParts}
+use Rattle.frame_bytes.specs.Frame.{headBytes, polygonKind, readParts, Frame, kindOf, flagsByte, partCountOf, headOf, wrongSize}
+use Rattle.frame_bytes.specs.Frame.{wrongKind, wrongPartCount, readFrame}
+use Rattle.frame_bytes.specs.Contracts.{Accepted}
 
 -- ---- one after the other
 
@@ -26,11 +32,13 @@ pub record Both {A B : Type 0} (x : Reading A) (next : A → List ℕ → Readin
   pub first : x ≡ read value rest
   pub second : next value rest ≡ y
 
-pub both : {A B : Type 0} (x : Reading A) (next : A → List ℕ → Reading B) (b : B) (rest : List ℕ) → andThen x next ≡ read b rest → Both x next (read b rest)
+pub both : {A B : Type 0} (x : Reading A) (next : A → List ℕ → Reading B) (b : B) (rest : List ℕ) → andThen x next ≡ read b rest
+    → Both x next (read b rest)
 both (refused r) next b rest e = absurd (let z : _≡_ {A = ℕ} 0 1 = cc in omega arith)
 both (read a m) next b rest e = record { value = a; rest = m; first = refl; second = e }
 
-pub not-refused : {A : Type 0} (t : Bool) (r : FrameRefusal) (x : Reading A) (a : A) (rest : List ℕ) → refuse t r x ≡ read a rest → (t ≡ false) × (x ≡ read a rest)
+pub not-refused : {A : Type 0} (t : Bool) (r : FrameRefusal) (x : Reading A) (a : A) (rest : List ℕ) → refusedIf t r x ≡ read a rest
+    → (t ≡ false) × (x ≡ read a rest)
 not-refused true r x a rest e = absurd (let z : _≡_ {A = ℕ} 0 1 = cc in omega arith)
 not-refused false r x a rest e = (refl, e)
 
@@ -101,13 +109,20 @@ module _ {A : Type 0} (f : List ℕ → Reading A) where
   pub many-length : (k : ℕ) (l : List ℕ) (all : List A) (rest : List ℕ) → readMany f k l ≡ read all rest → length all ≡ k
   unfolding readMany
   many-length zero l all rest e = let n : all ≡ [] = cc in rw n
-  many-length (suc k) l all rest e = let p = many-first k l all rest e in rw (p .whole) (ap suc (many-length k (p .between) (p .others) rest (p .later)))
+  many-length (suc k) l all rest e =
+      let p = many-first k l all rest e in rw (p .whole) (ap suc (many-length k (p .between) (p .others) rest (p .later)))
 
   -- what holds of each that is read holds of all
-  pub many-every : (Q : A → Type 0) → ((l : List ℕ) (a : A) (rest : List ℕ) → f l ≡ read a rest → Q a) → (k : ℕ) (l : List ℕ) (all : List A) (rest : List ℕ) → readMany f k l ≡ read all rest → Every Q all
+  pub many-every : (Q : A → Type 0) → ((l : List ℕ) (a : A) (rest : List ℕ) → f l ≡ read a rest → Q a)
+      → (k : ℕ) (l : List ℕ) (all : List A) (rest : List ℕ) → readMany f k l ≡ read all rest → Every Q all
   unfolding readMany
   many-every Q h zero l all rest e = let n : all ≡ [] = cc in rw n tt
-  many-every Q h (suc k) l all rest e = let p = many-first k l all rest e in rw (p .whole) (h l (p .value) (p .between) (p .first), many-every Q h k (p .between) (p .others) rest (p .later))
+  many-every Q h (suc k) l all rest e =
+      let p = many-first k l all rest e in rw (p .whole) (
+        h l (p .value) (p .between) (p .first),
+        many-every Q h k (p .between)
+            (p .others) rest (p .later),
+      )
 
   pub many-reads : Reads f → (k : ℕ) → Reads (readMany f k)
   unfolding readMany
@@ -181,11 +196,13 @@ part-read l part rest e =
 pub part-reads : Reads readPart
 part-reads l part rest e =
     let p = part-read l part rest e in
-    follows-trans l (drop 2 l) rest (record { count = 2; fits = p .whole; here = refl }) (many-reads readRing ring-reads (countOf l) (drop 2 l) part rest (p .rings))
+    follows-trans l (drop 2 l) rest (record { count = 2; fits = p .whole; here = refl })
+    (many-reads readRing ring-reads (countOf l) (drop 2 l) part rest (p .rings))
 
 -- ---- a frame
 
-parts-read : (k : ℕ) (l : List ℕ) (parts : List (List (List Coord))) (rest : List ℕ) → readParts k l ≡ read parts rest → (readMany readPart k l ≡ read parts rest) × (length rest ≡ 0)
+parts-read : (k : ℕ) (l : List ℕ) (parts : List (List (List Coord))) (rest : List ℕ) → readParts k l ≡ read parts rest
+    → (readMany readPart k l ≡ read parts rest) × (length rest ≡ 0)
 unfolding readParts
 parts-read k l parts rest e =
     let p = both (readMany readPart k l) _ parts rest e in
@@ -199,7 +216,7 @@ pub record FrameRead (l : List ℕ) (frame : Frame) (rest : List ℕ) : Type 0 w
   pub short : headBytes ≤ length l
   pub long : length l ≤ longest
   pub kind : wrongKind (kindOf l) ≡ false
-  pub flags : flagsOf l ≤ mostFlags
+  pub flags : flagsByte l ≤ mostFlags
   pub count : wrongPartCount (kindOf l) (partCountOf l) ≡ false
   pub few : partCountOf l ≤ mostParts
   pub head : frame .head ≡ headOf l
@@ -211,7 +228,7 @@ unfolding readFrame
 frame-read l frame rest e =
     let size = not-refused (wrongSize (length l)) Size _ frame rest e in
     let kind = not-refused (wrongKind (kindOf l)) Kind _ frame rest (size .1) in
-    let flags = not-refused (ltb mostFlags (flagsOf l)) Flags _ frame rest (kind .1) in
+    let flags = not-refused (ltb mostFlags (flagsByte l)) Flags _ frame rest (kind .1) in
     let count = not-refused (wrongPartCount (kindOf l) (partCountOf l)) PartCount _ frame rest (flags .1) in
     let p = both (readParts (partCountOf l) (drop headBytes l)) _ frame rest (count .1) in
     let q = parts-read (partCountOf l) (drop headBytes l) (p .value) (p .rest) (p .first) in
@@ -224,9 +241,10 @@ frame-read l frame rest e =
       short = ltb-false (length l) shortest (fits .0);
       long = ltb-false longest (length l) (fits .1);
       kind = kind .0;
-      flags = ltb-false mostFlags (flagsOf l) (flags .0);
+      flags = ltb-false mostFlags (flagsByte l) (flags .0);
       count = count .0;
-      few = ltb-false mostParts (partCountOf l) (neither (eqb (kindOf l) polygon && not (eqb (partCountOf l) 1)) (ltb mostParts (partCountOf l)) (count .0) .1);
+      few = ltb-false mostParts (partCountOf l) (neither (eqb (kindOf l) polygonKind && not (eqb (partCountOf l) 1))
+          (ltb mostParts (partCountOf l)) (count .0) .1);
       head = sym (ap (λ (f : Frame). f .head) same);
       parts = all ∙ ap₂ read (ap (λ (f : Frame). f .parts) same) bytes;
       end = omega (arith, ap length bytes, q .1);

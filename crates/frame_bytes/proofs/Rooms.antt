@@ -11,13 +11,15 @@ use Rattle.tile.specs.declared.Coord.{Coord}
 use Rattle.tile.specs.Ring.{close}
 use Rattle.sutherland_hodgman.specs.Growth.{B, mostCoordinates}
 use Rattle.sutherland_hodgman.proofs.Offered.{B-le}
-use Rattle.rings.specs.Rings.{total, ringRoom}
+use Rattle.rings.specs.LentRings.{total, ringRoom}
 use Rattle.frame_bytes.specs.declared.reader.FrameRefusal.{FrameRefusal}
 use Rattle.frame_bytes.specs.declared.reader.FrameRefusal.the-variants.{Output}
 use Rattle.frame_bytes.specs.declared.reader.FrameCheck.the-variants.{Fails}
-use Rattle.frame_bytes.specs.declared.room.Passed.{Passed}
-use Rattle.frame_bytes.specs.Frame.{Reading, refused, read, refuse, andThen, checkOf, readMany, countOf, coordsOf, readRing, readPart, Frame, readFrame, headBytes, partCountOf, mostParts, mostInRing, Accepted}
-use Rattle.frame_bytes.specs.Room.{partRoom, room, coordinateBytes, leastRoom, passedOf, frameRoom, readCall}
+use Rattle.frame_bytes.specs.declared.room.RoomTo.{RoomTo}
+use Rattle.frame_bytes.specs.Frame.{Reading, refused, read, refusedIf, andThen, readMany, countOf, coordsOf, readRing, readPart}
+use Rattle.frame_bytes.specs.Frame.{Frame, readFrame, headBytes, partCountOf, mostParts, mostInRing}
+use Rattle.frame_bytes.specs.Contracts.{checkOf, Accepted, passedOf, frameRoom}
+use Rattle.frame_bytes.specs.Room.{partRoom, outputRoom, coordinateBytes, leastRoom, readCall}
 use Rattle.frame_bytes.proofs.Coordinates.{close-grows}
 use Rattle.frame_bytes.proofs.Places.{step, ring-at, part-at}
 use Rattle.frame_bytes.proofs.Readings.{both, not-refused, taken, Reads, many-first, many-length, ring-read, part-read, frame-read}
@@ -26,11 +28,11 @@ use Rattle.frame_bytes.proofs.Readings.{both, not-refused, taken, Reads
 
 module _ {A : Type 0} (f : List ℕ → Reading A) (g : A → ℕ) (frame : List ℕ) where
   -- the room and the end of so many things from a place on
-  abbrev pub left : ℕ → ℕ → Passed
+  abbrev pub left : ℕ → ℕ → RoomTo
   left at k = passedOf (length frame) (total g) (readMany f k (drop at frame))
 
   -- the room so far, with the room of what is left, is the whole room
-  pub record Summed (whole : Passed) (sofar at k : ℕ) : Type 0 where
+  pub record Summed (whole : RoomTo) (sofar at k : ℕ) : Type 0 where
     pub within : at ≤ length frame
     pub accepted : Accepted (readMany f k (drop at frame))
     pub sum : whole .room ≡ sofar + left at k .room
@@ -43,7 +45,8 @@ module _ {A : Type 0} (f : List ℕ → Reading A) (g : A → ℕ) (frame : List
       let p = many-first f k (drop at frame) (t .value) (t .rest) (t .is) in
       rw (p .first)
 
-  pub sum-step : Reads f → (whole : Passed) (sofar at k : ℕ) (one : Passed) → 0 < k → one ≡ passedOf (length frame) g (f (drop at frame)) → Summed whole sofar at k
+  pub sum-step : Reads f → (whole : RoomTo) (sofar at k : ℕ) (one : RoomTo) → 0 < k → one ≡ passedOf (length frame) g
+      (f (drop at frame)) → Summed whole sofar at k
       → Summed whole (sofar + one .room) (one .next) (k - 1)
   unfolding total
   sum-step reads whole sofar at k one h o s =
@@ -51,8 +54,10 @@ module _ {A : Type 0} (f : List ℕ → Reading A) (g : A → ℕ) (frame : List
       let p = step f reads frame at k (t .value) (t .rest) (s .within) h (t .is) in
       go (t .value) (t .rest) (p .value) (p .others) (p .next) (p .within) (t .is) (p .first) (p .later) (p .whole)
     where
-      go : (all : List A) (rest : List ℕ) (a : A) (others : List A) (next : ℕ) → next ≤ length frame → readMany f k (drop at frame) ≡ read all rest → f (drop at frame) ≡ read a (drop next frame)
-          → readMany f (k - 1) (drop next frame) ≡ read others rest → all ≡ a ∷ others → Summed whole (sofar + one .room) (one .next) (k - 1)
+      go : (all : List A) (rest : List ℕ) (a : A) (others : List A) (next : ℕ) → next ≤ length frame → readMany f k (drop at frame)
+          ≡ read all rest → f (drop at frame) ≡ read a (drop next frame)
+          → readMany f (k - 1) (drop next frame) ≡ read others rest → all ≡ a ∷ others → Summed whole (sofar + one .room)
+          (one .next) (k - 1)
       go all rest a others next within is first later parts =
           let n : length frame - length (drop next frame) ≡ next = omega (arith, length-drop next frame) in
           let here : one ≡ record { room = g a; next = next } = o ∙ rw (first, n) in
@@ -64,17 +69,18 @@ module _ {A : Type 0} (f : List ℕ → Reading A) (g : A → ℕ) (frame : List
             end = rw later (s .end ∙ rw now);
           }
 
-  pub sum-end : (whole : Passed) (sofar at k : ℕ) → k ≤ 0 → Summed whole sofar at k → whole ≡ record { room = sofar; next = at }
+  pub sum-end : (whole : RoomTo) (sofar at k : ℕ) → k ≤ 0 → Summed whole sofar at k → whole ≡ record { room = sofar; next = at }
   unfolding total readMany
   sum-end whole sofar at (suc k) h s = absurd (omega arith)
   sum-end whole sofar at zero h s =
       let r : whole .room ≡ sofar = s .sum ∙ omega arith in
       let n : whole .next ≡ at = s .end ∙ (let w = s .within in omega (arith, length-drop at frame)) in
-      let e : _≡_ {A = Passed} (record { room = whole .room; next = whole .next }) (record { room = sofar; next = at }) = cc in
+      let e : _≡_ {A = RoomTo} (record { room = whole .room; next = whole .next }) (record { room = sofar; next = at }) = cc in
       e
 
   -- no more than so much for each
-  pub sum-le : (most : ℕ) → ((l : List ℕ) (a : A) (rest : List ℕ) → f l ≡ read a rest → g a ≤ most) → (k : ℕ) (l : List ℕ) (all : List A) (rest : List ℕ) → readMany f k l ≡ read all rest → total g all ≤ k * most
+  pub sum-le : (most : ℕ) → ((l : List ℕ) (a : A) (rest : List ℕ) → f l ≡ read a rest → g a ≤ most)
+      → (k : ℕ) (l : List ℕ) (all : List A) (rest : List ℕ) → readMany f k l ≡ read all rest → total g all ≤ k * most
   unfolding total readMany
   sum-le most each zero l all rest e = let n : [] ≡ all = cc in rw (← n) (omega arith)
   sum-le most each (suc k) l all rest e =
@@ -108,21 +114,33 @@ module _ (frame : List ℕ) (at : ℕ) (h : at ≤ length frame) (a : Accepted (
   ring-few = let t = taken (readRing (drop at frame)) a in ring-at frame at (t .value) (t .rest) h (t .is) .few
 
   pub ring-passed : passedOf (length frame) ringRoom (readRing (drop at frame))
-      ≡ record { room = B (length (close (coordsOf (countOf (drop at frame)) (drop (at + 2) frame)))); next = at + 2 + 16 * countOf (drop at frame) }
+      ≡ record {
+        room = B (length (close (coordsOf (countOf (drop at frame)) (drop (at + 2) frame))));
+        next = at + 2 + 16 * countOf
+            (drop at frame);
+      }
   ring-passed = let t = taken (readRing (drop at frame)) a in go (t .value) (t .rest) (t .is)
     where
-      go : (ring : List Coord) (rest : List ℕ) → readRing (drop at frame) ≡ read ring rest → passedOf (length frame) ringRoom (readRing (drop at frame))
-          ≡ record { room = B (length (close (coordsOf (countOf (drop at frame)) (drop (at + 2) frame)))); next = at + 2 + 16 * countOf (drop at frame) }
+      go : (ring : List Coord) (rest : List ℕ) → readRing (drop at frame) ≡ read ring rest → passedOf (length frame) ringRoom
+          (readRing (drop at frame))
+          ≡ record {
+            room = B (length (close (coordsOf (countOf (drop at frame)) (drop (at + 2) frame))));
+            next = at + 2 + 16 * countOf
+                (drop at frame);
+          }
       go ring rest e =
           let p = ring-at frame at ring rest h e in
           let w = p .whole in
-          let n : length frame - length rest ≡ at + 2 + 16 * countOf (drop at frame) = rw (p .follows) (omega (arith, length-drop (at + 2 + 16 * countOf (drop at frame)) frame)) in
+          let n : length frame - length rest ≡ at + 2 + 16 * countOf (drop at frame) =
+          rw (p .follows) (omega (arith, length-drop (at + 2 + 16 * countOf (drop at frame)) frame)) in
           rw (e, n, p .coordinates)
 
 -- ---- the rings of a part
 
-pub rings-le : (size k : ℕ) (l : List ℕ) → Accepted (readMany readRing k l) → passedOf size (total ringRoom) (readMany readRing k l) .room ≤ k * mostRing
-rings-le size k l a = let t = taken (readMany readRing k l) a in rw (t .is) (sum-le readRing ringRoom [] mostRing ring-le k l (t .value) (t .rest) (t .is))
+pub rings-le : (size k : ℕ) (l : List ℕ) → Accepted (readMany readRing k l) → passedOf size (total ringRoom)
+    (readMany readRing k l) .room ≤ k * mostRing
+rings-le size k l a =
+    let t = taken (readMany readRing k l) a in rw (t .is) (sum-le readRing ringRoom [] mostRing ring-le k l (t .value) (t .rest) (t .is))
 
 part-le : (l : List ℕ) (part : List (List Coord)) (rest : List ℕ) → readPart l ≡ read part rest → partRoom coordinateBytes part ≤ mostPart
 unfolding partRoom
@@ -133,13 +151,16 @@ part-le l part rest e =
     omega (arith, sum-le readRing ringRoom [] mostRing ring-le (countOf l) (drop 2 l) part rest (p .rings))
 
 module _ (frame : List ℕ) (at : ℕ) (h : at ≤ length frame) (a : Accepted (readPart (drop at frame))) where
-  pub part-passed : (rings : Passed) → rings ≡ passedOf (length frame) (total ringRoom) (readMany readRing (countOf (drop at frame)) (drop (at + 2) frame))
-      → passedOf (length frame) (partRoom coordinateBytes) (readPart (drop at frame)) ≡ record { room = 6 + 2 * countOf (drop at frame) + coordinateBytes * rings .room; next = rings .next }
+  pub part-passed : (rings : RoomTo) → rings ≡ passedOf (length frame) (total ringRoom)
+      (readMany readRing (countOf (drop at frame)) (drop (at + 2) frame))
+      → passedOf (length frame) (partRoom coordinateBytes) (readPart (drop at frame)) ≡ record
+      { room = 6 + 2 * countOf (drop at frame) + coordinateBytes * rings .room; next = rings .next }
   unfolding partRoom
   part-passed rings r = let t = taken (readPart (drop at frame)) a in go (t .value) (t .rest) (t .is)
     where
       go : (part : List (List Coord)) (rest : List ℕ) → readPart (drop at frame) ≡ read part rest
-          → passedOf (length frame) (partRoom coordinateBytes) (readPart (drop at frame)) ≡ record { room = 6 + 2 * countOf (drop at frame) + coordinateBytes * rings .room; next = rings .next }
+          → passedOf (length frame) (partRoom coordinateBytes) (readPart (drop at frame)) ≡ record
+          { room = 6 + 2 * countOf (drop at frame) + coordinateBytes * rings .room; next = rings .next }
       go part rest e =
           let p = part-at frame at part rest h e in
           let n = many-length readRing (countOf (drop at frame)) (drop (at + 2) frame) part rest (p .rings) in
@@ -147,8 +168,11 @@ module _ (frame : List ℕ) (at : ℕ) (h : at ≤ length frame) (a : Accepted (
 
 -- ---- the parts of a frame
 
-pub parts-le : (size k : ℕ) (l : List ℕ) → Accepted (readMany readPart k l) → passedOf size (total (partRoom coordinateBytes)) (readMany readPart k l) .room ≤ k * mostPart
-parts-le size k l a = let t = taken (readMany readPart k l) a in rw (t .is) (sum-le readPart (partRoom coordinateBytes) [] mostPart part-le k l (t .value) (t .rest) (t .is))
+pub parts-le : (size k : ℕ) (l : List ℕ) → Accepted (readMany readPart k l) → passedOf size (total (partRoom coordinateBytes))
+    (readMany readPart k l) .room ≤ k * mostPart
+parts-le size k l a =
+    let t = taken (readMany readPart k l) a in rw (t .is) (sum-le readPart (partRoom coordinateBytes) [] mostPart part-le k l (t .value)
+    (t .rest) (t .is))
 
 module _ (frame : List ℕ) (a : Accepted (readFrame frame)) where
   pub frame-head : headBytes ≤ length frame
@@ -160,12 +184,14 @@ module _ (frame : List ℕ) (a : Accepted (readFrame frame)) where
   pub frame-parts : Accepted (readMany readPart (partCountOf frame) (drop headBytes frame))
   frame-parts = let t = taken (readFrame frame) a in rw (frame-read frame (t .value) (t .rest) (t .is) .parts)
 
-  pub frame-passed : frameRoom coordinateBytes (readFrame frame) ≡ leastRoom + passedOf (length frame) (total (partRoom coordinateBytes)) (readMany readPart (partCountOf frame) (drop headBytes frame)) .room
-  unfolding room
+  pub frame-passed : frameRoom coordinateBytes (readFrame frame) ≡ leastRoom + passedOf (length frame)
+      (total (partRoom coordinateBytes)) (readMany readPart (partCountOf frame) (drop headBytes frame)) .room
+  unfolding outputRoom
   frame-passed = let t = taken (readFrame frame) a in go (t .value) (t .rest) (t .is)
     where
       go : (f : Frame) (rest : List ℕ) → readFrame frame ≡ read f rest
-          → frameRoom coordinateBytes (readFrame frame) ≡ leastRoom + passedOf (length frame) (total (partRoom coordinateBytes)) (readMany readPart (partCountOf frame) (drop headBytes frame)) .room
+          → frameRoom coordinateBytes (readFrame frame) ≡ leastRoom + passedOf (length frame) (total (partRoom coordinateBytes))
+          (readMany readPart (partCountOf frame) (drop headBytes frame)) .room
       go f rest e = rw (e, frame-read frame f rest e .parts)
 
 -- ---- a frame call
@@ -175,25 +201,28 @@ module _ (l : List ℕ) (out : ℕ) where
   unfolding readCall
   call-refused r e = go (readFrame l) e
     where
-      go : (x : Reading Frame) → checkOf x ≡ Fails r → checkOf (andThen x (λ f rest. refuse (ltb out (room coordinateBytes (f .parts))) Output (read f rest))) ≡ Fails r
+      go : (x : Reading Frame) → checkOf x ≡ Fails r
+          → checkOf (andThen x (λ f rest. refusedIf (ltb out (outputRoom coordinateBytes (f .parts))) Output (read f rest))) ≡ Fails r
       go (refused s) e = cc
       go (read f rest) e = absurd (let z : _≡_ {A = ℕ} 0 1 = cc in omega arith)
 
   -- an accepted frame: whether the output is too small
-  pub call-room : Accepted (readFrame l) → checkOf (readCall l out) ≡ checkOf (refuse (ltb out (frameRoom coordinateBytes (readFrame l))) Output (readFrame l))
+  pub call-room : Accepted (readFrame l) → checkOf (readCall l out) ≡ checkOf
+      (refusedIf (ltb out (frameRoom coordinateBytes (readFrame l))) Output (readFrame l))
   unfolding readCall
   call-room a = let t = taken (readFrame l) a in rw (t .is)
 
 -- what a frame call that is not refused reads
-pub call-read : (l : List ℕ) (out : ℕ) (f : Frame) (rest : List ℕ) → readCall l out ≡ read f rest → (readFrame l ≡ read f rest) × (room coordinateBytes (f .parts) ≤ out)
+pub call-read : (l : List ℕ) (out : ℕ) (f : Frame) (rest : List ℕ) → readCall l out ≡ read f rest → (readFrame l ≡ read f rest)
+    × (outputRoom coordinateBytes (f .parts) ≤ out)
 unfolding readCall
 call-read l out f rest e =
     let p = both (readFrame l) _ f rest e in
-    let q = not-refused (ltb out (room coordinateBytes (p .value .parts))) Output _ f rest (p .second) in
+    let q = not-refused (ltb out (outputRoom coordinateBytes (p .value .parts))) Output _ f rest (p .second) in
     let first = p .first in
     let second = q .1 in
     let same : p .value ≡ f = cc in
-    (cc, rw (← same) (ltb-false out (room coordinateBytes (p .value .parts)) (q .0)))
+    (cc, rw (← same) (ltb-false out (outputRoom coordinateBytes (p .value .parts)) (q .0)))
 
 pub refused-room : (coordinate : ℕ) (x : Reading Frame) (r : FrameRefusal) → checkOf x ≡ Fails r → frameRoom coordinate x ≡ 0
 refused-room coordinate (refused s) r e = refl

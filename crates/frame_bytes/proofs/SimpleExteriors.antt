@@ -1,4 +1,5 @@
--- The issue check of an exterior that is assumed to be simple, by place in a frame: neighbours that repeat, and what that says of the part. Assumes nothing.
+-- The issue check of an exterior that is assumed to be simple, by place in a frame: neighbours that repeat, and what that says of the part.
+-- Assumes nothing.
 use mathlib.Core.Path.{_≡_, refl, _∙_, ap}
 use mathlib.Core.Bool.{Bool, true, false, not, cond, _||_}
 use mathlib.Core.List.{List, [], _∷_, _++_}
@@ -12,9 +13,9 @@ use Rattle.tile.specs.Ring.{closed, close}
 use Rattle.box_pairs.specs.Cross.{short}
 use Rattle.box_pairs.specs.Issue.{repeated, issueOf, hasIssue}
 use Rattle.box_pairs.proofs.Offered.{repeated-few, repeated-from, simple-short, simple-long}
-use Rattle.rings.specs.Rings.{exterior}
-use Rattle.frame_bytes.specs.Frame.{Reading, refused, read, Accepted, coordOf, coordsOf, readPart, allIn, partAt}
-use Rattle.frame_bytes.specs.Measure.{soundIfSimple}
+use Rattle.rings.specs.LentRings.{exterior}
+use Rattle.frame_bytes.specs.Frame.{Reading, refused, read, coordOf, coordsOf, readPart}
+use Rattle.frame_bytes.specs.Contracts.{Accepted, allIn, partAt, soundIfSimple}
 use Rattle.frame_bytes.proofs.Coordinates.{length-coordsOf, close-grows}
 use Rattle.frame_bytes.proofs.PartRings.{exteriorAt, part-here}
 
@@ -43,9 +44,12 @@ module _ (frame : List ℕ) (at n : ℕ) where
   ring = close (coordsOf n (drop at frame))
 
   ring-at : (k : ℕ) → k < n → getD ring k none ≡ coordOf (drop (at + 16 * k) frame)
-  ring-at k h = close-at (coordsOf n (drop at frame)) k (omega (arith, length-coordsOf n (drop at frame))) ∙ coords-at n (drop at frame) k h ∙ ap coordOf (drop-drop (16 * k) at frame)
+  ring-at k h =
+      close-at (coordsOf n (drop at frame)) k (omega (arith, length-coordsOf n (drop at frame))) ∙ coords-at n (drop at frame) k h
+      ∙ ap coordOf (drop-drop (16 * k) at frame)
 
-  pub repeated-next : (k : ℕ) → k + 2 < length ring → repeated (drop k ring) ≡ short (coordOf (drop (at + 16 * k) frame)) (coordOf (drop (at + 16 * (k + 1)) frame)) || repeated (drop (k + 1) ring)
+  pub repeated-next : (k : ℕ) → k + 2 < length ring → repeated (drop k ring) ≡ short (coordOf (drop (at + 16 * k) frame))
+      (coordOf (drop (at + 16 * (k + 1)) frame)) || repeated (drop (k + 1) ring)
   repeated-next k h =
       let g = close-grows n (drop at frame) in
       repeated-from ring k none h ∙ rw (ring-at k (omega arith), ring-at (k + 1) (omega arith))
@@ -65,7 +69,8 @@ module _ (frame : List ℕ) (at : ℕ) (a : Accepted (readPart (drop at frame)))
 
   module _ (h : at ≤ length frame) where
     sound-exterior : soundIfSimple (readPart (drop at frame)) ≡ not (hasIssue (issueOf true (exteriorAt frame at)))
-    sound-exterior = sound-part ∙ ap (λ (rings : List (List Coord)). not (hasIssue (issueOf true (exterior rings)))) (part-here frame at h a)
+    sound-exterior =
+        sound-part ∙ ap (λ (rings : List (List Coord)). not (hasIssue (issueOf true (exterior rings)))) (part-here frame at h a)
 
     pub sound-short : length (exteriorAt frame at) < 4 → soundIfSimple (readPart (drop at frame)) ≡ false
     sound-short s = sound-exterior ∙ ap not (simple-short (exteriorAt frame at) s)

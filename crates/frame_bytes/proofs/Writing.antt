@@ -1,4 +1,5 @@
--- The bytes of an answer in the output: how many each thing has, what is written in two steps, and one more coordinate of a ring written. Assumes nothing.
+-- The bytes of an answer in the output: how many each thing has, what is written in two steps, and one more coordinate of a ring written.
+-- Assumes nothing.
 use mathlib.Core.Path.{_≡_, refl, sym, _∙_}
 use mathlib.Core.List.{List, [], _∷_, _++_, append-assoc}
 use Prim.Native.Nat.{ℕ, suc, _+_, _*_, _<_, _≤_}
@@ -57,38 +58,46 @@ length-each (p ∷ ring) = omega (arith, length-append (coordBytes p) (each coor
 
 pub length-ring : (ring : List Coord) → length (ringBytes coordBytes ring) ≡ 2 + 16 * length ring
 unfolding ringBytes
-length-ring ring = omega (arith, length-append (countBytes (length ring)) (each coordBytes ring), length-count (length ring), length-each ring)
+length-ring ring =
+    omega (arith, length-append (countBytes (length ring)) (each coordBytes ring), length-count (length ring), length-each ring)
 
 -- ---- what is written in steps
 
-pub coord-put : (out first all : List ℕ) (at : ℕ) (p : Coord) → first ≡ sets out at (doubleBytes Little (p .x)) → all ≡ sets first (at + 8) (doubleBytes Little (p .y)) → all ≡ sets out at (coordBytes p)
+pub coord-put : (out first all : List ℕ) (at : ℕ) (p : Coord) → first ≡ sets out at (doubleBytes Little (p .x))
+    → all ≡ sets first (at + 8) (doubleBytes Little (p .y)) → all ≡ sets out at (coordBytes p)
 coord-put out first all at p e f =
     f ∙ rw e (sym (rw (length-double (p .x)) at (sets-append out at (doubleBytes Little (p .x)) (doubleBytes Little (p .y)))))
 
-pub header-put : (out first all : List ℕ) (number guard parts : ℕ) → first ≡ sets (set out 0 number) 1 (countBytes guard) → all ≡ sets first 3 (countBytes parts) → all ≡ sets out 0 (headerBytes number guard parts)
+pub header-put : (out first all : List ℕ) (number guard parts : ℕ) → first ≡ sets (set out 0 number) 1 (countBytes guard)
+    → all ≡ sets first 3 (countBytes parts) → all ≡ sets out 0 (headerBytes number guard parts)
 unfolding toLow
 header-put out first all number guard parts e f = rw (f, e)
 
-pub part-put : (out first : List ℕ) (at index number reason : ℕ) → first ≡ sets out at (countBytes index) → set (set first (at + 2) number) (at + 3) reason ≡ sets out at (countBytes index ++ (number ∷ reason ∷ []))
+pub part-put : (out first : List ℕ) (at index number reason : ℕ) → first ≡ sets out at (countBytes index)
+    → set (set first (at + 2) number) (at + 3) reason ≡ sets out at (countBytes index ++ (number ∷ reason ∷ []))
 part-put out first at index number reason e =
     let n : at + 3 ≡ suc (at + 2) = omega arith in
     rw (e, n) (sym (rw (length-count index) at (sets-append out at (countBytes index) (number ∷ reason ∷ []))))
 
 -- ---- a ring: its count, and what is left to write with one coordinate of it written
 
-pub count-put : (out : List ℕ) (at : ℕ) (ring : List Coord) → sets out at (ringBytes coordBytes ring) ≡ sets (sets out at (countBytes (length ring))) (at + 2) (each coordBytes ring)
+pub count-put : (out : List ℕ) (at : ℕ) (ring : List Coord) → sets out at (ringBytes coordBytes ring) ≡ sets
+    (sets out at (countBytes (length ring))) (at + 2) (each coordBytes ring)
 unfolding ringBytes
 count-put out at ring = rw (length-count (length ring)) at (sets-append out at (countBytes (length ring)) (each coordBytes ring))
 
-pub none-put : (out : List ℕ) (at : ℕ) (ring : List Coord) → sets out at (each coordBytes ring) ≡ sets out (at + 16 * 0) (each coordBytes (drop 0 ring))
+pub none-put : (out : List ℕ) (at : ℕ) (ring : List Coord) → sets out at (each coordBytes ring) ≡ sets out (at + 16 * 0)
+    (each coordBytes (drop 0 ring))
 none-put out at ring = let e : at + 16 * 0 ≡ at = omega arith in rw e
 
 pub one-put : (out : List ℕ) (at i : ℕ) (ring : List Coord) (z : Coord) → i < length ring
-    → sets out (at + 16 * i) (each coordBytes (drop i ring)) ≡ sets (sets out (at + 16 * i) (coordBytes (getD ring i z))) (at + 16 * (i + 1)) (each coordBytes (drop (i + 1) ring))
+    → sets out (at + 16 * i) (each coordBytes (drop i ring)) ≡ sets (sets out (at + 16 * i) (coordBytes (getD ring i z)))
+    (at + 16 * (i + 1)) (each coordBytes (drop (i + 1) ring))
 unfolding each
 one-put out at i ring z h =
     let e : at + 16 * (i + 1) ≡ at + 16 * i + 16 = omega arith in
-    rw (e, add-one i, drop-cons ring i z h) (rw (length-coord (getD ring i z)) at (sets-append out (at + 16 * i) (coordBytes (getD ring i z)) (each coordBytes (drop (suc i) ring))))
+    rw (e, add-one i, drop-cons ring i z h) (rw (length-coord (getD ring i z))
+    at (sets-append out (at + 16 * i) (coordBytes (getD ring i z)) (each coordBytes (drop (suc i) ring))))
 
 pub all-put : (out : List ℕ) (at i : ℕ) (ring : List Coord) → length ring ≤ i → sets out at (each coordBytes (drop i ring)) ≡ out
 unfolding each

@@ -1,8 +1,9 @@
--- Counts, coordinates, rings and the header of an answer as bytes (document 01, "Frames"). The bytes of a coordinate are a parameter of a ring's. Definitions only.
+-- Counts, coordinates, rings and the header of an answer as bytes (document 01, "Frames"). The bytes of a coordinate are a parameter of a
+-- ring's. Definitions only.
 use mathlib.Core.List.{List, [], _∷_, _++_}
 use Prim.Native.Nat.{ℕ}
 use lib.ListN.{length}
-use Rattle.binary64.specs.Bytes.{Little, bytes, doubleBytes}
+use Rattle.binary64.specs.Bytes.{Little, bytesOf, doubleBytes}
 use Rattle.tile.specs.declared.Coord.{Coord}
 
 unfoldable pub each : {A : Type 0} → (A → List ℕ) → List A → List ℕ
@@ -10,7 +11,7 @@ each f [] = []
 each f (a ∷ others) = f a ++ each f others
 
 abbrev pub countBytes : ℕ → List ℕ
-countBytes n = bytes Little 2 n
+countBytes n = bytesOf Little 2 n
 
 -- "x and y, 8 bytes each"; "NaN is written with bits 7ff8000000000000"
 abbrev pub coordBytes : Coord → List ℕ

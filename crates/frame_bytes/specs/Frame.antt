@@ -1,24 +1,20 @@
 -- Frames (document 01, "Frames"): what the bytes of one say, or which of the refusals 11 to 18 it meets. Definitions only.
-use mathlib.Core.Path.{_≡_}
 use mathlib.Core.Bool.{Bool, true, false, not, _&&_, _||_}
 use mathlib.Core.List.{List, [], _∷_}
-use Prim.Native.Nat.{ℕ, zero, suc, _*_, _-_, _/_, _%_}
+use Prim.Native.Nat.{ℕ, zero, suc, _*_, _/_, _%_}
 use lib.Dec.{ltb, eqb}
 use lib.Ieee.{Float}
 use lib.ListN.{length, getD, take, drop}
-use Rattle.binary64.specs.Bytes.{Little, number, double}
+use Rattle.binary64.specs.Bytes.{Little, numberOf, double}
 use Rattle.tile.specs.declared.Coord.{Coord}
 use Rattle.tile.specs.declared.TileBounds.{TileBounds}
 use Rattle.tile.specs.Bounds.{newOf}
 use Rattle.tile.specs.Ring.{close}
-use Rattle.rings.specs.Rings.{mostRings}
+use Rattle.rings.specs.LentRings.{mostRings}
 use Rattle.frame_bytes.specs.declared.head.Head.{Head}
 use Rattle.frame_bytes.specs.declared.reader.FrameRefusal.{FrameRefusal}
-use Rattle.frame_bytes.specs.declared.reader.FrameRefusal.the-variants.{Size, Kind, Flags, PartCount, Truncated, RingCount, CoordinateCount, Trailing, Output}
-use Rattle.frame_bytes.specs.declared.reader.FrameCheck.{FrameCheck}
-use Rattle.frame_bytes.specs.declared.reader.FrameCheck.the-variants.{Fails, Passes}
-use Rattle.frame_bytes.specs.declared.reader.Walk.{Walk}
-use Rattle.frame_bytes.specs.declared.reader.Walk.the-variants.{Stops, Reaches}
+use Rattle.frame_bytes.specs.declared.reader.FrameRefusal.the-variants.{Size, Kind, Flags, PartCount, Truncated, RingCount}
+use Rattle.frame_bytes.specs.declared.reader.FrameRefusal.the-variants.{CoordinateCount, Trailing, Output}
 
 -- ---- limits and numbers
 
@@ -28,11 +24,11 @@ shortest = 44
 abbrev pub longest : ℕ
 longest = 5120
 
-abbrev pub polygon : ℕ
-polygon = 3
+abbrev pub polygonKind : ℕ
+polygonKind = 3
 
-abbrev pub multipolygon : ℕ
-multipolygon = 6
+abbrev pub multipolygonKind : ℕ
+multipolygonKind = 6
 
 abbrev pub mostFlags : ℕ
 mostFlags = 3
@@ -66,9 +62,9 @@ pub data Reading (A : Type 0) : Type 0 where
   refused : FrameRefusal → Reading A
   read : A → List ℕ → Reading A
 
-abbrev pub refuse : {A : Type 0} → Bool → FrameRefusal → Reading A → Reading A
-refuse true r x = refused r
-refuse false r x = x
+abbrev pub refusedIf : {A : Type 0} → Bool → FrameRefusal → Reading A → Reading A
+refusedIf true r x = refused r
+refusedIf false r x = x
 
 -- what comes next is read from the bytes that follow
 abbrev pub andThen : {A B : Type 0} → Reading A → (A → List ℕ → Reading B) → Reading B
@@ -84,7 +80,7 @@ readMany f (suc k) l = andThen (f l) (λ a rest. andThen (readMany f k rest) (λ
 
 -- "Little-endian." "part count, 2 bytes", "ring count, 2 bytes", "coordinate count, 2 bytes"
 unfoldable pub countOf : List ℕ → ℕ
-countOf l = number Little (take 2 l)
+countOf l = numberOf Little (take 2 l)
 
 abbrev pub doubleAt : ℕ → List ℕ → Float
 doubleAt at l = double Little (take 8 (drop at l))
@@ -99,26 +95,26 @@ coordsOf (suc n) l = coordOf l ∷ coordsOf n (drop 16 l)
 
 -- "15 when, walking from the front, a count or coordinate is not whole"
 unfoldable pub readCount : List ℕ → Reading ℕ
-readCount l = refuse (ltb (length l) 2) Truncated (read (countOf l) (drop 2 l))
+readCount l = refusedIf (ltb (length l) 2) Truncated (read (countOf l) (drop 2 l))
 
 -- closed: "The frame reader and the slice call, both added, close rings by this rule."
 unfoldable pub readCoords : ℕ → List ℕ → Reading (List Coord)
-readCoords n l = refuse (ltb (length l) (16 * n)) Truncated (read (close (coordsOf n l)) (drop (16 * n) l))
+readCoords n l = refusedIf (ltb (length l) (16 * n)) Truncated (read (close (coordsOf n l)) (drop (16 * n) l))
 
 -- "each ring: coordinate count, 2 bytes, then x and y"; "17 when a coordinate count read there is over 4,096"
 unfoldable pub readRing : List ℕ → Reading (List Coord)
-readRing l = andThen (readCount l) (λ n rest. refuse (ltb mostInRing n) CoordinateCount (readCoords n rest))
+readRing l = andThen (readCount l) (λ n rest. refusedIf (ltb mostInRing n) CoordinateCount (readCoords n rest))
 
 abbrev pub wrongRingCount : ℕ → Bool
 wrongRingCount k = eqb k 0 || ltb mostRings k
 
 -- "Each part: ring count, 2 bytes, exterior first"; "16 when a ring count read there is 0 or over 64"
 unfoldable pub readPart : List ℕ → Reading (List (List Coord))
-readPart l = andThen (readCount l) (λ k rest. refuse (wrongRingCount k) RingCount (readMany readRing k rest))
+readPart l = andThen (readCount l) (λ k rest. refusedIf (wrongRingCount k) RingCount (readMany readRing k rest))
 
 -- so many parts, and "18 when bytes follow the last part"
 unfoldable pub readParts : ℕ → List ℕ → Reading (List (List (List Coord)))
-readParts k l = andThen (readMany readPart k l) (λ parts rest. refuse (ltb 0 (length rest)) Trailing (read parts rest))
+readParts k l = andThen (readMany readPart k l) (λ parts rest. refusedIf (ltb 0 (length rest)) Trailing (read parts rest))
 
 -- ---- a frame
 
@@ -130,8 +126,8 @@ pub record Frame : Type 0 where
 abbrev pub kindOf : List ℕ → ℕ
 kindOf l = getD l 0 0
 
-abbrev pub flagsOf : List ℕ → ℕ
-flagsOf l = getD l 1 0
+abbrev pub flagsByte : List ℕ → ℕ
+flagsByte l = getD l 1 0
 
 -- "west, south, east, north, buffer, 8 bytes each; part count, 2 bytes"
 abbrev pub boundsOf : List ℕ → TileBounds
@@ -143,8 +139,8 @@ partCountOf l = countOf (drop 42 l)
 abbrev pub headOf : List ℕ → Head
 headOf l = record {
   kind = kindOf l;
-  «assume_simple» = eqb (flagsOf l % 2) 1;
-  «skip_boundary_fallback» = eqb (flagsOf l / 2) 1;
+  «assume_simple» = eqb (flagsByte l % 2) 1;
+  «skip_boundary_fallback» = eqb (flagsByte l / 2) 1;
   bounds = boundsOf l;
   buffer = doubleAt 34 l;
   parts = partCountOf l;
@@ -156,44 +152,17 @@ wrongSize n = ltb n shortest || ltb longest n
 
 -- "12 when the kind is not 3 or 6"
 abbrev pub wrongKind : ℕ → Bool
-wrongKind kind = not (eqb kind polygon || eqb kind multipolygon)
+wrongKind kind = not (eqb kind polygonKind || eqb kind multipolygonKind)
 
 -- "14 when a kind 3 frame has not one part, or any has over 256"
 abbrev pub wrongPartCount : ℕ → ℕ → Bool
-wrongPartCount kind parts = (eqb kind polygon && not (eqb parts 1)) || ltb mostParts parts
+wrongPartCount kind parts = (eqb kind polygonKind && not (eqb parts 1)) || ltb mostParts parts
 
 -- "A frame call does 11 to 18 .., tested in that order, 15 to 17 as the walk meets them."
 unfoldable pub readFrame : List ℕ → Reading Frame
 readFrame l =
-    refuse (wrongSize (length l)) Size
-    (refuse (wrongKind (kindOf l)) Kind
-    (refuse (ltb mostFlags (flagsOf l)) Flags
-    (refuse (wrongPartCount (kindOf l) (partCountOf l)) PartCount
+    refusedIf (wrongSize (length l)) Size
+    (refusedIf (wrongKind (kindOf l)) Kind
+    (refusedIf (ltb mostFlags (flagsByte l)) Flags
+    (refusedIf (wrongPartCount (kindOf l) (partCountOf l)) PartCount
     (andThen (readParts (partCountOf l) (drop headBytes l)) (λ parts. read (record { head = headOf l; parts = parts }))))))
-
--- ---- what the functions answer of a reading
-
--- whether it is refused
-abbrev pub checkOf : {A : Type 0} → Reading A → FrameCheck
-checkOf (refused r) = Fails r
-checkOf (read a rest) = Passes
-
-abbrev pub Accepted : {A : Type 0} → Reading A → Type 0
-Accepted x = checkOf x ≡ Passes
-
--- where it ends in a frame of so many bytes
-abbrev pub walkOf : {A : Type 0} → ℕ → Reading A → Walk
-walkOf size (refused r) = Stops r
-walkOf size (read a rest) = Reaches (size - length rest)
-
--- all rings or all parts that are read; of a refusal, none
-abbrev pub allIn : {A : Type 0} → Reading (List A) → List A
-allIn (refused r) = []
-allIn (read all rest) = all
-
--- the rings of the part at a place, and so many rings from a place on
-abbrev pub partAt : List ℕ → ℕ → List (List Coord)
-partAt frame at = allIn (readPart (drop at frame))
-
-abbrev pub ringsFrom : List ℕ → ℕ → ℕ → List (List Coord)
-ringsFrom frame at k = allIn (readMany readRing k (drop at frame))

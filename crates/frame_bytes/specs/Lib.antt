@@ -1,4 +1,4 @@
-pub mod Encoding
 pub mod Frame
-pub mod Measure
 pub mod Room
+pub mod Encoding
+pub mod Contracts

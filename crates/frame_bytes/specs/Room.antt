@@ -1,13 +1,12 @@
 -- The output that a frame call asks for (document 01, "Frames", 22). Definitions only.
 use mathlib.Core.List.{List}
-use Prim.Native.Nat.{ℕ, _+_, _*_, _-_}
+use Prim.Native.Nat.{ℕ, _+_, _*_}
 use lib.Dec.{ltb}
 use lib.ListN.{length}
 use Rattle.tile.specs.declared.Coord.{Coord}
-use Rattle.rings.specs.Rings.{total, ringRoom}
+use Rattle.rings.specs.LentRings.{total, ringRoom}
 use Rattle.frame_bytes.specs.declared.reader.FrameRefusal.the-variants.{Output}
-use Rattle.frame_bytes.specs.declared.room.Passed.{Passed}
-use Rattle.frame_bytes.specs.Frame.{Reading, refused, read, refuse, andThen, Frame, readFrame}
+use Rattle.frame_bytes.specs.Frame.{Reading, read, refusedIf, andThen, Frame, readFrame}
 
 -- bytes of an answer that lists nothing, and of a coordinate in an answer
 abbrev pub leastRoom : ℕ
@@ -21,8 +20,8 @@ unfoldable pub partRoom : ℕ → List (List Coord) → ℕ
 partRoom coordinate rings = 6 + 2 * length rings + coordinate * total ringRoom rings
 
 -- "for a frame, under 5 bytes plus" that for each part
-unfoldable pub room : ℕ → List (List (List Coord)) → ℕ
-room coordinate parts = leastRoom + total (partRoom coordinate) parts
+unfoldable pub outputRoom : ℕ → List (List (List Coord)) → ℕ
+outputRoom coordinate parts = leastRoom + total (partRoom coordinate) parts
 
 -- the most that this is for a frame that is accepted (proofs/MostRoom.antt: `frame-most`): with so much output no frame is refused by 22
 abbrev pub mostRoom : ℕ
@@ -30,13 +29,4 @@ mostRoom = 50077
 
 -- "A frame call does 11 to 18 and 22": the frame, where an output of so many bytes has the room
 unfoldable pub readCall : List ℕ → ℕ → Reading Frame
-readCall l out = andThen (readFrame l) (λ f rest. refuse (ltb out (room coordinateBytes (f .parts))) Output (read f rest))
-
--- what the functions answer of a reading in a frame of so many bytes: the room of what was read, and where the next thing starts
-abbrev pub passedOf : {A : Type 0} → ℕ → (A → ℕ) → Reading A → Passed
-passedOf size f (refused r) = record { room = 0; next = 0 }
-passedOf size f (read a rest) = record { room = f a; next = size - length rest }
-
-abbrev pub frameRoom : ℕ → Reading Frame → ℕ
-frameRoom coordinate (refused r) = 0
-frameRoom coordinate (read f rest) = room coordinate (f .parts)
+readCall l out = andThen (readFrame l) (λ f rest. refusedIf (ltb out (outputRoom coordinateBytes (f .parts))) Output (read f rest))

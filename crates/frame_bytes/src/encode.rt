@@ -1,4 +1,5 @@
-// The bytes of an answer: counts, coordinates, rings, the header and the fixed part of a listed part, each written at a place of the output.
+// The bytes of an answer: counts, coordinates, rings, the header and the fixed part of a listed part, each written at a place of the
+// output.
 ghost use mathlib.Core.Path.{_≡_};
 ghost use mathlib.Core.List.{[], _∷_, _++_};
 ghost use Prim.Native.Nat.{_+_, _*_, _≤_};
@@ -6,7 +7,7 @@ ghost use lib.ListN.{length, take};
 ghost use lib.Seq.{sets};
 ghost use Rattle.tile.specs.Ring.{coords};
 ghost use Rattle.frame_bytes.specs.Room.{leastRoom};
-ghost use Rattle.frame_bytes.specs.Encoding as S;
+ghost use Rattle.frame_bytes.specs.Encoding as Encoding;
 use super::ring::COORD;
 use super::ring::COUNT;
 use binary64::bytes::write_f64;
@@ -19,14 +20,14 @@ pub const PART: usize = 4;
 
 pub fn put_count(out: &mut [u8], at: usize, n: usize)
     requires { ⌜ at + 2 ≤ length (now out) ⌝ }
-    ensures { λ _. ⌜ now (out .exit) ≡ sets (now (out .entry)) at (S.countBytes n) ⌝ }
+    ensures { λ _. ⌜ now (out .exit) ≡ sets (now (out .entry)) at (Encoding.countBytes n) ⌝ }
 {
     write_u16(out, at, n as u64);
 }
 
 fn put_coord(out: &mut [u8], at: usize, p: Coord)
     requires { ⌜ at + 16 ≤ length (now out) ⌝ }
-    ensures { λ _. ⌜ now (out .exit) ≡ sets (now (out .entry)) at (S.coordBytes p) ⌝ }
+    ensures { λ _. ⌜ now (out .exit) ≡ sets (now (out .entry)) at (Encoding.coordBytes p) ⌝ }
 {
     write_f64(out, at, p.x);
     write_f64(out, at + 8, p.y);
@@ -35,7 +36,8 @@ fn put_coord(out: &mut [u8], at: usize, p: Coord)
 // Writes the n coordinates at the front of a slice, their count first, and answers where the next thing is written.
 pub fn put_ring(ring: &[f64], n: usize, out: &mut [u8], at: usize) -> usize
     requires { ⌜ (2 * n ≤ length (now ring)) × (at + 2 + 16 * n ≤ length (now out)) ⌝ }
-    ensures { λ r. ⌜ (r ≡ at + 2 + 16 * n) × (now (out .exit) ≡ sets (now (out .entry)) at (S.ringBytes S.coordBytes (coords (take (2 * n) (now (ring .entry)))))) ⌝ }
+    ensures { λ r. ⌜ (r ≡ at + 2 + 16 * n) × (now (out .exit) ≡ sets (now (out .entry))
+        at (Encoding.ringBytes Encoding.coordBytes (coords (take (2 * n) (now (ring .entry)))))) ⌝ }
 {
     put_count(out, at, n);
     let first = at + COUNT;
@@ -51,7 +53,7 @@ pub fn put_ring(ring: &[f64], n: usize, out: &mut [u8], at: usize) -> usize
 // The header is written when the parts behind it are known.
 pub fn put_header(out: &mut [u8], number: u8, guard: usize, parts: usize)
     requires { ⌜ leastRoom ≤ length (now out) ⌝ }
-    ensures { λ _. ⌜ now (out .exit) ≡ sets (now (out .entry)) 0 (S.headerBytes number guard parts) ⌝ }
+    ensures { λ _. ⌜ now (out .exit) ≡ sets (now (out .entry)) 0 (Encoding.headerBytes number guard parts) ⌝ }
 {
     out[0] = number;
     put_count(out, 1, guard);
@@ -61,7 +63,7 @@ pub fn put_header(out: &mut [u8], number: u8, guard: usize, parts: usize)
 // What each listed part has: the rings of a cut stand behind it.
 pub fn put_part(out: &mut [u8], at: usize, index: usize, number: u8, reason: u8)
     requires { ⌜ at + 4 ≤ length (now out) ⌝ }
-    ensures { λ _. ⌜ now (out .exit) ≡ sets (now (out .entry)) at (S.countBytes index ++ (number ∷ reason ∷ [])) ⌝ }
+    ensures { λ _. ⌜ now (out .exit) ≡ sets (now (out .entry)) at (Encoding.countBytes index ++ (number ∷ reason ∷ [])) ⌝ }
 {
     put_count(out, at, index);
     out[at + 2] = number;

@@ -2,7 +2,7 @@
 ghost use mathlib.Core.Path.{_≡_};
 ghost use Prim.Native.Nat.{_≤_};
 ghost use lib.ListN.{length};
-ghost use Rattle.frame_bytes.specs.Frame as S;
+ghost use Rattle.frame_bytes.specs.Frame as Frames;
 use super::ring::count_at;
 use binary64::bytes::read_f64;
 use tile::TileBounds;
@@ -23,8 +23,8 @@ pub struct Head {
 }
 
 fn read_bounds(frame: &[u8]) -> TileBounds
-    requires { ⌜ S.headBytes ≤ length (now frame) ⌝ }
-    ensures { λ r. ⌜ r ≡ S.boundsOf (now (frame .entry)) ⌝ }
+    requires { ⌜ Frames.headBytes ≤ length (now frame) ⌝ }
+    ensures { λ r. ⌜ r ≡ Frames.boundsOf (now (frame .entry)) ⌝ }
 {
     let west = read_f64(frame, 2);
     let south = read_f64(frame, 10);
@@ -34,8 +34,8 @@ fn read_bounds(frame: &[u8]) -> TileBounds
 }
 
 pub fn read_head(frame: &[u8]) -> Head
-    requires { ⌜ S.headBytes ≤ length (now frame) ⌝ }
-    ensures { λ r. ⌜ r ≡ S.headOf (now (frame .entry)) ⌝ }
+    requires { ⌜ Frames.headBytes ≤ length (now frame) ⌝ }
+    ensures { λ r. ⌜ r ≡ Frames.headOf (now (frame .entry)) ⌝ }
 {
     let flags = frame[1];
     Head {

@@ -1,4 +1,5 @@
-// Frames and answers as bytes: a frame is read, checked and measured as it stands, and counts, coordinates, rings and headers of an answer are written.
+// Frames and answers as bytes: a frame is read, checked and measured as it stands, and counts, coordinates, rings and headers of an answer
+// are written.
 pub mod encode;
 pub mod head;
 pub mod measure;

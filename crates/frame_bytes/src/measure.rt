@@ -1,13 +1,17 @@
-// What the coordinates of an accepted frame tell before a ring is cut: the rectangle of a part and of all parts, and whether a part has a coordinate that the overlay can't take.
-// They are read where they stand, so that no array is needed. A frame's rings count as closed, but their bytes may be open: closing repeats a coordinate, which changes none of these answers.
+// What the coordinates of an accepted frame tell before a ring is cut: the rectangle of a part and of all parts, and whether a part has a
+// coordinate that the overlay can't take.
+// They are read where they stand, so that no array is needed. A frame's rings count as closed, but their bytes may be open: closing repeats
+// a coordinate, which changes none of these answers.
 ghost use mathlib.Core.Path.{_≡_};
 ghost use Prim.Native.Nat.{_+_, _*_, _≤_};
 ghost use lib.ListN.{length, drop};
 ghost use Rattle.rings.specs.declared.rectangle.Rect.the-variants as Rects;
-ghost use Rattle.rings.specs.Rectangle.{isFiniteCoord, withRing, Numbers};
+ghost use Rattle.rings.specs.Rectangle.{isFiniteCoord, withRing};
+ghost use Rattle.rings.specs.Contracts.{Numbers};
 ghost use Rattle.rings.specs.Representable.{anyHuge};
-ghost use Rattle.frame_bytes.specs.Frame as S;
-ghost use Rattle.frame_bytes.specs.Measure.{measuredOf, frameRect, hugeOf};
+ghost use Rattle.frame_bytes.specs.Frame as Frames;
+ghost use Rattle.frame_bytes.specs.Contracts as Contracts;
+ghost use Rattle.frame_bytes.specs.Contracts.{measuredOf, frameRect, hugeOf};
 use super::head::HEAD;
 use super::head::PART_COUNT;
 use super::ring::COORD;
@@ -27,18 +31,20 @@ pub struct Measured {
     pub next: usize,
 }
 
-// Whether the coordinate at a place is finite. Where that is asked first, the compiler reads its bits once and leaves out the making of a NaN from them.
+// Whether the coordinate at a place is finite. Where that is asked first, the compiler reads its bits once and leaves out the making of a
+// NaN from them.
 fn is_finite_at(frame: &[u8], at: usize) -> bool
     requires { ⌜ at + 16 ≤ length (now frame) ⌝ }
-    ensures { λ r. ⌜ r ≡ isFiniteCoord (S.coordOf (drop at (now (frame .entry)))) ⌝ }
+    ensures { λ r. ⌜ r ≡ isFiniteCoord (Frames.coordOf (drop at (now (frame .entry)))) ⌝ }
 {
     is_finite_coord(coord_at(frame, at))
 }
 
-// The rectangle of four numbers with the `count` coordinates at a place. The numbers are carried one by one: an enum would be stored and read back for every coordinate.
+// The rectangle of four numbers with the `count` coordinates at a place. The numbers are carried one by one: an enum would be stored and
+// read back for every coordinate.
 fn box_with_coords(w: f64, s: f64, e: f64, n: f64, frame: &[u8], at: usize, count: usize) -> Rect
     requires { ⌜ Numbers w s e n × (at + 16 * count ≤ length (now frame)) ⌝ }
-    ensures { λ r. ⌜ r ≡ withRing (Rects.Box w s e n) (S.coordsOf count (drop at (now (frame .entry)))) ⌝ }
+    ensures { λ r. ⌜ r ≡ withRing (Rects.Box w s e n) (Frames.coordsOf count (drop at (now (frame .entry)))) ⌝ }
 {
     let mut west = w;
     let mut south = s;
@@ -63,7 +69,7 @@ fn box_with_coords(w: f64, s: f64, e: f64, n: f64, frame: &[u8], at: usize, coun
 // The rectangle with the n coordinates at a place. The first leaves something in it, so the arm for Nothing is never taken.
 fn with_coords(frame: &[u8], at: usize, n: usize, rect: Rect) -> Rect
     requires { ⌜ at + 16 * n ≤ length (now frame) ⌝ }
-    ensures { λ r. ⌜ r ≡ withRing rect (S.coordsOf n (drop at (now (frame .entry)))) ⌝ }
+    ensures { λ r. ⌜ r ≡ withRing rect (Frames.coordsOf n (drop at (now (frame .entry)))) ⌝ }
 {
     if n == 0 {
         return rect;
@@ -85,8 +91,8 @@ fn with_coords(frame: &[u8], at: usize, n: usize, rect: Rect) -> Rect
 
 // The rectangle with all rings of the part at a place.
 pub fn part_rect(frame: &[u8], at: usize, rect: Rect) -> Measured
-    requires { ⌜ (at ≤ length (now frame)) × S.Accepted (S.readPart (drop at (now frame))) ⌝ }
-    ensures { λ r. ⌜ r ≡ measuredOf (length (now (frame .entry))) rect (S.readPart (drop at (now (frame .entry)))) ⌝ }
+    requires { ⌜ (at ≤ length (now frame)) × Contracts.Accepted (Frames.readPart (drop at (now frame))) ⌝ }
+    ensures { λ r. ⌜ r ≡ measuredOf (length (now (frame .entry))) rect (Frames.readPart (drop at (now (frame .entry)))) ⌝ }
 {
     let mut whole = rect;
     let mut left = count_at(frame, at);
@@ -103,8 +109,8 @@ pub fn part_rect(frame: &[u8], at: usize, rect: Rect) -> Measured
 
 // The rectangle of all parts.
 pub fn whole_rect(frame: &[u8]) -> Rect
-    requires { ⌜ S.Accepted (S.readFrame (now frame)) ⌝ }
-    ensures { λ r. ⌜ r ≡ frameRect (S.readFrame (now (frame .entry))) ⌝ }
+    requires { ⌜ Contracts.Accepted (Frames.readFrame (now frame)) ⌝ }
+    ensures { λ r. ⌜ r ≡ frameRect (Frames.readFrame (now (frame .entry))) ⌝ }
 {
     let mut rect = Rect::Nothing;
     let mut at = HEAD;
@@ -121,7 +127,7 @@ pub fn whole_rect(frame: &[u8]) -> Rect
 // Whether one of the n coordinates at a place has a magnitude of 1e150 or more.
 fn has_huge(frame: &[u8], at: usize, n: usize) -> bool
     requires { ⌜ at + 16 * n ≤ length (now frame) ⌝ }
-    ensures { λ r. ⌜ r ≡ anyHuge (S.coordsOf n (drop at (now (frame .entry)))) ⌝ }
+    ensures { λ r. ⌜ r ≡ anyHuge (Frames.coordsOf n (drop at (now (frame .entry)))) ⌝ }
 {
     let mut i = 0usize;
     while i < n {
@@ -135,8 +141,8 @@ fn has_huge(frame: &[u8], at: usize, n: usize) -> bool
 
 // Whether one of the coordinates of the part at a place has.
 pub fn part_has_huge(frame: &[u8], at: usize) -> bool
-    requires { ⌜ (at ≤ length (now frame)) × S.Accepted (S.readPart (drop at (now frame))) ⌝ }
-    ensures { λ r. ⌜ r ≡ hugeOf (S.readPart (drop at (now (frame .entry)))) ⌝ }
+    requires { ⌜ (at ≤ length (now frame)) × Contracts.Accepted (Frames.readPart (drop at (now frame))) ⌝ }
+    ensures { λ r. ⌜ r ≡ hugeOf (Frames.readPart (drop at (now (frame .entry)))) ⌝ }
 {
     let mut left = count_at(frame, at);
     let mut next = at + COUNT;

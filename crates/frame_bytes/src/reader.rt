@@ -2,7 +2,8 @@
 ghost use mathlib.Core.Path.{_≡_};
 ghost use Prim.Native.Nat.{_≤_};
 ghost use lib.ListN.{length, drop};
-ghost use Rattle.frame_bytes.specs.Frame as S;
+ghost use Rattle.frame_bytes.specs.Frame as Frames;
+ghost use Rattle.frame_bytes.specs.Contracts as Contracts;
 use super::head::HEAD;
 use super::head::PART_COUNT;
 use super::ring::COORD;
@@ -46,7 +47,7 @@ pub enum FrameCheck {
 
 // Document 01's number of a refusal.
 pub fn refusal_number(refusal: FrameRefusal) -> u8
-    ensures { λ r. ⌜ r ≡ S.frameRefusalNumber refusal ⌝ }
+    ensures { λ r. ⌜ r ≡ Frames.frameRefusalNumber refusal ⌝ }
 {
     match refusal {
         FrameRefusal::Size => 11,
@@ -62,25 +63,25 @@ pub fn refusal_number(refusal: FrameRefusal) -> u8
 }
 
 // Where a walk from the front ends: at a refusal, or at the place where the next thing starts.
-enum Walk {
+enum FrameWalk {
     Stops(FrameRefusal),
     Reaches(usize),
 }
 
 fn is_wrong_size(size: usize) -> bool
-    ensures { λ r. ⌜ r ≡ S.wrongSize size ⌝ }
+    ensures { λ r. ⌜ r ≡ Frames.wrongSize size ⌝ }
 {
     size < SHORTEST || size > LONGEST
 }
 
 fn is_wrong_kind(kind: u8) -> bool
-    ensures { λ r. ⌜ r ≡ S.wrongKind kind ⌝ }
+    ensures { λ r. ⌜ r ≡ Frames.wrongKind kind ⌝ }
 {
     kind != POLYGON && kind != MULTIPOLYGON
 }
 
 fn is_wrong_part_count(kind: u8, parts: usize) -> bool
-    ensures { λ r. ⌜ r ≡ S.wrongPartCount kind parts ⌝ }
+    ensures { λ r. ⌜ r ≡ Frames.wrongPartCount kind parts ⌝ }
 {
     if kind == POLYGON && parts != 1 {
         return true;
@@ -89,95 +90,97 @@ fn is_wrong_part_count(kind: u8, parts: usize) -> bool
 }
 
 fn is_wrong_ring_count(rings: usize) -> bool
-    ensures { λ r. ⌜ r ≡ S.wrongRingCount rings ⌝ }
+    ensures { λ r. ⌜ r ≡ Frames.wrongRingCount rings ⌝ }
 {
     rings == 0 || rings > MOST_RINGS
 }
 
 // Passes over the ring at a place.
-fn pass_ring(frame: &[u8], at: usize) -> Walk
+fn pass_ring(frame: &[u8], at: usize) -> FrameWalk
     requires { ⌜ at ≤ length (now frame) ⌝ }
-    ensures { λ r. ⌜ r ≡ S.walkOf (length (now (frame .entry))) (S.readRing (drop at (now (frame .entry)))) ⌝ }
+    ensures { λ r. ⌜ r ≡ Contracts.walked (length (now (frame .entry))) (Frames.readRing (drop at (now (frame .entry)))) ⌝ }
 {
     let left = frame.len() - at;
     if left < COUNT {
-        return Walk::Stops(FrameRefusal::Truncated);
+        return FrameWalk::Stops(FrameRefusal::Truncated);
     }
     let n = count_at(frame, at);
     if n > MOST_IN_RING {
-        return Walk::Stops(FrameRefusal::CoordinateCount);
+        return FrameWalk::Stops(FrameRefusal::CoordinateCount);
     }
     if left - COUNT < COORD * n {
-        return Walk::Stops(FrameRefusal::Truncated);
+        return FrameWalk::Stops(FrameRefusal::Truncated);
     }
-    Walk::Reaches(at + COUNT + COORD * n)
+    FrameWalk::Reaches(at + COUNT + COORD * n)
 }
 
 // Passes over so many rings from a place on.
-fn pass_rings(frame: &[u8], start: usize, rings: usize) -> Walk
+fn pass_rings(frame: &[u8], start: usize, rings: usize) -> FrameWalk
     requires { ⌜ start ≤ length (now frame) ⌝ }
-    ensures { λ r. ⌜ r ≡ S.walkOf (length (now (frame .entry))) (S.readMany S.readRing rings (drop start (now (frame .entry)))) ⌝ }
+    ensures { λ r. ⌜ r ≡ Contracts.walked (length (now (frame .entry)))
+        (Frames.readMany Frames.readRing rings (drop start (now (frame .entry)))) ⌝ }
 {
     let mut at = start;
     let mut left = rings;
     while left > 0 {
         match pass_ring(frame, at) {
-            Walk::Stops(refusal) => {
-                return Walk::Stops(refusal);
+            FrameWalk::Stops(refusal) => {
+                return FrameWalk::Stops(refusal);
             }
-            Walk::Reaches(next) => {
+            FrameWalk::Reaches(next) => {
                 at = next;
             }
         }
         left -= 1;
     }
-    Walk::Reaches(at)
+    FrameWalk::Reaches(at)
 }
 
 // Passes over the part at a place.
-fn pass_part(frame: &[u8], at: usize) -> Walk
+fn pass_part(frame: &[u8], at: usize) -> FrameWalk
     requires { ⌜ at ≤ length (now frame) ⌝ }
-    ensures { λ r. ⌜ r ≡ S.walkOf (length (now (frame .entry))) (S.readPart (drop at (now (frame .entry)))) ⌝ }
+    ensures { λ r. ⌜ r ≡ Contracts.walked (length (now (frame .entry))) (Frames.readPart (drop at (now (frame .entry)))) ⌝ }
 {
     if frame.len() - at >= COUNT {
         let rings = count_at(frame, at);
         if is_wrong_ring_count(rings) {
-            return Walk::Stops(FrameRefusal::RingCount);
+            return FrameWalk::Stops(FrameRefusal::RingCount);
         }
         return pass_rings(frame, at + COUNT, rings);
     }
-    Walk::Stops(FrameRefusal::Truncated)
+    FrameWalk::Stops(FrameRefusal::Truncated)
 }
 
 // Passes over so many parts from a place on.
-fn pass_parts(frame: &[u8], start: usize, parts: usize) -> Walk
+fn pass_parts(frame: &[u8], start: usize, parts: usize) -> FrameWalk
     requires { ⌜ start ≤ length (now frame) ⌝ }
-    ensures { λ r. ⌜ r ≡ S.walkOf (length (now (frame .entry))) (S.readMany S.readPart parts (drop start (now (frame .entry)))) ⌝ }
+    ensures { λ r. ⌜ r ≡ Contracts.walked (length (now (frame .entry)))
+        (Frames.readMany Frames.readPart parts (drop start (now (frame .entry)))) ⌝ }
 {
     let mut at = start;
     let mut left = parts;
     while left > 0 {
         match pass_part(frame, at) {
-            Walk::Stops(refusal) => {
-                return Walk::Stops(refusal);
+            FrameWalk::Stops(refusal) => {
+                return FrameWalk::Stops(refusal);
             }
-            Walk::Reaches(next) => {
+            FrameWalk::Reaches(next) => {
                 at = next;
             }
         }
         left -= 1;
     }
-    Walk::Reaches(at)
+    FrameWalk::Reaches(at)
 }
 
 // The refusals of the parts and of what follows them.
 fn check_parts(frame: &[u8], parts: usize) -> FrameCheck
-    requires { ⌜ S.shortest ≤ length (now frame) ⌝ }
-    ensures { λ r. ⌜ r ≡ S.checkOf (S.readParts parts (drop S.headBytes (now (frame .entry)))) ⌝ }
+    requires { ⌜ Frames.shortest ≤ length (now frame) ⌝ }
+    ensures { λ r. ⌜ r ≡ Contracts.checkOf (Frames.readParts parts (drop Frames.headBytes (now (frame .entry)))) ⌝ }
 {
     match pass_parts(frame, HEAD, parts) {
-        Walk::Stops(refusal) => FrameCheck::Fails(refusal),
-        Walk::Reaches(end) => {
+        FrameWalk::Stops(refusal) => FrameCheck::Fails(refusal),
+        FrameWalk::Reaches(end) => {
             if end < frame.len() {
                 return FrameCheck::Fails(FrameRefusal::Trailing);
             }
@@ -188,7 +191,7 @@ fn check_parts(frame: &[u8], parts: usize) -> FrameCheck
 
 // The refusals of a frame, in their order.
 pub fn check_frame(frame: &[u8]) -> FrameCheck
-    ensures { λ r. ⌜ r ≡ S.checkOf (S.readFrame (now (frame .entry))) ⌝ }
+    ensures { λ r. ⌜ r ≡ Contracts.checkOf (Frames.readFrame (now (frame .entry))) ⌝ }
 {
     if is_wrong_size(frame.len()) {
         return FrameCheck::Fails(FrameRefusal::Size);

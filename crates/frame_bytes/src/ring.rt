@@ -4,7 +4,7 @@ ghost use Prim.Native.Nat.{_+_, _*_, _^_, _<_, _≤_};
 ghost use lib.ListN.{length, drop};
 ghost use lib.Seq.{sets};
 ghost use Rattle.tile.specs.Ring.{flat, closed, close};
-ghost use Rattle.frame_bytes.specs.Frame as S;
+ghost use Rattle.frame_bytes.specs.Frame as Frames;
 use binary64::bytes::read_f64;
 use binary64::bytes::read_u16;
 use tile::Coord;
@@ -18,14 +18,14 @@ pub const COORD: usize = 16;
 // The count at a place: of parts, of rings or of coordinates.
 pub fn count_at(frame: &[u8], at: usize) -> usize
     requires { ⌜ at + 2 ≤ length (now frame) ⌝ }
-    ensures { λ r. ⌜ (r ≡ S.countOf (drop at (now (frame .entry)))) × (r < 2 ^ 16) ⌝ }
+    ensures { λ r. ⌜ (r ≡ Frames.countOf (drop at (now (frame .entry)))) × (r < 2 ^ 16) ⌝ }
 {
     read_u16(frame, at) as usize
 }
 
 pub fn coord_at(frame: &[u8], at: usize) -> Coord
     requires { ⌜ at + 16 ≤ length (now frame) ⌝ }
-    ensures { λ r. ⌜ r ≡ S.coordOf (drop at (now (frame .entry))) ⌝ }
+    ensures { λ r. ⌜ r ≡ Frames.coordOf (drop at (now (frame .entry))) ⌝ }
 {
     Coord {
         x: read_f64(frame, at),
@@ -36,7 +36,7 @@ pub fn coord_at(frame: &[u8], at: usize) -> Coord
 // Whether the ring of n coordinates at a place is closed.
 fn is_closed(frame: &[u8], at: usize, n: usize) -> bool
     requires { ⌜ at + 16 * n ≤ length (now frame) ⌝ }
-    ensures { λ r. ⌜ r ≡ closed (S.coordsOf n (drop at (now (frame .entry)))) ⌝ }
+    ensures { λ r. ⌜ r ≡ closed (Frames.coordsOf n (drop at (now (frame .entry)))) ⌝ }
 {
     if n == 0 {
         return true;
@@ -48,7 +48,7 @@ fn is_closed(frame: &[u8], at: usize, n: usize) -> bool
 // How many coordinates the ring of n at a place has when closed.
 pub fn closed_count(frame: &[u8], at: usize, n: usize) -> usize
     requires { ⌜ at + 16 * n ≤ length (now frame) ⌝ }
-    ensures { λ r. ⌜ r ≡ length (close (S.coordsOf n (drop at (now (frame .entry))))) ⌝ }
+    ensures { λ r. ⌜ r ≡ length (close (Frames.coordsOf n (drop at (now (frame .entry))))) ⌝ }
 {
     if is_closed(frame, at, n) {
         return n;
@@ -59,7 +59,8 @@ pub fn closed_count(frame: &[u8], at: usize, n: usize) -> usize
 // Writes the n coordinates at a place of the frame, not closed, to the front of `ring`, and answers where the next ring starts.
 pub fn decode_ring(frame: &[u8], at: usize, n: usize, ring: &mut [f64]) -> usize
     requires { ⌜ (at + 16 * n ≤ length (now frame)) × (2 * n ≤ length (now ring)) ⌝ }
-    ensures { λ r. ⌜ (r ≡ at + 16 * n) × (now (ring .exit) ≡ sets (now (ring .entry)) 0 (flat (S.coordsOf n (drop at (now (frame .entry)))))) ⌝ }
+    ensures { λ r. ⌜ (r ≡ at + 16 * n) × (now (ring .exit) ≡ sets (now (ring .entry)) 0
+        (flat (Frames.coordsOf n (drop at (now (frame .entry)))))) ⌝ }
 {
     let mut i = 0usize;
     while i < n {

@@ -2,9 +2,10 @@
 ghost use mathlib.Core.Path.{_≡_};
 ghost use Prim.Native.Nat.{_≤_};
 ghost use lib.ListN.{length, drop};
-ghost use Rattle.rings.specs.Rings.{total, ringRoom, mostRings};
-ghost use Rattle.frame_bytes.specs.Frame as S;
-ghost use Rattle.frame_bytes.specs.Room as R;
+ghost use Rattle.rings.specs.LentRings.{total, ringRoom, mostRings};
+ghost use Rattle.frame_bytes.specs.Contracts as Contracts;
+ghost use Rattle.frame_bytes.specs.Frame as Frames;
+ghost use Rattle.frame_bytes.specs.Room as OutputRoom;
 use super::encode::PART;
 use super::head::HEAD;
 use super::head::PART_COUNT;
@@ -24,28 +25,30 @@ pub const LEAST_ROOM: usize = 5;
 const CUT_PART: usize = PART + COUNT;
 
 // The room of what was passed over, and where the next thing starts.
-struct Passed {
+struct RoomTo {
     room: usize,
     next: usize,
 }
 
 // The room, in coordinates, of the ring at a place, by its length closed.
-fn ring_room(frame: &[u8], at: usize) -> Passed
-    requires { ⌜ (at ≤ length (now frame)) × S.Accepted (S.readRing (drop at (now frame))) ⌝ }
-    ensures { λ r. ⌜ r ≡ R.passedOf (length (now (frame .entry))) ringRoom (S.readRing (drop at (now (frame .entry)))) ⌝ }
+fn ring_room(frame: &[u8], at: usize) -> RoomTo
+    requires { ⌜ (at ≤ length (now frame)) × Contracts.Accepted (Frames.readRing (drop at (now frame))) ⌝ }
+    ensures { λ r. ⌜ r ≡ Contracts.passedOf (length (now (frame .entry))) ringRoom (Frames.readRing (drop at (now (frame .entry)))) ⌝ }
 {
     let n = count_at(frame, at);
     let coords = at + COUNT;
-    Passed {
+    RoomTo {
         room: room_for(closed_count(frame, coords, n)),
         next: coords + COORD * n,
     }
 }
 
 // The room, in coordinates, of so many rings from a place on.
-fn rings_room(frame: &[u8], start: usize, rings: usize) -> Passed
-    requires { ⌜ (start ≤ length (now frame)) × (rings ≤ mostRings) × S.Accepted (S.readMany S.readRing rings (drop start (now frame))) ⌝ }
-    ensures { λ r. ⌜ r ≡ R.passedOf (length (now (frame .entry))) (total ringRoom) (S.readMany S.readRing rings (drop start (now (frame .entry)))) ⌝ }
+fn rings_room(frame: &[u8], start: usize, rings: usize) -> RoomTo
+    requires { ⌜ (start ≤ length (now frame)) × (rings ≤ mostRings)
+        × Contracts.Accepted (Frames.readMany Frames.readRing rings (drop start (now frame))) ⌝ }
+    ensures { λ r. ⌜ r ≡ Contracts.passedOf (length (now (frame .entry))) (total ringRoom)
+        (Frames.readMany Frames.readRing rings (drop start (now (frame .entry)))) ⌝ }
 {
     let mut room = 0usize;
     let mut at = start;
@@ -56,17 +59,18 @@ fn rings_room(frame: &[u8], start: usize, rings: usize) -> Passed
         at = ring.next;
         left -= 1;
     }
-    Passed { room, next: at }
+    RoomTo { room, next: at }
 }
 
 // The room, in bytes, of the part at a place.
-fn part_room(frame: &[u8], at: usize) -> Passed
-    requires { ⌜ (at ≤ length (now frame)) × S.Accepted (S.readPart (drop at (now frame))) ⌝ }
-    ensures { λ r. ⌜ r ≡ R.passedOf (length (now (frame .entry))) (R.partRoom R.coordinateBytes) (S.readPart (drop at (now (frame .entry)))) ⌝ }
+fn part_room(frame: &[u8], at: usize) -> RoomTo
+    requires { ⌜ (at ≤ length (now frame)) × Contracts.Accepted (Frames.readPart (drop at (now frame))) ⌝ }
+    ensures { λ r. ⌜ r ≡ Contracts.passedOf (length (now (frame .entry))) (OutputRoom.partRoom OutputRoom.coordinateBytes)
+        (Frames.readPart (drop at (now (frame .entry)))) ⌝ }
 {
     let rings = count_at(frame, at);
     let cut = rings_room(frame, at + COUNT, rings);
-    Passed {
+    RoomTo {
         room: CUT_PART + COUNT * rings + COORD * cut.room,
         next: cut.next,
     }
@@ -74,8 +78,8 @@ fn part_room(frame: &[u8], at: usize) -> Passed
 
 // The room, in bytes, of an answer to the frame.
 pub fn frame_room(frame: &[u8]) -> usize
-    requires { ⌜ S.Accepted (S.readFrame (now frame)) ⌝ }
-    ensures { λ r. ⌜ r ≡ R.frameRoom R.coordinateBytes (S.readFrame (now (frame .entry))) ⌝ }
+    requires { ⌜ Contracts.Accepted (Frames.readFrame (now frame)) ⌝ }
+    ensures { λ r. ⌜ r ≡ Contracts.frameRoom OutputRoom.coordinateBytes (Frames.readFrame (now (frame .entry))) ⌝ }
 {
     let mut room = LEAST_ROOM;
     let mut at = HEAD;
@@ -91,7 +95,7 @@ pub fn frame_room(frame: &[u8]) -> usize
 
 // The refusals of a frame call with an output of so many bytes, in their order.
 pub fn check_call(frame: &[u8], out: usize) -> FrameCheck
-    ensures { λ r. ⌜ r ≡ S.checkOf (R.readCall (now (frame .entry)) out) ⌝ }
+    ensures { λ r. ⌜ r ≡ Contracts.checkOf (OutputRoom.readCall (now (frame .entry)) out) ⌝ }
 {
     match check_frame(frame) {
         FrameCheck::Fails(refusal) => FrameCheck::Fails(refusal),

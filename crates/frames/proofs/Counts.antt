@@ -15,16 +15,18 @@ use Rattle.rings.specs.declared.rectangle.Rect.{Rect}
 use Rattle.rings.specs.declared.rectangle.Rect.the-variants as Rects
 use Rattle.rings.specs.Rectangle.{rectangle, withParts, intersectsBounds, isFullyInside}
 use Rattle.rings.specs.Representable.{anyHugeRing}
-use Rattle.rings.specs.Rings.{exterior, mostRings}
+use Rattle.rings.specs.LentRings.{exterior, mostRings}
 use Rattle.clip.specs.declared.polygon.Flags.{Flags}
 use Rattle.clip.specs.declared.polygon.Route.{Route}
-use Rattle.clip.specs.declared.polygon.Route.the-variants as To
-use Rattle.clip.specs.Polygon as P
+use Rattle.clip.specs.declared.polygon.Route.the-variants as Routes
+use Rattle.clip.specs.Polygon as Polygon
 use Rattle.clip.proofs.Cuts.{cut-fits-room, hole-fits-room}
-use Rattle.frame_bytes.specs.Frame.{read, mostParts, mostInRing, polygon, headBytes, countOf, readRing, readPart, partCountOf, Frame, readFrame}
+use Rattle.frame_bytes.specs.Frame.{read, mostParts, mostInRing, polygonKind, headBytes, countOf, readRing, readPart, partCountOf, Frame}
+use Rattle.frame_bytes.specs.Frame.{readFrame}
 use Rattle.frame_bytes.proofs.Coordinates.{close-grows}
 use Rattle.frame_bytes.proofs.Readings.{many-length, many-every, ring-read, part-read, frame-read}
-use Rattle.frames.specs.Answer.{Part, Answer, Nothing, Dropped, Unchanged, Listed, ofPolygon, routePart, Listing, listedBefore, listParts, ofParts, ifBox, ofMultipolygon, flagsIn, boundsIn, onlyPart, answerTo}
+use Rattle.frames.specs.Answer.{Part, Answer, Nothing, Dropped, Unchanged, Listed, ofPolygon, routePart, Listing, listedBefore}
+use Rattle.frames.specs.Answer.{listParts, ofParts, ifBox, ofMultipolygon, flagsIn, boundsIn, onlyPart, answerTo}
 
 -- ---- what two bytes hold
 
@@ -34,12 +36,12 @@ Fits n = n < 65536
 abbrev pub RingFits : List Coord → Type 0
 RingFits ring = Fits (length ring)
 
-abbrev pub RoutedFits : P.Routed → Type 0
-RoutedFits P.nothing = Unit {0}
-RoutedFits P.dropped = Unit {0}
-RoutedFits P.unchanged = Unit {0}
-RoutedFits (P.cut rings) = Fits (length rings) × Every RingFits rings
-RoutedFits (P.overlay reason) = Unit {0}
+abbrev pub RoutedFits : Polygon.Routed → Type 0
+RoutedFits Polygon.nothing = Unit {0}
+RoutedFits Polygon.dropped = Unit {0}
+RoutedFits Polygon.unchanged = Unit {0}
+RoutedFits (Polygon.cut rings) = Fits (length rings) × Every RingFits rings
+RoutedFits (Polygon.overlay reason) = Unit {0}
 
 abbrev pub PartFits : Part → Type 0
 PartFits part = Fits (part .index) × RoutedFits (part .outcome)
@@ -59,7 +61,8 @@ abbrev SmallPart : List (List Coord) → Type 0
 SmallPart rings = (length rings ≤ mostRings) × Every ShortRing rings
 
 short-ring : (l : List ℕ) (ring : List Coord) (rest : List ℕ) → readRing l ≡ read ring rest → ShortRing ring
-short-ring l ring rest e = let r = ring-read l ring rest e in rw (r .coordinates) (omega (arith, close-grows (countOf l) (drop 2 l), r .few))
+short-ring l ring rest e =
+    let r = ring-read l ring rest e in rw (r .coordinates) (omega (arith, close-grows (countOf l) (drop 2 l), r .few))
 
 small-part : (l : List ℕ) (part : List (List Coord)) (rest : List ℕ) → readPart l ≡ read part rest → SmallPart part
 small-part l part rest e =
@@ -73,60 +76,63 @@ room-fits : (n : ℕ) → n ≤ mostInRing + 1 → Fits (B n)
 room-fits n h = omega (arith, B-at-most n)
 
 module _ (b : TileBounds) where
-  holes-few : (rings : List (List Coord)) → length (P.cutHoles b rings) ≤ length rings
-  unfolding P.cutHoles
+  holes-few : (rings : List (List Coord)) → length (Polygon.cutHoles b rings) ≤ length rings
+  unfolding Polygon.cutHoles
   holes-few [] = omega arith
-  holes-few (r ∷ rings) = go (P.cutHole b r) (holes-few rings)
+  holes-few (r ∷ rings) = go (Polygon.cutHole b r) (holes-few rings)
     where
-      go : (c : List Coord) → length (P.cutHoles b rings) ≤ length rings → length (P.unlessNone c (P.cutHoles b rings)) ≤ suc (length rings)
+      go : (c : List Coord) → length (Polygon.cutHoles b rings) ≤ length rings
+          → length (Polygon.unlessNone c (Polygon.cutHoles b rings)) ≤ suc (length rings)
       go [] h = omega arith
       go (p ∷ c) h = omega arith
 
-  holes-fit : (rings : List (List Coord)) → Every ShortRing rings → Every RingFits (P.cutHoles b rings)
-  unfolding P.cutHoles
+  holes-fit : (rings : List (List Coord)) → Every ShortRing rings → Every RingFits (Polygon.cutHoles b rings)
+  unfolding Polygon.cutHoles
   holes-fit [] w = tt
-  holes-fit (r ∷ rings) w = go (P.cutHole b r) fits (holes-fit rings (w .1))
+  holes-fit (r ∷ rings) w = go (Polygon.cutHole b r) fits (holes-fit rings (w .1))
     where
-      fits : RingFits (P.cutHole b r)
+      fits : RingFits (Polygon.cutHole b r)
       fits = omega (arith, hole-fits-room b r, room-fits (length r) (w .0))
 
-      go : (c : List Coord) → RingFits c → Every RingFits (P.cutHoles b rings) → Every RingFits (P.unlessNone c (P.cutHoles b rings))
+      go : (c : List Coord) → RingFits c → Every RingFits (Polygon.cutHoles b rings)
+          → Every RingFits (Polygon.unlessNone c (Polygon.cutHoles b rings))
       go [] f h = h
       go (p ∷ c) f h = (f, h)
 
-  cut-fits : (rings : List (List Coord)) → SmallPart rings → RoutedFits (P.cut (P.cutRings b rings))
-  unfolding P.cutRings
+  cut-fits : (rings : List (List Coord)) → SmallPart rings → RoutedFits (Polygon.cut (Polygon.cutRings b rings))
+  unfolding Polygon.cutRings
   cut-fits [] w = (omega arith, tt)
-  cut-fits (r ∷ rings) w = (omega (arith, w .0, holes-few rings), (omega (arith, cut-fits-room b r, room-fits (length r) (w .1 .0)), holes-fit rings (w .1 .1)))
+  cut-fits (r ∷ rings) w =
+      (omega (arith, w .0, holes-few rings), (omega (arith, cut-fits-room b r, room-fits (length r) (w .1 .0)), holes-fit rings (w .1 .1)))
 
   -- ---- a polygon, and a part
 
   module _ (flags : Flags) (rings : List (List Coord)) (w : SmallPart rings) where
-    by-route : (to : Route) → RoutedFits (P.routed to b rings)
-    unfolding P.overlayOrDropped
-    by-route To.Nothing = tt
-    by-route To.Unchanged = tt
-    by-route (To.Cut n) = cut-fits rings w
-    by-route (To.Overlay reason) = go (anyHugeRing rings)
+    by-route : (to : Route) → RoutedFits (Polygon.routed to b rings)
+    unfolding Polygon.overlayOrDropped
+    by-route Routes.Nothing = tt
+    by-route Routes.Unchanged = tt
+    by-route (Routes.Cut n) = cut-fits rings w
+    by-route (Routes.Overlay reason) = go (anyHugeRing rings)
       where
-        go : (t : Bool) → RoutedFits (cond t P.dropped (P.overlay reason))
+        go : (t : Bool) → RoutedFits (cond t Polygon.dropped (Polygon.overlay reason))
         go true = tt
         go false = tt
 
-    polygon-fits : RoutedFits (P.route flags b rings)
-    unfolding P.route P.routeRect
+    polygon-fits : RoutedFits (Polygon.route flags b rings)
+    unfolding Polygon.route Polygon.routeRect
     polygon-fits = go (rectangle rings)
       where
-        go : (rect : Rect) → RoutedFits (P.routeRect flags rect b rings)
+        go : (rect : Rect) → RoutedFits (Polygon.routeRect flags rect b rings)
         go Rects.Nothing = tt
         go Rects.NotFinite = tt
-        go (Rects.Box x y z t) = by-route (P.routeExterior flags (Rects.Box x y z t) b (exterior rings))
+        go (Rects.Box x y z t) = by-route (Polygon.routeExterior flags (Rects.Box x y z t) b (exterior rings))
 
     part-fits : RoutedFits (routePart flags b rings)
     unfolding routePart
     part-fits = go (intersectsBounds (rectangle rings) b) (isFullyInside (rectangle rings) b)
       where
-        go : (s t : Bool) → RoutedFits (cond s (cond t P.unchanged (P.route flags b rings)) P.nothing)
+        go : (s t : Bool) → RoutedFits (cond s (cond t Polygon.unchanged (Polygon.route flags b rings)) Polygon.nothing)
         go false t = tt
         go true true = tt
         go true false = polygon-fits
@@ -140,20 +146,27 @@ record ListingFits (n : ℕ) (l : Listing) : Type 0 where
   each-fits : Every PartFits (l .parts)
 
 module _ (i n : ℕ) (h : Fits i) (l : Listing) (w : ListingFits n l) where
-  one-more : (to : P.Routed) → RoutedFits to → ListingFits (suc n) (record { guard = P.guardCount (P.answerOf to) + l .guard; parts = listedBefore i to (l .parts) })
-  one-more P.nothing f = record { guards = omega (arith, w .guards); listed = omega (arith, w .listed); each-fits = w .each-fits }
-  one-more P.dropped f = record { guards = omega (arith, w .guards); listed = omega (arith, w .listed); each-fits = w .each-fits }
-  one-more P.unchanged f = record { guards = omega (arith, w .guards); listed = omega (arith, w .listed); each-fits = ((h, f), w .each-fits) }
-  one-more (P.cut rings) f = record { guards = omega (arith, w .guards); listed = omega (arith, w .listed); each-fits = ((h, f), w .each-fits) }
-  one-more (P.overlay reason) f = record { guards = omega (arith, w .guards); listed = omega (arith, w .listed); each-fits = ((h, f), w .each-fits) }
+  one-more : (to : Polygon.Routed) → RoutedFits to
+      → ListingFits (suc n) (record { guard = Polygon.guardCount (Polygon.answerOf to) + l .guard; parts = listedBefore i to (l .parts) })
+  one-more Polygon.nothing f = record { guards = omega (arith, w .guards); listed = omega (arith, w .listed); each-fits = w .each-fits }
+  one-more Polygon.dropped f = record { guards = omega (arith, w .guards); listed = omega (arith, w .listed); each-fits = w .each-fits }
+  one-more Polygon.unchanged f =
+      record { guards = omega (arith, w .guards); listed = omega (arith, w .listed); each-fits = ((h, f), w .each-fits) }
+  one-more (Polygon.cut rings) f =
+      record { guards = omega (arith, w .guards); listed = omega (arith, w .listed); each-fits = ((h, f), w .each-fits) }
+  one-more (Polygon.overlay reason) f =
+      record { guards = omega (arith, w .guards); listed = omega (arith, w .listed); each-fits = ((h, f), w .each-fits) }
 
-parts-fit : (flags : Flags) (b : TileBounds) (i : ℕ) (parts : List (List (List Coord))) → i + length parts ≤ mostParts → Every SmallPart parts → ListingFits (length parts) (listParts flags b i parts)
+parts-fit : (flags : Flags) (b : TileBounds) (i : ℕ) (parts : List (List (List Coord))) → i + length parts ≤ mostParts
+    → Every SmallPart parts → ListingFits (length parts) (listParts flags b i parts)
 unfolding listParts
 parts-fit flags b i [] h w = record { guards = omega arith; listed = omega arith; each-fits = tt }
 parts-fit flags b i (part ∷ parts) h w =
-    one-more i (length parts) (omega arith) (listParts flags b (suc i) parts) (parts-fit flags b (suc i) parts (omega arith) (w .1)) (routePart flags b part) (part-fits b flags part (w .0))
+    one-more i (length parts) (omega arith) (listParts flags b (suc i) parts) (parts-fit flags b (suc i) parts (omega arith) (w .1))
+    (routePart flags b part) (part-fits b flags part (w .0))
 
-module _ (flags : Flags) (b : TileBounds) (parts : List (List (List Coord))) (few : length parts ≤ mostParts) (small : Every SmallPart parts) where
+module _ (flags : Flags) (b : TileBounds) (parts : List (List (List Coord))) (few : length parts ≤ mostParts)
+    (small : Every SmallPart parts) where
   listed-fits : (l : Listing) → ListingFits (length parts) l → AnswerFits (ofParts (l .guard) (l .parts))
   listed-fits l w = go (l .parts) (w .listed) (w .each-fits)
     where
@@ -182,26 +195,33 @@ module _ (flags : Flags) (b : TileBounds) (parts : List (List (List Coord))) (fe
 
 -- ---- a frame
 
-of-polygon : (to : P.Routed) → RoutedFits to → AnswerFits (ofPolygon to)
-of-polygon P.nothing f = omega arith
-of-polygon P.dropped f = tt
-of-polygon P.unchanged f = tt
-of-polygon (P.cut rings) f = (omega arith, omega arith, ((omega arith, f), tt))
-of-polygon (P.overlay reason) f = (omega arith, omega arith, ((omega arith, f), tt))
+of-polygon : (to : Polygon.Routed) → RoutedFits to → AnswerFits (ofPolygon to)
+of-polygon Polygon.nothing f = omega arith
+of-polygon Polygon.dropped f = tt
+of-polygon Polygon.unchanged f = tt
+of-polygon (Polygon.cut rings) f = (omega arith, omega arith, ((omega arith, f), tt))
+of-polygon (Polygon.overlay reason) f = (omega arith, omega arith, ((omega arith, f), tt))
 
 only-part : (parts : List (List (List Coord))) → Every SmallPart parts → SmallPart (onlyPart parts)
 only-part [] w = (omega arith, tt)
 only-part (part ∷ parts) w = w .0
 
-module _ (flags : Flags) (b : TileBounds) (parts : List (List (List Coord))) (few : length parts ≤ mostParts) (small : Every SmallPart parts) where
-  by-kind : (t : Bool) → AnswerFits (cond t (ofPolygon (P.route flags b (onlyPart parts))) (ofMultipolygon flags b parts))
-  by-kind true = of-polygon (P.route flags b (onlyPart parts)) (polygon-fits b flags (onlyPart parts) (only-part parts small))
+module _ (flags : Flags) (b : TileBounds) (parts : List (List (List Coord))) (few : length parts ≤ mostParts)
+    (small : Every SmallPart parts) where
+  by-kind : (t : Bool) → AnswerFits (cond t (ofPolygon (Polygon.route flags b (onlyPart parts))) (ofMultipolygon flags b parts))
+  by-kind true = of-polygon (Polygon.route flags b (onlyPart parts)) (polygon-fits b flags (onlyPart parts) (only-part parts small))
   by-kind false = multipolygon-fits flags b parts few small
 
 pub counts-fit : (l : List ℕ) (f : Frame) (rest : List ℕ) → readFrame l ≡ read f rest → AnswerFits (answerTo f)
 unfolding answerTo
 counts-fit l f rest e =
     let r = frame-read l f rest e in
-    let few : length (f .parts) ≤ mostParts = omega (arith, many-length readPart (partCountOf l) (drop headBytes l) (f .parts) rest (r .parts), r .few) in
-    let small : Every SmallPart (f .parts) = many-every readPart SmallPart small-part (partCountOf l) (drop headBytes l) (f .parts) rest (r .parts) in
-    by-kind (flagsIn (f .head)) (boundsIn (f .head)) (f .parts) few small (eqb (f .head .kind) polygon)
+    let few : length (f .parts) ≤ mostParts = omega (
+      arith,
+      many-length readPart (partCountOf l) (drop headBytes l) (f .parts) rest
+          (r .parts),
+      r .few,
+    ) in
+    let small : Every SmallPart (f .parts) = many-every readPart SmallPart small-part (partCountOf l) (drop headBytes l) (f .parts)
+    rest (r .parts) in
+    by-kind (flagsIn (f .head)) (boundsIn (f .head)) (f .parts) few small (eqb (f .head .kind) polygonKind)

@@ -1,4 +1,5 @@
--- The frame call: a frame that is read has room for its parts, its answer is the one that its rectangle leads to, and the answer's bytes fit the output. Assumes nothing.
+-- The frame call: a frame that is read has room for its parts, its answer is the one that its rectangle leads to, and the answer's bytes
+-- fit the output. Assumes nothing.
 use mathlib.Core.Path.{_≡_, refl, sym, _∙_, ap, subst}
 use mathlib.Core.Bool.{Bool, true, false, not, cond, _&&_, and-true, true≢false}
 use mathlib.Core.List.{List, [], _∷_}
@@ -16,43 +17,45 @@ use Rattle.sutherland_hodgman.specs.Growth.{B}
 use Rattle.rings.specs.declared.rectangle.Rect.{Rect}
 use Rattle.rings.specs.declared.rectangle.Rect.the-variants as Rects
 use Rattle.rings.specs.Rectangle.{rectangle, withRings, intersectsBounds, isFullyInside, withParts}
-use Rattle.rings.specs.Rings.{total, exterior}
+use Rattle.rings.specs.LentRings.{total, exterior}
 use Rattle.clip.specs.declared.polygon.Flags.{Flags}
-use Rattle.clip.specs.Polygon as P
+use Rattle.clip.specs.Polygon as Polygon
 use Rattle.frame_bytes.specs.declared.head.Head.{Head}
 use Rattle.frame_bytes.specs.declared.reader.FrameRefusal.{FrameRefusal}
 use Rattle.frame_bytes.specs.declared.reader.FrameCheck.the-variants.{Fails}
-use Rattle.frame_bytes.specs.Frame.{Reading, refused, read, checkOf, Accepted, polygon, multipolygon, longest, mostParts, mostInRing, headBytes, readPart, Frame, kindOf, partCountOf, wrongKind, wrongPartCount, headOf, readFrame, allIn, partAt}
-use Rattle.frame_bytes.specs.Room.{leastRoom, coordinateBytes, partRoom, room, frameRoom, readCall}
+use Rattle.frame_bytes.specs.Frame.{Reading, refused, read, polygonKind, multipolygonKind, longest, mostParts, mostInRing, headBytes}
+use Rattle.frame_bytes.specs.Frame.{readPart, Frame, kindOf, partCountOf, wrongKind, wrongPartCount, headOf, readFrame}
+use Rattle.frame_bytes.specs.Contracts.{checkOf, Accepted, allIn, partAt, frameRoom, frameRect, soundIfSimple}
+use Rattle.frame_bytes.specs.Room.{leastRoom, coordinateBytes, partRoom, outputRoom, readCall}
 use Rattle.frame_bytes.specs.Encoding.{each, coordBytes, headerBytes}
-use Rattle.frame_bytes.specs.Measure.{frameRect, soundIfSimple}
 use Rattle.frame_bytes.proofs.Readings.{taken, many-length, frame-read}
 use Rattle.frame_bytes.proofs.Rooms.{mostPart, parts-le, frame-head, frame-few, frame-parts, call-read}
 use Rattle.frame_bytes.proofs.Writing.{each-append, length-header}
 use Rattle.frame_bytes.proofs.SimpleExteriors.{sound-part}
 use Rattle.frames.specs.declared.entry.FrameAnswer.the-variants.{Refused, Answered}
-use Rattle.frames.specs.Answer.{Part, Answer, Nothing, Unchanged, ofPolygon, routePart, listedBefore, listParts, ofParts, ifBox, ofMultipolygon, flagsIn, boundsIn, onlyPart, answerTo}
-use Rattle.frames.specs.Output.{partBytes, answerBytes, frameBytes, outputAfter, frameCallOutput}
-use Rattle.frames.specs.Part.{PartRoom}
-use Rattle.frames.specs.Parts.{partsFrom, ofListing, Answers}
-use Rattle.frames.specs.Entry.{answerOfReading, frameCallAnswer, partsOf, answerRead, answerMeasured, unchangedAtOnce, PartsReady, Answerable, Cuttable}
+use Rattle.frames.specs.Answer.{Part, Answer, Nothing, Unchanged, ofPolygon, routePart, listedBefore, listParts, ofParts, ifBox}
+use Rattle.frames.specs.Answer.{ofMultipolygon, flagsIn, boundsIn, onlyPart, answerTo}
+use Rattle.frames.specs.Output.{partBytes, answerBytes, frameBytes, outputOf, frameCallOutput}
+use Rattle.frames.specs.Contracts.{PartRoom, partsFrom, ofListing, Answers, partsOf, answerRead, answerMeasured, unchangedAtOnce}
+use Rattle.frames.specs.Contracts.{PartsReady, Answerable, Cuttable}
+use Rattle.frames.specs.FrameCall.{answerOfReading, frameCallAnswer}
 use Rattle.frames.proofs.Listings.{routed-as, listed-append, routed-fits, listed-fits, NextPart, next-part, part-next, part-room}
 use Rattle.frames.proofs.Sizes.{parts-fit}
 
 -- ---- what an accepted frame holds
 
 -- a polygon has one part
-one-part : (kind parts : ℕ) → wrongPartCount kind parts ≡ false → eqb kind polygon ≡ true → parts ≡ 1
+one-part : (kind parts : ℕ) → wrongPartCount kind parts ≡ false → eqb kind polygonKind ≡ true → parts ≡ 1
 one-part kind parts e k =
-    let n = neither (eqb kind polygon && not (eqb parts 1)) _ e .0 in
+    let n = neither (eqb kind polygonKind && not (eqb parts 1)) _ e .0 in
     let m : not (eqb parts 1) ≡ false = rw k at n in
     eqb-true parts 1 (not-false (eqb parts 1) m)
 
 -- there are two kinds
-other-kind : (kind : ℕ) → wrongKind kind ≡ false → eqb kind multipolygon ≡ not (eqb kind polygon)
-other-kind kind e = go (eqb kind polygon) (eqb kind multipolygon) refl refl
+other-kind : (kind : ℕ) → wrongKind kind ≡ false → eqb kind multipolygonKind ≡ not (eqb kind polygonKind)
+other-kind kind e = go (eqb kind polygonKind) (eqb kind multipolygonKind) refl refl
   where
-    go : (s t : Bool) → eqb kind polygon ≡ s → eqb kind multipolygon ≡ t → t ≡ not s
+    go : (s t : Bool) → eqb kind polygonKind ≡ s → eqb kind multipolygonKind ≡ t → t ≡ not s
     go true true f g = let p = eqb-true kind 3 f in let q = eqb-true kind 6 g in absurd (omega (arith, p, q))
     go true false f g = refl
     go false true f g = refl
@@ -63,11 +66,11 @@ pub record Holds (frame : List ℕ) : Type 0 where
   pub parts-from : partsFrom frame headBytes (partCountOf frame) ≡ partsOf (readFrame frame)
   pub rect : frameRect (readFrame frame) ≡ withParts Rects.Nothing (partsOf (readFrame frame))
   pub fits : frameRoom coordinateBytes (readFrame frame) ≡ leastRoom + total (partRoom coordinateBytes) (partsOf (readFrame frame))
-  pub kinds : eqb (kindOf frame) multipolygon ≡ not (eqb (kindOf frame) polygon)
-  pub only : eqb (kindOf frame) polygon ≡ true → partCountOf frame ≡ 1
+  pub kinds : eqb (kindOf frame) multipolygonKind ≡ not (eqb (kindOf frame) polygonKind)
+  pub only : eqb (kindOf frame) polygonKind ≡ true → partCountOf frame ≡ 1
 
 pub holds : (frame : List ℕ) → Accepted (readFrame frame) → Holds frame
-unfolding room
+unfolding outputRoom
 holds frame a = let t = taken (readFrame frame) a in go (t .value) (t .rest) (t .is)
   where
     go : (f : Frame) (rest : List ℕ) → readFrame frame ≡ read f rest → Holds frame
@@ -92,12 +95,15 @@ ready frame head m ring a b order out c small hm hring ha hb horder =
     let x = y .accepted in
     let h = holds frame x in
     let k = partCountOf frame in
-    let finite : withParts Rects.Nothing (partsFrom frame headBytes k) ≡ Rects.NotFinite → ⊥ = λ z. c .finite (h .rect ∙ rw (← h .parts-from) z) in
+    let finite : withParts Rects.Nothing (partsFrom frame headBytes k) ≡ Rects.NotFinite
+    → ⊥ = λ z. c .finite (h .rect ∙ rw (← h .parts-from) z) in
     subst (λ (g : Head). PartsReady frame g ring a b order out) (sym (y .head-read)) (record {
       room = record {
         within = frame-head frame x;
         accepted = frame-parts frame x;
-        workable = parts-fit frame m small ring a b order hm hring ha hb horder k headBytes Rects.Nothing (omega arith) (frame-head frame x) (frame-parts frame x) finite;
+        workable =
+            parts-fit frame m small ring a b order hm hring ha hb horder k headBytes Rects.Nothing (omega arith) (frame-head frame x)
+            (frame-parts frame x) finite;
         output = rw (h .parts-from) (omega (arith, h .fits, y .output));
       };
       few = frame-few frame x;
@@ -105,48 +111,57 @@ ready frame head m ring a b order out c small hm hring ha hb horder =
     })
 
 -- the parts that are read are those from the head's end on
-pub parts-read : (frame : List ℕ) (head : Head) (out : ℕ) → Answerable frame head out → partsFrom frame headBytes (head .parts) ≡ partsOf (readFrame frame)
+pub parts-read : (frame : List ℕ) (head : Head) (out : ℕ) → Answerable frame head out → partsFrom frame headBytes (head .parts)
+    ≡ partsOf (readFrame frame)
 parts-read frame head out y = rw (y .head-read) (holds frame (y .accepted) .parts-from)
 
 -- what is answered as if rect were the rectangle: of a polygon's only part, and of a listing
-module _ (frame : List ℕ) (head : Head) (ring a b order out : ℕ) (r : PartsReady frame head ring a b order out) (k : eqb (head .kind) polygon ≡ true) where
+module _ (frame : List ℕ) (head : Head) (ring a b order out : ℕ) (r : PartsReady frame head ring a b order out)
+    (k : eqb (head .kind) polygonKind ≡ true) where
   pub only-room : PartRoom frame headBytes ring a b order out leastRoom
   only-room = part-room (flagsIn head) (head .bounds) frame headBytes (head .parts) ring a b order out leastRoom (r .some k) (r .room)
 
-  pub only-part : (rect : Rect) (bounds : TileBounds) → answerMeasured head rect bounds (partsFrom frame headBytes (head .parts)) ≡ ofPolygon (P.routeMeasured (flagsIn head) rect bounds (partAt frame headBytes))
-  only-part rect bounds = rw (k, part-next (flagsIn head) (head .bounds) frame headBytes (head .parts) ring a b order out leastRoom (r .some k) (r .room) .here)
+  pub only-part : (rect : Rect) (bounds : TileBounds) → answerMeasured head rect bounds (partsFrom frame headBytes (head .parts))
+      ≡ ofPolygon (Polygon.routeMeasured (flagsIn head) rect bounds (partAt frame headBytes))
+  only-part rect bounds =
+      rw (k, part-next (flagsIn head) (head .bounds) frame headBytes (head .parts) ring a b order out leastRoom (r .some k) (r .room) .here)
 
 pub as-answer : {x y : Answer} {out out′ : List ℕ} {r : ℕ} → x ≡ y → Answers y out r out′ → Answers x out r out′
 as-answer e a = rw e a
 
 -- what is no multipolygon
-pub polygon-else : (frame : List ℕ) (head : Head) → Accepted (readFrame frame) → head ≡ headOf frame → (head .kind ≡ multipolygon → ⊥) → eqb (kindOf frame) polygon ≡ true
+pub polygon-else : (frame : List ℕ) (head : Head) → Accepted (readFrame frame) → head ≡ headOf frame
+    → (head .kind ≡ multipolygonKind → ⊥) → eqb (kindOf frame) polygonKind ≡ true
 polygon-else frame head a hd n =
-    let e : eqb (kindOf frame) multipolygon ≡ false = rw hd at (ne-eqb (head .kind) multipolygon n) in
-    not-false (eqb (kindOf frame) polygon) (sym (holds frame a .kinds) ∙ e)
+    let e : eqb (kindOf frame) multipolygonKind ≡ false = rw hd at (ne-eqb (head .kind) multipolygonKind n) in
+    not-false (eqb (kindOf frame) polygonKind) (sym (holds frame a .kinds) ∙ e)
 
 -- a polygon's only part, as it stands in the frame
-module _ (frame : List ℕ) (a : Accepted (readFrame frame)) (k : eqb (kindOf frame) polygon ≡ true) where
+module _ (frame : List ℕ) (a : Accepted (readFrame frame)) (k : eqb (kindOf frame) polygonKind ≡ true) where
   only-next : NextPart frame headBytes (partCountOf frame)
-  only-next = next-part frame headBytes (partCountOf frame) (frame-head frame a) (omega (arith, holds frame a .only k)) (frame-parts frame a)
+  only-next =
+      next-part frame headBytes (partCountOf frame) (frame-head frame a) (omega (arith, holds frame a .only k)) (frame-parts frame a)
 
   pub only-accepted : Accepted (readPart (drop headBytes frame))
   only-accepted = only-next .accepted
 
-  pub only-sound : soundIfSimple (readPart (drop headBytes frame)) ≡ not (hasIssue (issueOf true (exterior (onlyPart (partsOf (readFrame frame))))))
+  pub only-sound : soundIfSimple (readPart (drop headBytes frame)) ≡ not
+      (hasIssue (issueOf true (exterior (onlyPart (partsOf (readFrame frame))))))
   only-sound =
-      let same : onlyPart (partsOf (readFrame frame)) ≡ partAt frame headBytes = ap onlyPart (sym (holds frame a .parts-from) ∙ only-next .here) in
+      let same : onlyPart (partsOf (readFrame frame)) ≡ partAt frame headBytes =
+      ap onlyPart (sym (holds frame a .parts-from) ∙ only-next .here) in
       rw same (sound-part frame headBytes only-accepted)
 
 -- ---- the answer, by the rectangle
 
 -- one that is finite: nothing has no coordinate, so that it is apart
 pub record Apart (rect : Rect) (flags : Flags) (b : TileBounds) : Type 0 where
-  pub route : (rings : List (List Coord)) → P.routeRect flags rect b rings ≡ P.routeMeasured flags rect b rings
-  pub whole : (answer : Answer) → ifBox rect (cond (intersectsBounds rect b) answer (Nothing 0)) ≡ cond (intersectsBounds rect b) answer (Nothing 0)
+  pub route : (rings : List (List Coord)) → Polygon.routeRect flags rect b rings ≡ Polygon.routeMeasured flags rect b rings
+  pub whole : (answer : Answer) → ifBox rect (cond (intersectsBounds rect b) answer (Nothing 0)) ≡ cond (intersectsBounds rect b)
+      answer (Nothing 0)
 
 finite-rect : (rect : Rect) (flags : Flags) (b : TileBounds) → (rect ≡ Rects.NotFinite → ⊥) → Apart rect flags b
-unfolding P.routeRect P.routeExterior intersectsBounds
+unfolding Polygon.routeRect Polygon.routeExterior intersectsBounds
 finite-rect Rects.Nothing flags b q = record { route = λ rings. refl; whole = λ answer. refl }
 finite-rect Rects.NotFinite flags b q = absurd (q refl)
 finite-rect (Rects.Box w s e n) flags b q = record { route = λ rings. refl; whole = λ answer. refl }
@@ -159,11 +174,13 @@ one (part ∷ other ∷ parts) e = absurd (omega (arith, e))
 
 -- the answer to a polygon, by the rectangle of all parts
 pub record Read (frame : List ℕ) (head : Head) : Type 0 where
-  pub multipolygon : eqb (head .kind) polygon ≡ false → answerRead (readFrame frame) ≡ ofMultipolygon (flagsIn head) (boundsIn head) (partsOf (readFrame frame))
-  pub polygon-rect : eqb (head .kind) polygon ≡ true → answerRead (readFrame frame) ≡ ofPolygon (P.routeRect (flagsIn head) (frameRect (readFrame frame)) (boundsIn head) (onlyPart (partsOf (readFrame frame))))
+  pub multipolygon : eqb (head .kind) polygonKind ≡ false → answerRead (readFrame frame) ≡ ofMultipolygon (flagsIn head) (boundsIn head)
+      (partsOf (readFrame frame))
+  pub polygon-rect : eqb (head .kind) polygonKind ≡ true → answerRead (readFrame frame) ≡ ofPolygon
+      (Polygon.routeRect (flagsIn head) (frameRect (readFrame frame)) (boundsIn head) (onlyPart (partsOf (readFrame frame))))
 
 pub read-answer : (frame : List ℕ) (head : Head) → Accepted (readFrame frame) → head ≡ headOf frame → Read frame head
-unfolding answerTo P.route
+unfolding answerTo Polygon.route
 read-answer frame head a hd = let t = taken (readFrame frame) a in go (t .value) (t .rest) (t .is)
   where
     go : (f : Frame) (rest : List ℕ) → readFrame frame ≡ read f rest → Read frame head
@@ -173,22 +190,26 @@ read-answer frame head a hd = let t = taken (readFrame frame) a in go (t .value)
         record {
           multipolygon = λ k. rw (e, h, k);
           polygon-rect = λ k.
-              let n : length (f .parts) ≡ 1 = many-length readPart (partCountOf frame) _ _ _ (r .parts) ∙ one-part (kindOf frame) (partCountOf frame) (r .count) (rw hd at k) in
+              let n : length (f .parts) ≡ 1 = many-length readPart (partCountOf frame) _ _ _ (r .parts)
+              ∙ one-part (kindOf frame) (partCountOf frame) (r .count) (rw hd at k) in
               rw (e, h, k, one (f .parts) n);
         }
 
 module _ (frame : List ℕ) (head : Head) (a : Accepted (readFrame frame)) (hd : head ≡ headOf frame) where
   -- no coordinate, or one that is not finite: this is answered whatever the frame lists
-  pub unmeasured : (rect : Rect) (answer : Answer) → frameRect (readFrame frame) ≡ rect → ((b : TileBounds) (rings : List (List Coord)) → ofPolygon (P.routeRect (flagsIn head) rect b rings) ≡ answer) → ((other : Answer) → ifBox rect other ≡ answer) → answerRead (readFrame frame) ≡ answer
+  pub unmeasured : (rect : Rect) (answer : Answer) → frameRect (readFrame frame) ≡ rect
+      → ((b : TileBounds) (rings : List (List Coord)) → ofPolygon (Polygon.routeRect (flagsIn head) rect b rings) ≡ answer)
+      → ((other : Answer) → ifBox rect other ≡ answer) → answerRead (readFrame frame) ≡ answer
   unfolding ofMultipolygon
-  unmeasured rect answer q p m = go (eqb (head .kind) polygon) refl
+  unmeasured rect answer q p m = go (eqb (head .kind) polygonKind) refl
     where
-      go : (t : Bool) → eqb (head .kind) polygon ≡ t → answerRead (readFrame frame) ≡ answer
+      go : (t : Bool) → eqb (head .kind) polygonKind ≡ t → answerRead (readFrame frame) ≡ answer
       go true k = read-answer frame head a hd .polygon-rect k ∙ rw q (p (boundsIn head) (onlyPart (partsOf (readFrame frame))))
       go false k = read-answer frame head a hd .multipolygon k ∙ rw (← holds frame a .rect, q) (m _)
 
 -- one that is finite
-module _ (frame : List ℕ) (head : Head) (out : ℕ) (c : Cuttable frame head out) (rect : Rect) (b : TileBounds) (er : rect ≡ frameRect (readFrame frame)) (eb : b ≡ boundsIn head) where
+module _ (frame : List ℕ) (head : Head) (out : ℕ) (c : Cuttable frame head out) (rect : Rect) (b : TileBounds)
+    (er : rect ≡ frameRect (readFrame frame)) (eb : b ≡ boundsIn head) where
   abbrev parts : List (List (List Coord))
   parts = partsOf (readFrame frame)
 
@@ -198,31 +219,34 @@ module _ (frame : List ℕ) (head : Head) (out : ℕ) (c : Cuttable frame head o
   by-rect : Apart rect (flagsIn head) b
   by-rect = finite-rect rect (flagsIn head) b (λ z. c .finite (sym er ∙ z))
 
-  of-polygon : eqb (head .kind) polygon ≡ true → answerRead (readFrame frame) ≡ ofPolygon (P.routeMeasured (flagsIn head) rect b (onlyPart parts))
+  of-polygon : eqb (head .kind) polygonKind ≡ true → answerRead (readFrame frame) ≡ ofPolygon
+      (Polygon.routeMeasured (flagsIn head) rect b (onlyPart parts))
   of-polygon k = by-kind .polygon-rect k ∙ rw (← er, ← eb) (ap ofPolygon (by-rect .route (onlyPart parts)))
 
-  of-multipolygon : eqb (head .kind) polygon ≡ false → answerRead (readFrame frame) ≡ cond (intersectsBounds rect b) (cond (isFullyInside rect b) Unchanged (ofListing (listParts (flagsIn head) b 0 parts))) (Nothing 0)
+  of-multipolygon : eqb (head .kind) polygonKind ≡ false → answerRead (readFrame frame) ≡ cond (intersectsBounds rect b)
+      (cond (isFullyInside rect b) Unchanged (ofListing (listParts (flagsIn head) b 0 parts))) (Nothing 0)
   unfolding ofMultipolygon
   of-multipolygon k = by-kind .multipolygon k ∙ rw (← holds frame (c .answerable .accepted) .rect, ← er, ← eb) (by-rect .whole _)
 
   pub apart : intersectsBounds rect b ≡ false → answerRead (readFrame frame) ≡ Nothing 0
-  unfolding P.routeExterior
-  apart i = go (eqb (head .kind) polygon) refl
+  unfolding Polygon.routeExterior
+  apart i = go (eqb (head .kind) polygonKind) refl
     where
-      go : (t : Bool) → eqb (head .kind) polygon ≡ t → answerRead (readFrame frame) ≡ Nothing 0
+      go : (t : Bool) → eqb (head .kind) polygonKind ≡ t → answerRead (readFrame frame) ≡ Nothing 0
       go true k = of-polygon k ∙ rw i
       go false k = of-multipolygon k ∙ rw i
 
-  other-kinds : (t : Bool) → eqb (head .kind) polygon ≡ t → eqb (head .kind) multipolygon ≡ not t
+  other-kinds : (t : Bool) → eqb (head .kind) polygonKind ≡ t → eqb (head .kind) multipolygonKind ≡ not t
   other-kinds t k = rw (← k, c .answerable .head-read) (holds frame (c .answerable .accepted) .kinds)
 
   pub inside : intersectsBounds rect b ≡ true → unchangedAtOnce head rect b parts ≡ true → answerRead (readFrame frame) ≡ Unchanged
-  unfolding P.routeExterior
-  inside i j = go (eqb (head .kind) polygon) refl
+  unfolding Polygon.routeExterior
+  inside i j = go (eqb (head .kind) polygonKind) refl
     where
-      go : (t : Bool) → eqb (head .kind) polygon ≡ t → answerRead (readFrame frame) ≡ Unchanged
+      go : (t : Bool) → eqb (head .kind) polygonKind ≡ t → answerRead (readFrame frame) ≡ Unchanged
       go true k =
-          let u : (isFullyInside rect b && (head .«assume_simple» && not (hasIssue (issueOf true (exterior (onlyPart parts)))))) ≡ true = rw (other-kinds true k) at j in
+          let u : (isFullyInside rect b && (head .«assume_simple» && not (hasIssue (issueOf true (exterior (onlyPart parts)))))) ≡ true
+          = rw (other-kinds true k) at j in
           let v = both (isFullyInside rect b) _ u in
           let w = both (head .«assume_simple») _ (v .1) in
           of-polygon k ∙ rw (i, w .0, not-true (hasIssue (issueOf true (exterior (onlyPart parts)))) (w .1), v .0)
@@ -230,10 +254,11 @@ module _ (frame : List ℕ) (head : Head) (out : ℕ) (c : Cuttable frame head o
           let u : (isFullyInside rect b && true) ≡ true = rw (other-kinds false k) at j in
           of-multipolygon k ∙ rw (i, both (isFullyInside rect b) true u .0)
 
-  pub measured : intersectsBounds rect b ≡ true → unchangedAtOnce head rect b parts ≡ false → answerRead (readFrame frame) ≡ answerMeasured head rect b parts
-  measured i j = go (eqb (head .kind) polygon) refl
+  pub measured : intersectsBounds rect b ≡ true → unchangedAtOnce head rect b parts ≡ false → answerRead (readFrame frame)
+      ≡ answerMeasured head rect b parts
+  measured i j = go (eqb (head .kind) polygonKind) refl
     where
-      go : (t : Bool) → eqb (head .kind) polygon ≡ t → answerRead (readFrame frame) ≡ answerMeasured head rect b parts
+      go : (t : Bool) → eqb (head .kind) polygonKind ≡ t → answerRead (readFrame frame) ≡ answerMeasured head rect b parts
       go true k = of-polygon k ∙ rw k
       go false k =
           let u : (isFullyInside rect b && true) ≡ false = rw (other-kinds false k) at j in
@@ -241,62 +266,85 @@ module _ (frame : List ℕ) (head : Head) (out : ℕ) (c : Cuttable frame head o
 
 -- ---- the answer's bytes have room
 
-listing-fits : (flags : Flags) (b : TileBounds) (i : ℕ) (parts : List (List (List Coord))) → length (each (partBytes coordBytes) (listParts flags b i parts .parts)) ≤ total (partRoom 16) parts
+listing-fits : (flags : Flags) (b : TileBounds) (i : ℕ) (parts : List (List (List Coord)))
+    → length (each (partBytes coordBytes) (listParts flags b i parts .parts)) ≤ total (partRoom 16) parts
 unfolding listParts total each
 listing-fits flags b i [] = omega arith
 listing-fits flags b i (part ∷ parts) =
     let f = partBytes coordBytes in
     let to = routePart flags b part in
     let l = listParts flags b (suc i) parts .parts in
-    let one : length (each f (listedBefore i to [])) ≤ partRoom 16 part = rw (← routed-as flags b part) (listed-fits i b part flags (rectangle part)) in
-    omega (arith, ap (λ (x : List Part). length (each f x)) (listed-append i to l), ap length (each-append f (listedBefore i to []) l), length-append (each f (listedBefore i to [])) (each f l), listing-fits flags b (suc i) parts)
+    let one : length (each f (listedBefore i to [])) ≤ partRoom 16 part = rw (← routed-as flags b part)
+    (listed-fits i b part flags (rectangle part)) in
+    omega (
+      arith,
+      ap (λ (x : List Part). length (each f x)) (listed-append i to l),
+      ap length (each-append f (listedBefore i to []) l),
+      length-append (each f (listedBefore i to [])) (each f l),
+      listing-fits flags b (suc i) parts,
+    )
 
-parts-bytes : (guard : ℕ) (parts : List Part) → length (answerBytes coordBytes (ofParts guard parts)) ≤ 5 + length (each (partBytes coordBytes) parts)
+parts-bytes : (guard : ℕ) (parts : List Part) → length (answerBytes coordBytes (ofParts guard parts)) ≤ 5 + length
+    (each (partBytes coordBytes) parts)
 unfolding answerBytes
 parts-bytes guard [] = omega (arith, length-header 0 guard 0)
-parts-bytes guard (part ∷ parts) = omega (arith, length-append (headerBytes 3 guard (length (part ∷ parts))) (each (partBytes coordBytes) (part ∷ parts)), length-header 3 guard (length (part ∷ parts)))
+parts-bytes guard (part ∷ parts) =
+    omega (
+      arith,
+      length-append (headerBytes 3 guard (length (part ∷ parts))) (each (partBytes coordBytes) (part ∷ parts)),
+      length-header 3 guard (length (part ∷ parts)),
+    )
 
-polygon-bytes : (to : P.Routed) → length (answerBytes coordBytes (ofPolygon to)) ≤ 5 + length (each (partBytes coordBytes) (listedBefore 0 to []))
+polygon-bytes : (to : Polygon.Routed) → length (answerBytes coordBytes (ofPolygon to)) ≤ 5 + length
+    (each (partBytes coordBytes) (listedBefore 0 to []))
 unfolding answerBytes
-polygon-bytes P.nothing = omega (arith, length-header 0 0 0)
-polygon-bytes P.dropped = omega (arith, length-header 1 1 0)
-polygon-bytes P.unchanged = omega (arith, length-header 2 0 0)
-polygon-bytes (P.cut rings) = parts-bytes 0 (record { index = 0; outcome = P.cut rings } ∷ [])
-polygon-bytes (P.overlay reason) = parts-bytes 0 (record { index = 0; outcome = P.overlay reason } ∷ [])
+polygon-bytes Polygon.nothing = omega (arith, length-header 0 0 0)
+polygon-bytes Polygon.dropped = omega (arith, length-header 1 1 0)
+polygon-bytes Polygon.unchanged = omega (arith, length-header 2 0 0)
+polygon-bytes (Polygon.cut rings) = parts-bytes 0 (record { index = 0; outcome = Polygon.cut rings } ∷ [])
+polygon-bytes (Polygon.overlay reason) = parts-bytes 0 (record { index = 0; outcome = Polygon.overlay reason } ∷ [])
 
-route-fits : (flags : Flags) (rect : Rect) (b : TileBounds) (rings : List (List Coord)) → length (each (partBytes coordBytes) (listedBefore 0 (P.routeRect flags rect b rings) [])) ≤ partRoom 16 rings
-unfolding P.routeRect each
+route-fits : (flags : Flags) (rect : Rect) (b : TileBounds) (rings : List (List Coord))
+    → length (each (partBytes coordBytes) (listedBefore 0 (Polygon.routeRect flags rect b rings) [])) ≤ partRoom 16 rings
+unfolding Polygon.routeRect each
 route-fits flags Rects.Nothing b rings = omega arith
 route-fits flags Rects.NotFinite b rings = omega arith
-route-fits flags (Rects.Box w s e n) b rings = routed-fits 0 b rings (P.routeExterior flags (Rects.Box w s e n) b (exterior rings))
+route-fits flags (Rects.Box w s e n) b rings = routed-fits 0 b rings (Polygon.routeExterior flags (Rects.Box w s e n) b (exterior rings))
 
-polygon-fits : (flags : Flags) (b : TileBounds) (parts : List (List (List Coord))) → length (answerBytes coordBytes (ofPolygon (P.route flags b (onlyPart parts)))) ≤ 5 + total (partRoom 16) parts
-unfolding P.route P.routeRect withRings total answerBytes
+polygon-fits : (flags : Flags) (b : TileBounds) (parts : List (List (List Coord)))
+    → length (answerBytes coordBytes (ofPolygon (Polygon.route flags b (onlyPart parts)))) ≤ 5 + total (partRoom 16) parts
+unfolding Polygon.route Polygon.routeRect withRings total answerBytes
 polygon-fits flags b [] = omega (arith, length-header 0 0 0)
-polygon-fits flags b (part ∷ parts) = omega (arith, polygon-bytes (P.route flags b part), route-fits flags (rectangle part) b part)
+polygon-fits flags b (part ∷ parts) = omega (arith, polygon-bytes (Polygon.route flags b part), route-fits flags (rectangle part) b part)
 
-multipolygon-fits : (flags : Flags) (b : TileBounds) (parts : List (List (List Coord))) → length (answerBytes coordBytes (ofMultipolygon flags b parts)) ≤ 5 + total (partRoom 16) parts
+multipolygon-fits : (flags : Flags) (b : TileBounds) (parts : List (List (List Coord)))
+    → length (answerBytes coordBytes (ofMultipolygon flags b parts)) ≤ 5 + total (partRoom 16) parts
 unfolding ofMultipolygon answerBytes
 multipolygon-fits flags b parts = let whole = withParts Rects.Nothing parts in go whole (intersectsBounds whole b) (isFullyInside whole b)
   where
-    go : (r : Rect) (i j : Bool) → length (answerBytes coordBytes (ifBox r (cond i (cond j Unchanged (ofListing (listParts flags b 0 parts))) (Nothing 0)))) ≤ 5 + total (partRoom 16) parts
+    go : (r : Rect) (i j : Bool) → length (answerBytes coordBytes
+        (ifBox r (cond i (cond j Unchanged (ofListing (listParts flags b 0 parts))) (Nothing 0)))) ≤ 5 + total (partRoom 16) parts
     go Rects.Nothing i j = omega (arith, length-header 0 0 0)
     go Rects.NotFinite i j = omega (arith, length-header 1 1 0)
     go (Rects.Box w s e n) false j = omega (arith, length-header 0 0 0)
     go (Rects.Box w s e n) true true = omega (arith, length-header 2 0 0)
-    go (Rects.Box w s e n) true false = omega (arith, parts-bytes (listParts flags b 0 parts .guard) (listParts flags b 0 parts .parts), listing-fits flags b 0 parts)
+    go (Rects.Box w s e n) true false =
+        omega (arith, parts-bytes (listParts flags b 0 parts .guard) (listParts flags b 0 parts .parts), listing-fits flags b 0 parts)
 
-answer-fits : (f : Frame) → length (frameBytes f) ≤ room coordinateBytes (f .parts)
-unfolding answerTo room
-answer-fits f = go (eqb (f .head .kind) polygon)
+answer-fits : (f : Frame) → length (frameBytes f) ≤ outputRoom coordinateBytes (f .parts)
+unfolding answerTo outputRoom
+answer-fits f = go (eqb (f .head .kind) polygonKind)
   where
-    go : (t : Bool) → length (answerBytes coordBytes (cond t (ofPolygon (P.route (flagsIn (f .head)) (boundsIn (f .head)) (onlyPart (f .parts)))) (ofMultipolygon (flagsIn (f .head)) (boundsIn (f .head)) (f .parts)))) ≤ 5 + total (partRoom 16) (f .parts)
+    go : (t : Bool) → length (answerBytes coordBytes
+        (cond t (ofPolygon (Polygon.route (flagsIn (f .head)) (boundsIn (f .head)) (onlyPart (f .parts))))
+        (ofMultipolygon (flagsIn (f .head)) (boundsIn (f .head)) (f .parts)))) ≤ 5 + total (partRoom 16) (f .parts)
     go true = polygon-fits (flagsIn (f .head)) (boundsIn (f .head)) (f .parts)
     go false = multipolygon-fits (flagsIn (f .head)) (boundsIn (f .head)) (f .parts)
 
 -- ---- the call
 
-pub call-accepts : (frame : List ℕ) (n : ℕ) → Accepted (readCall frame n) → Accepted (readFrame frame) × (frameRoom coordinateBytes (readFrame frame) ≤ n)
+pub call-accepts : (frame : List ℕ) (n : ℕ) → Accepted (readCall frame n) → Accepted (readFrame frame)
+    × (frameRoom coordinateBytes (readFrame frame) ≤ n)
 call-accepts frame n a =
     let t = taken (readCall frame n) a in
     let c = call-read frame n (t .value) (t .rest) (t .is) in
@@ -314,13 +362,14 @@ call-answers frame out out′ r a x = let t = taken (readCall frame (length out)
         let fits : length (frameBytes f) ≤ length out = omega (arith, answer-fits f, c .1) in
         (rw (e, x .count, same), x .output ∙ rw (e, same) (whole-over (frameBytes f) out fits))
 
-pub call-refuses : (x : Reading Frame) (r : FrameRefusal) (out : List ℕ) → checkOf x ≡ Fails r → (Refused r ≡ answerOfReading x) × (out ≡ outputAfter x out)
+pub call-refuses : (x : Reading Frame) (r : FrameRefusal) (out : List ℕ) → checkOf x ≡ Fails r → (Refused r ≡ answerOfReading x)
+    × (out ≡ outputOf x out)
 call-refuses (refused s) r out e = let same : s ≡ r = cc in (rw same, refl)
 call-refuses (read f rest) r out e = absurd (let z : _≡_ {A = ℕ} 0 1 = cc in omega arith)
 
 -- an answer's count is small: it fits an i64
 pub answered-few : (frame : List ℕ) (out n : ℕ) → answerOfReading (readCall frame out) ≡ Answered n → n ≤ leastRoom + mostParts * mostPart
-unfolding room
+unfolding outputRoom
 answered-few frame out n q = go (readCall frame out) refl q
   where
     go : (x : Reading Frame) → readCall frame out ≡ x → answerOfReading x ≡ Answered n → n ≤ leastRoom + mostParts * mostPart
@@ -329,5 +378,6 @@ answered-few frame out n q = go (readCall frame out) refl q
         let c = call-read frame out f rest e in
         let r = frame-read frame f rest (c .0) in
         let same : length (frameBytes f) ≡ n = cc in
-        let most : total (partRoom coordinateBytes) (f .parts) ≤ partCountOf frame * mostPart = rw (r .parts) at (parts-le 0 (partCountOf frame) (drop headBytes frame) (frame-parts frame (rw (c .0)))) in
+        let most : total (partRoom coordinateBytes) (f .parts) ≤ partCountOf frame * mostPart =
+        rw (r .parts) at (parts-le 0 (partCountOf frame) (drop headBytes frame) (frame-parts frame (rw (c .0)))) in
         omega (arith, same, answer-fits f, most, r .few)

@@ -1,4 +1,5 @@
--- The rings of an accepted frame are short for its size, and where its rectangle is finite closing closes them all: so the working slices of a size have room for every part. Assumes nothing.
+-- The rings of an accepted frame are short for its size, and where its rectangle is finite closing closes them all: so the working slices
+-- of a size have room for every part. Assumes nothing.
 use mathlib.Core.Path.{_≡_, refl, sym, _∙_, ap, subst}
 use mathlib.Core.Bool.{true}
 use mathlib.Core.List.{List, _∷_}
@@ -13,13 +14,15 @@ use Rattle.sutherland_hodgman.proofs.Offered.{B-mono}
 use Rattle.rings.specs.declared.rectangle.Rect.{Rect}
 use Rattle.rings.specs.declared.rectangle.Rect.the-variants as Rects
 use Rattle.rings.specs.Rectangle.{withRing, withRings, withParts}
-use Rattle.rings.specs.Rings.{largest, allClosed}
+use Rattle.rings.specs.LentRings.{largest}
+use Rattle.rings.specs.Contracts.{allClosed}
 use Rattle.rings.proofs.Closing.{stays-parts, ring-closed}
 use Rattle.rings.proofs.LentRings.{larger-most}
-use Rattle.frame_bytes.specs.Frame.{Accepted, mostInRing, countOf, coordsOf, readRing, readMany, readPart, ringsFrom, partAt}
+use Rattle.frame_bytes.specs.Contracts.{Accepted, ringsFrom, partAt}
+use Rattle.frame_bytes.specs.Frame.{mostInRing, countOf, coordsOf, readRing, readMany, readPart}
 use Rattle.frame_bytes.proofs.Coordinates.{close-grows}
 use Rattle.frame_bytes.proofs.PartRings.{next-ring, part-rings}
-use Rattle.frames.specs.Parts.{Workable, partsFrom}
+use Rattle.frames.specs.Contracts.{Workable, partsFrom}
 use Rattle.frames.proofs.Listings.{nextPlace, next-part}
 
 -- m coordinates, closed, are the most that a ring can have behind the head and two counts
@@ -29,7 +32,8 @@ module _ (frame : List ℕ) (m : ℕ) (small : length frame ≤ 47 + 16 * m) whe
     short : largest length rings ≤ m
     closes : allClosed rings ≡ true
 
-  rings-fit : (k at : ℕ) (r : Rect) → 46 ≤ at → at ≤ length frame → Accepted (readMany readRing k (drop at frame)) → (withRings r (ringsFrom frame at k) ≡ Rects.NotFinite → ⊥) → Rings (ringsFrom frame at k)
+  rings-fit : (k at : ℕ) (r : Rect) → 46 ≤ at → at ≤ length frame → Accepted (readMany readRing k (drop at frame))
+      → (withRings r (ringsFrom frame at k) ≡ Rects.NotFinite → ⊥) → Rings (ringsFrom frame at k)
   unfolding readMany largest withRings allClosed
   rings-fit zero at r h w a q = record { short = omega arith; closes = refl }
   rings-fit (suc k) at r h w a q =
@@ -39,23 +43,34 @@ module _ (frame : List ℕ) (m : ℕ) (small : length frame ≤ 47 + 16 * m) whe
       let c = coordsOf (countOf (drop at frame)) (drop (at + 2) frame) in
       let here : ringsFrom frame at (suc k) ≡ close c ∷ ringsFrom frame to k = n .here ∙ rw p in
       let q′ : withRings (withRing r (close c)) (ringsFrom frame to k) ≡ Rects.NotFinite → ⊥ = λ z. q (ap (withRings r) here ∙ z) in
-      let later = rings-fit k to (withRing r (close c)) (omega arith) (n .whole) (subst (λ (j : ℕ). Accepted (readMany readRing j (drop to frame))) p (n .later)) q′ in
+      let later = rings-fit k to (withRing r (close c)) (omega arith) (n .whole)
+      (subst (λ (j : ℕ). Accepted (readMany readRing j (drop to frame))) p (n .later)) q′ in
       subst Rings (sym here) (record {
         short = larger-most m _ _ (omega (arith, n .whole, close-grows (countOf (drop at frame)) (drop (at + 2) frame))) (later .short);
         closes = rw (ring-closed r c (ringsFrom frame to k) q′, later .closes);
       })
 
   -- working slices of these lengths have room for a ring of m coordinates
-  module _ (ring a b order : ℕ) (hm : m ≤ mostInRing + 1) (hring : 2 * m ≤ ring) (ha : 2 * B m ≤ a) (hb : 2 * B m ≤ b) (horder : B m ≤ order) where
+  module _ (ring a b order : ℕ) (hm : m ≤ mostInRing + 1) (hring : 2 * m ≤ ring) (ha : 2 * B m ≤ a) (hb : 2 * B m ≤ b)
+      (horder : B m ≤ order) where
     workable : (rings : List (List Coord)) → Rings rings → Workable ring a b order rings
     workable rings r =
         let l = B-mono (largest length rings) m (r .short) in
         record {
-          working = record { small = omega (arith, r .short); closes = r .closes; lent = omega (arith, r .short); first = omega (arith, l); second = omega (arith, l) };
+          working =
+              record {
+                small = omega (arith, r .short);
+                closes = r .closes;
+                lent = omega (arith, r .short);
+                first =
+                    omega (arith, l);
+                second = omega (arith, l);
+              };
           positions = omega (arith, l);
         }
 
-    pub parts-fit : (k at : ℕ) (r : Rect) → 44 ≤ at → at ≤ length frame → Accepted (readMany readPart k (drop at frame)) → (withParts r (partsFrom frame at k) ≡ Rects.NotFinite → ⊥) → Every (Workable ring a b order) (partsFrom frame at k)
+    pub parts-fit : (k at : ℕ) (r : Rect) → 44 ≤ at → at ≤ length frame → Accepted (readMany readPart k (drop at frame))
+        → (withParts r (partsFrom frame at k) ≡ Rects.NotFinite → ⊥) → Every (Workable ring a b order) (partsFrom frame at k)
     unfolding readMany withParts
     parts-fit zero at r h w x q = tt
     parts-fit (suc k) at r h w x q =
@@ -63,9 +78,13 @@ module _ (frame : List ℕ) (m : ℕ) (small : length frame ≤ 47 + 16 * m) whe
         let p : suc k - 1 ≡ k = omega arith in
         let to = nextPlace frame at in
         let here : partsFrom frame at (suc k) ≡ partAt frame at ∷ partsFrom frame to k = n .here ∙ rw p in
-        let q′ : withParts (withRings r (partAt frame at)) (partsFrom frame to k) ≡ Rects.NotFinite → ⊥ = λ z. q (ap (withParts r) here ∙ z) in
-        let later = parts-fit k to (withRings r (partAt frame at)) (omega (arith, n .onward)) (n .within) (subst (λ (j : ℕ). Accepted (readMany readPart j (drop to frame))) p (n .later)) q′ in
+        let q′ : withParts (withRings r (partAt frame at)) (partsFrom frame to k) ≡ Rects.NotFinite
+        → ⊥ = λ z. q (ap (withParts r) here ∙ z) in
+        let later = parts-fit k to (withRings r (partAt frame at)) (omega (arith, n .onward)) (n .within)
+        (subst (λ (j : ℕ). Accepted (readMany readPart j (drop to frame))) p (n .later)) q′ in
         let rs = part-rings frame at w (n .accepted) in
-        let finite : withRings r (ringsFrom frame (at + 2) (countOf (drop at frame))) ≡ Rects.NotFinite → ⊥ = λ z. q′ (rw (rs .same, z) (stays-parts (partsFrom frame to k))) in
-        let first = subst Rings (sym (rs .same)) (rings-fit (countOf (drop at frame)) (at + 2) r (omega arith) (rs .whole) (rs .accepted) finite) in
+        let finite : withRings r (ringsFrom frame (at + 2) (countOf (drop at frame))) ≡ Rects.NotFinite
+        → ⊥ = λ z. q′ (rw (rs .same, z) (stays-parts (partsFrom frame to k))) in
+        let first = subst Rings (sym (rs .same)) (rings-fit (countOf (drop at frame)) (at + 2) r (omega arith) (rs .whole)
+        (rs .accepted) finite) in
         subst (Every (Workable ring a b order)) (sym here) (workable (partAt frame at) first, later)

@@ -1,4 +1,5 @@
--- Document 01's worked cases marked P ("Worked on bounds 0, 0, 10, 10, buffer 0"): one table and one claim, computed from the definitions, from a frame's bytes to the bytes that answer it. Assumes nothing.
+-- Document 01's worked cases marked P ("Worked on bounds 0, 0, 10, 10, buffer 0"): one table and one claim, computed from the definitions,
+-- from a frame's bytes to the bytes that answer it. Assumes nothing.
 use mathlib.Core.Path.{_≡_, refl}
 use mathlib.Core.List.{List, [], _∷_, _++_}
 use Prim.Native.Nat.{ℕ, _*_, _^_}
@@ -13,14 +14,16 @@ use Rattle.tile.proofs.WholeNumbers.{num, at}
 use Rattle.box_pairs.specs.Cross.{crossProductSign, aboveBelow, splits, intersectProperly, short, apartOn, apart, cross}
 use Rattle.box_pairs.specs.Pairs.{anyBelow, anyPair, edgesCross, selfIntersecting}
 use Rattle.box_pairs.specs.Issue.{repeated, issueOf, hasIssue}
-use Rattle.sutherland_hodgman.specs.Lines.{inside, crossing}
+use Rattle.sutherland_hodgman.specs.CuttingLines.{inside, crossing}
 use Rattle.sutherland_hodgman.specs.Clip.{steps, leaveOff, around, pass, passes, finish, clipRing}
 use Rattle.rings.specs.Bridge.{runsAlong, bridgeOf, firstBridge}
 use Rattle.rings.specs.Rectangle.{withCoord, withRing, withRings, reaches, intersectsBounds, liesBetween, isFullyInside, withParts}
 use Rattle.rings.specs.Representable.{hugeCoord, anyHuge, anyHugeRing}
-use Rattle.clip.specs.Polygon.{bridgeUnlessSkipped, routeCut, routeExterior, cutHole, cutHoles, cutRings, overlayOrDropped, routeRect, route}
+use Rattle.clip.specs.Polygon.{bridgeUnlessSkipped, routeCut, routeExterior, cutHole, cutHoles, cutRings, overlayOrDropped, routeRect}
+use Rattle.clip.specs.Polygon.{route}
 use Rattle.frame_bytes.specs.declared.reader.FrameRefusal.{FrameRefusal}
-use Rattle.frame_bytes.specs.Frame.{polygon, multipolygon, Reading, refused, read, Frame, readMany, countOf, coordsOf, readCount, readCoords, readRing, readPart, readParts, readFrame}
+use Rattle.frame_bytes.specs.Frame.{polygonKind, multipolygonKind, Reading, refused, read, Frame, readMany, countOf, coordsOf, readCount}
+use Rattle.frame_bytes.specs.Frame.{readCoords, readRing, readPart, readParts, readFrame}
 use Rattle.frame_bytes.specs.Encoding.{each, countBytes, coordBytes, ringBytes}
 use Rattle.frames.specs.Answer.{routePart, listParts, ofMultipolygon, answerTo}
 use Rattle.frames.specs.Output.{partBytes, answerBytes, frameBytes}
@@ -73,7 +76,7 @@ cutTo r = answer (3 ∷ 0 ∷ 0 ∷ 1 ∷ 0 ∷ 0 ∷ 0 ∷ 4 ∷ 0 ∷ 1 ∷ 0 
 
 -- a polygon with one number of flags
 abbrev row : ℕ → List Coord → Outcome → Row
-row flags r to = record { given = frame polygon flags r; becomes = to }
+row flags r to = record { given = frame polygonKind flags r; becomes = to }
 
 -- with the flags 0, 1 and 2
 abbrev unlessBoth : List Coord → Outcome → List Row
@@ -99,7 +102,7 @@ table =
     ∷ (row 3 acrossEast (cutTo (at 5 5 ∷ at 10 5 ∷ at 10 8 ∷ at 5 8 ∷ at 5 5 ∷ [])) ∷ [])
     ∷ unlessBoth acrossEast (overlay 4)
     -- "Bow tie (2,2)(8,8)(8,2)(2,8)(2,2): flags 0 overlay, reason 1; flags 1 unchanged; as a multipolygon's only part, flags 0, unchanged."
-    ∷ (row 0 bowTie (overlay 1) ∷ row 1 bowTie unchanged ∷ record { given = frame multipolygon 0 bowTie; becomes = unchanged } ∷ [])
+    ∷ (row 0 bowTie (overlay 1) ∷ row 1 bowTie unchanged ∷ record { given = frame multipolygonKind 0 bowTie; becomes = unchanged } ∷ [])
     -- "(2,2)(8,2)(2,2): overlay, reason 1."
     ∷ always (at 2 2 ∷ at 8 2 ∷ at 2 2 ∷ []) (overlay 1)
     -- "(2,2)(2,2)(8,2)(8,8)(2,2): overlay, reason 1; (2,2)(8,2)(8,8)(2,2)(2,2): unchanged."
@@ -107,7 +110,8 @@ table =
     ∷ always (at 2 2 ∷ at 8 2 ∷ at 8 8 ∷ at 2 2 ∷ at 2 2 ∷ []) unchanged
     -- "(10,2)(20,2)(20,8)(10,8)(10,2): overlay, reason 2."
     ∷ always (at 10 2 ∷ at 20 2 ∷ at 20 8 ∷ at 10 8 ∷ at 10 2 ∷ []) (overlay 2)
-    -- "Ring (1,1)(2,2)(1,1)(1,1): the ring cutter gives none." The first pass leaves (1,1)(2,2)(1,1), and the second leaves off a vertex too.
+    -- "Ring (1,1)(2,2)(1,1)(1,1): the ring cutter gives none." The first pass leaves (1,1)(2,2)(1,1), and the second leaves off a vertex
+    -- too.
     ∷ (record { given = ring (at 1 1 ∷ at 2 2 ∷ at 1 1 ∷ at 1 1 ∷ []); becomes = cutRing [] } ∷ [])
     -- "(2,2)(1e150,2)(2,2): dropped; with 9e149, overlay, reason 1."
     ∷ always (at 2 2 ∷ at (10 ^ 150) 2 ∷ at 2 2 ∷ []) dropped
@@ -154,5 +158,11 @@ becoming [] = []
 becoming (c ∷ cs) = c .becomes ∷ becoming cs
 
 each-becomes : outcomes (rows table) ≡ becoming (rows table)
-unfolding readFrame readParts readPart readRing readCoords readCount readMany coordsOf countOf fromLow toLow answerTo ofMultipolygon withParts listParts routePart answerBytes partBytes ringBytes each route routeRect routeExterior routeCut overlayOrDropped cutRings cutHoles cutHole bridgeUnlessSkipped firstBridge bridgeOf runsAlong withRings withRing withCoord intersectsBounds reaches isFullyInside liesBetween anyHugeRing anyHuge hugeCoord issueOf hasIssue repeated selfIntersecting anyPair anyBelow edgesCross cross apart apartOn short intersectProperly splits aboveBelow crossProductSign clipRing finish passes pass around leaveOff steps inside crossing interpolate same last closed close at nanX nanY num minimum maximum magnitude tolerance near limit huge ofInt ofBits toBits round isNan lt le eq add sub mul div
+unfolding readFrame readParts readPart readRing readCoords readCount readMany coordsOf countOf fromLow toLow answerTo ofMultipolygon
+    withParts listParts routePart answerBytes partBytes ringBytes each route routeRect routeExterior routeCut overlayOrDropped cutRings
+    cutHoles cutHole bridgeUnlessSkipped firstBridge bridgeOf runsAlong withRings withRing withCoord intersectsBounds reaches
+    isFullyInside liesBetween anyHugeRing anyHuge hugeCoord issueOf hasIssue repeated selfIntersecting anyPair anyBelow edgesCross cross
+    apart apartOn short intersectProperly splits aboveBelow crossProductSign clipRing finish passes pass around leaveOff steps inside
+    crossing interpolate same last closed close at nanX nanY num minimum maximum magnitude tolerance near limit huge ofInt ofBits toBits
+    round isNan lt le eq add sub mul div
 each-becomes = refl

@@ -1,4 +1,5 @@
--- What a frame call answers, as a value (document 01, "Multipolygons"; for a polygon, "Nothing, or dropped" to "Overlay wanted"). Definitions only.
+-- What a frame call answers, as a value (document 01, "Multipolygons"; for a polygon, "Nothing, or dropped" to "Overlay wanted").
+-- Definitions only.
 use mathlib.Core.Bool.{cond}
 use mathlib.Core.List.{List, [], _∷_}
 use Prim.Native.Nat.{ℕ, suc, _+_}
@@ -11,15 +12,15 @@ use Rattle.rings.specs.declared.rectangle.Rect.{Rect}
 use Rattle.rings.specs.declared.rectangle.Rect.the-variants as Rects
 use Rattle.rings.specs.Rectangle.{rectangle, intersectsBounds, isFullyInside, withParts}
 use Rattle.clip.specs.declared.polygon.Flags.{Flags}
-use Rattle.clip.specs.Polygon as P
+use Rattle.clip.specs.Polygon as Polygon
 use Rattle.clip.specs.Polygon.{answerOf, guardCount}
 use Rattle.frame_bytes.specs.declared.head.Head.{Head}
-use Rattle.frame_bytes.specs.Frame.{polygon, Frame}
+use Rattle.frame_bytes.specs.Frame.{polygonKind, Frame}
 
 -- a listed part: its number in the frame, "index from 0", and what becomes of it
 pub record Part : Type 0 where
   pub index : ℕ
-  pub outcome : P.Routed
+  pub outcome : Polygon.Routed
 
 -- "(0 nothing, 1 whole dropped, 2 whole unchanged, 3 listed), guard count", listed parts
 pub data Answer : Type 0 where
@@ -30,21 +31,22 @@ pub data Answer : Type 0 where
 
 -- ---- a polygon: "A polygon's cut or overlay is listed as part 0."
 
-abbrev pub ofPolygon : P.Routed → Answer
-ofPolygon P.nothing = Nothing 0
-ofPolygon P.dropped = Dropped
-ofPolygon P.unchanged = Unchanged
-ofPolygon (P.cut rings) = Listed 0 (record { index = 0; outcome = P.cut rings } ∷ [])
-ofPolygon (P.overlay reason) = Listed 0 (record { index = 0; outcome = P.overlay reason } ∷ [])
+abbrev pub ofPolygon : Polygon.Routed → Answer
+ofPolygon Polygon.nothing = Nothing 0
+ofPolygon Polygon.dropped = Dropped
+ofPolygon Polygon.unchanged = Unchanged
+ofPolygon (Polygon.cut rings) = Listed 0 (record { index = 0; outcome = Polygon.cut rings } ∷ [])
+ofPolygon (Polygon.overlay reason) = Listed 0 (record { index = 0; outcome = Polygon.overlay reason } ∷ [])
 
 -- ---- a multipolygon
 
--- "Otherwise part by part: no coordinate or apart, left out; inside, unchanged with no issue check; else as a polygon": of a part's rectangle, and of what becomes of it as a polygon
-abbrev pub ofPart : Rect → TileBounds → P.Routed → P.Routed
-ofPart rect b as-polygon = cond (intersectsBounds rect b) (cond (isFullyInside rect b) P.unchanged as-polygon) P.nothing
+-- "Otherwise part by part: no coordinate or apart, left out; inside, unchanged with no issue check; else as a polygon": of a part's
+-- rectangle, and of what becomes of it as a polygon
+abbrev pub ofPart : Rect → TileBounds → Polygon.Routed → Polygon.Routed
+ofPart rect b as-polygon = cond (intersectsBounds rect b) (cond (isFullyInside rect b) Polygon.unchanged as-polygon) Polygon.nothing
 
-unfoldable pub routePart : Flags → TileBounds → List (List Coord) → P.Routed
-routePart flags b rings = ofPart (rectangle rings) b (P.route flags b rings)
+unfoldable pub routePart : Flags → TileBounds → List (List Coord) → Polygon.Routed
+routePart flags b rings = ofPart (rectangle rings) b (Polygon.route flags b rings)
 
 -- the guard count and the listed parts
 pub record Listing : Type 0 where
@@ -52,15 +54,15 @@ pub record Listing : Type 0 where
   pub parts : List Part
 
 -- what is left out or dropped is not listed
-abbrev pub listedBefore : ℕ → P.Routed → List Part → List Part
-listedBefore i P.nothing parts = parts
-listedBefore i P.dropped parts = parts
-listedBefore i P.unchanged parts = record { index = i; outcome = P.unchanged } ∷ parts
-listedBefore i (P.cut rings) parts = record { index = i; outcome = P.cut rings } ∷ parts
-listedBefore i (P.overlay reason) parts = record { index = i; outcome = P.overlay reason } ∷ parts
+abbrev pub listedBefore : ℕ → Polygon.Routed → List Part → List Part
+listedBefore i Polygon.nothing parts = parts
+listedBefore i Polygon.dropped parts = parts
+listedBefore i Polygon.unchanged parts = record { index = i; outcome = Polygon.unchanged } ∷ parts
+listedBefore i (Polygon.cut rings) parts = record { index = i; outcome = Polygon.cut rings } ∷ parts
+listedBefore i (Polygon.overlay reason) parts = record { index = i; outcome = Polygon.overlay reason } ∷ parts
 
 -- "Guard counts add up."
-abbrev pub addPart : ℕ → P.Routed → Listing → Listing
+abbrev pub addPart : ℕ → Polygon.Routed → Listing → Listing
 addPart i to l = record { guard = guardCount (answerOf to) + l .guard; parts = listedBefore i to (l .parts) }
 
 -- the parts from the i-th on
@@ -84,7 +86,8 @@ unfoldable pub ofMultipolygon : Flags → TileBounds → List (List (List Coord)
 ofMultipolygon flags b parts =
     let whole = withParts Rects.Nothing parts in
     let listing = listParts flags b 0 parts in
-    ifBox whole (cond (intersectsBounds whole b) (cond (isFullyInside whole b) Unchanged (ofParts (listing .guard) (listing .parts))) (Nothing 0))
+    ifBox whole (cond (intersectsBounds whole b) (cond (isFullyInside whole b) Unchanged
+    (ofParts (listing .guard) (listing .parts))) (Nothing 0))
 
 -- ---- a frame
 
@@ -99,4 +102,6 @@ abbrev pub onlyPart : List (List (List Coord)) → List (List Coord)
 onlyPart parts = getD parts 0 []
 
 unfoldable pub answerTo : Frame → Answer
-answerTo f = cond (eqb (f .head .kind) polygon) (ofPolygon (P.route (flagsIn (f .head)) (boundsIn (f .head)) (onlyPart (f .parts)))) (ofMultipolygon (flagsIn (f .head)) (boundsIn (f .head)) (f .parts))
+answerTo f =
+    cond (eqb (f .head .kind) polygonKind) (ofPolygon (Polygon.route (flagsIn (f .head)) (boundsIn (f .head)) (onlyPart (f .parts))))
+    (ofMultipolygon (flagsIn (f .head)) (boundsIn (f .head)) (f .parts))

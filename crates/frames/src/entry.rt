@@ -2,13 +2,12 @@
 ghost use mathlib.Core.Path.{_≡_};
 ghost use Prim.Native.Nat.{_≤_};
 ghost use lib.ListN.{length};
-ghost use Rattle.frame_bytes.specs.Frame as F;
-ghost use Rattle.frame_bytes.specs.Room as R;
-ghost use Rattle.frame_bytes.specs.Measure as M;
+ghost use Rattle.frame_bytes.specs.Frame as Frames;
+ghost use Rattle.frame_bytes.specs.Contracts as FrameBytesContracts;
+ghost use Rattle.frame_bytes.specs.Room as OutputRoom;
 ghost use Rattle.frames.specs.Output.{frameCallOutput};
-ghost use Rattle.frames.specs.Parts as S;
-ghost use Rattle.frames.specs.Entry as Y;
-ghost use Rattle.frames.specs.Entry.{frameCallAnswer};
+ghost use Rattle.frames.specs.Contracts as Contracts;
+ghost use Rattle.frames.specs.FrameCall.{frameCallAnswer};
 use super::parts::answer_in;
 use super::parts::put_alone;
 use clip::polygon::DROPPED;
@@ -41,10 +40,12 @@ pub enum FrameAnswer {
     Answered(usize),
 }
 
-// In arrays for rings of up to m coordinates, closed: 2 m numbers for the ring, 2 B(m) for each of two scratch slices, B(m) positions. Here m is 6.
+// In arrays for rings of up to m coordinates, closed: 2 m numbers for the ring, 2 B(m) for each of two scratch slices, B(m) positions. Here
+// m is 6.
 fn answer_small(frame: &[u8], head: Head, rect: Rect, bounds: TileBounds, out: &mut [u8]) -> usize
-    requires { ⌜ Y.Cuttable (now frame) head (length (now out)) × (length (now frame) ≤ Y.longestFor 6) ⌝ }
-    ensures { λ r. ⌜ S.Answers (Y.answerMeasured head rect bounds (Y.partsOf (F.readFrame (now (frame .entry))))) (now (out .entry)) r (now (out .exit)) ⌝ }
+    requires { ⌜ Contracts.Cuttable (now frame) head (length (now out)) × (length (now frame) ≤ Contracts.longestFor 6) ⌝ }
+    ensures { λ r. ⌜ Contracts.Answers (Contracts.answerMeasured head rect bounds
+        (Contracts.partsOf (Frames.readFrame (now (frame .entry))))) (now (out .entry)) r (now (out .exit)) ⌝ }
 {
     let mut ring = [0.0; 12];
     let mut a = [0.0; 60];
@@ -65,8 +66,9 @@ fn answer_small(frame: &[u8], head: Head, rect: Rect, bounds: TileBounds, out: &
 
 // With m = 32.
 fn answer_medium(frame: &[u8], head: Head, rect: Rect, bounds: TileBounds, out: &mut [u8]) -> usize
-    requires { ⌜ Y.Cuttable (now frame) head (length (now out)) × (length (now frame) ≤ Y.longestFor 32) ⌝ }
-    ensures { λ r. ⌜ S.Answers (Y.answerMeasured head rect bounds (Y.partsOf (F.readFrame (now (frame .entry))))) (now (out .entry)) r (now (out .exit)) ⌝ }
+    requires { ⌜ Contracts.Cuttable (now frame) head (length (now out)) × (length (now frame) ≤ Contracts.longestFor 32) ⌝ }
+    ensures { λ r. ⌜ Contracts.Answers (Contracts.answerMeasured head rect bounds
+        (Contracts.partsOf (Frames.readFrame (now (frame .entry))))) (now (out .entry)) r (now (out .exit)) ⌝ }
 {
     let mut ring = [0.0; 64];
     let mut a = [0.0; 328];
@@ -87,8 +89,9 @@ fn answer_medium(frame: &[u8], head: Head, rect: Rect, bounds: TileBounds, out: 
 
 // With m = 81.
 fn answer_large(frame: &[u8], head: Head, rect: Rect, bounds: TileBounds, out: &mut [u8]) -> usize
-    requires { ⌜ Y.Cuttable (now frame) head (length (now out)) × (length (now frame) ≤ Y.longestFor 81) ⌝ }
-    ensures { λ r. ⌜ S.Answers (Y.answerMeasured head rect bounds (Y.partsOf (F.readFrame (now (frame .entry))))) (now (out .entry)) r (now (out .exit)) ⌝ }
+    requires { ⌜ Contracts.Cuttable (now frame) head (length (now out)) × (length (now frame) ≤ Contracts.longestFor 81) ⌝ }
+    ensures { λ r. ⌜ Contracts.Answers (Contracts.answerMeasured head rect bounds
+        (Contracts.partsOf (Frames.readFrame (now (frame .entry))))) (now (out .entry)) r (now (out .exit)) ⌝ }
 {
     let mut ring = [0.0; 162];
     let mut a = [0.0; 816];
@@ -109,8 +112,9 @@ fn answer_large(frame: &[u8], head: Head, rect: Rect, bounds: TileBounds, out: &
 
 // With m = 318, which no ring of the longest frame passes.
 fn answer_full(frame: &[u8], head: Head, rect: Rect, bounds: TileBounds, out: &mut [u8]) -> usize
-    requires { ⌜ Y.Cuttable (now frame) head (length (now out)) ⌝ }
-    ensures { λ r. ⌜ S.Answers (Y.answerMeasured head rect bounds (Y.partsOf (F.readFrame (now (frame .entry))))) (now (out .entry)) r (now (out .exit)) ⌝ }
+    requires { ⌜ Contracts.Cuttable (now frame) head (length (now out)) ⌝ }
+    ensures { λ r. ⌜ Contracts.Answers (Contracts.answerMeasured head rect bounds
+        (Contracts.partsOf (Frames.readFrame (now (frame .entry))))) (now (out .entry)) r (now (out .exit)) ⌝ }
 {
     let mut ring = [0.0; 636];
     let mut a = [0.0; 3220];
@@ -131,8 +135,9 @@ fn answer_full(frame: &[u8], head: Head, rect: Rect, bounds: TileBounds, out: &m
 
 // By the size of the frame: clearing arrays for the longest ring costs more than cutting a short one.
 fn answer_sized(frame: &[u8], head: Head, rect: Rect, bounds: TileBounds, out: &mut [u8]) -> usize
-    requires { ⌜ Y.Cuttable (now frame) head (length (now out)) ⌝ }
-    ensures { λ r. ⌜ S.Answers (Y.answerMeasured head rect bounds (Y.partsOf (F.readFrame (now (frame .entry))))) (now (out .entry)) r (now (out .exit)) ⌝ }
+    requires { ⌜ Contracts.Cuttable (now frame) head (length (now out)) ⌝ }
+    ensures { λ r. ⌜ Contracts.Answers (Contracts.answerMeasured head rect bounds
+        (Contracts.partsOf (Frames.readFrame (now (frame .entry))))) (now (out .entry)) r (now (out .exit)) ⌝ }
 {
     if frame.len() <= SMALL {
         return answer_small(frame, head, rect, bounds, out);
@@ -146,10 +151,11 @@ fn answer_sized(frame: &[u8], head: Head, rect: Rect, bounds: TileBounds, out: &
     answer_full(frame, head, rect, bounds, out)
 }
 
-// Whether the frame is unchanged, as far as that is told without an array: a multipolygon inside as a whole, which has no issue check, or a polygon inside whose exterior is assumed to be simple and has no other issue.
+// Whether the frame is unchanged, as far as that is told without an array: a multipolygon inside as a whole, which has no issue check, or a
+// polygon inside whose exterior is assumed to be simple and has no other issue.
 fn is_unchanged_at_once(frame: &[u8], head: Head, rect: Rect, bounds: TileBounds) -> bool
-    requires { ⌜ F.Accepted (F.readFrame (now frame)) × (head ≡ F.headOf (now frame)) ⌝ }
-    ensures { λ r. ⌜ r ≡ Y.unchangedAtOnce head rect bounds (Y.partsOf (F.readFrame (now (frame .entry)))) ⌝ }
+    requires { ⌜ FrameBytesContracts.Accepted (Frames.readFrame (now frame)) × (head ≡ Frames.headOf (now frame)) ⌝ }
+    ensures { λ r. ⌜ r ≡ Contracts.unchangedAtOnce head rect bounds (Contracts.partsOf (Frames.readFrame (now (frame .entry)))) ⌝ }
 {
     if !is_fully_inside(rect, bounds) {
         return false;
@@ -160,10 +166,13 @@ fn is_unchanged_at_once(frame: &[u8], head: Head, rect: Rect, bounds: TileBounds
     head.assume_simple && is_sound_if_simple(frame, HEAD)
 }
 
-// The answer to a frame whose rectangle is rect: what is apart, and what is unchanged without a search for crossings, is answered before there is any array.
+// The answer to a frame whose rectangle is rect: what is apart, and what is unchanged without a search for crossings, is answered before
+// there is any array.
 fn answer_measured(frame: &[u8], head: Head, rect: Rect, out: &mut [u8]) -> usize
-    requires { ⌜ Y.Cuttable (now frame) head (length (now out)) × (rect ≡ M.frameRect (F.readFrame (now frame))) ⌝ }
-    ensures { λ r. ⌜ S.Answers (Y.answerRead (F.readFrame (now (frame .entry)))) (now (out .entry)) r (now (out .exit)) ⌝ }
+    requires { ⌜ Contracts.Cuttable (now frame) head (length (now out))
+        × (rect ≡ FrameBytesContracts.frameRect (Frames.readFrame (now frame))) ⌝ }
+    ensures { λ r. ⌜ Contracts.Answers (Contracts.answerRead (Frames.readFrame (now (frame .entry)))) (now (out .entry)) r
+        (now (out .exit)) ⌝ }
 {
     let bounds = head.bounds.buffered(head.buffer);
     if !intersects_bounds(rect, bounds) {
@@ -177,8 +186,10 @@ fn answer_measured(frame: &[u8], head: Head, rect: Rect, out: &mut [u8]) -> usiz
 
 // Writes the answer to an accepted frame and tells how many bytes it has.
 fn answer(frame: &[u8], out: &mut [u8]) -> usize
-    requires { ⌜ F.Accepted (F.readFrame (now frame)) × (R.frameRoom R.coordinateBytes (F.readFrame (now frame)) ≤ length (now out)) ⌝ }
-    ensures { λ r. ⌜ S.Answers (Y.answerRead (F.readFrame (now (frame .entry)))) (now (out .entry)) r (now (out .exit)) ⌝ }
+    requires { ⌜ FrameBytesContracts.Accepted (Frames.readFrame (now frame))
+        × (FrameBytesContracts.frameRoom OutputRoom.coordinateBytes (Frames.readFrame (now frame)) ≤ length (now out)) ⌝ }
+    ensures { λ r. ⌜ Contracts.Answers (Contracts.answerRead (Frames.readFrame (now (frame .entry)))) (now (out .entry)) r
+        (now (out .exit)) ⌝ }
 {
     let head = read_head(frame);
     match whole_rect(frame) {

@@ -5,10 +5,11 @@ ghost use Prim.Native.Nat.{_+_, _*_, _≤_};
 ghost use lib.ListN.{length, take, drop};
 ghost use lib.Seq.{sets};
 ghost use Rattle.tile.specs.Ring.{coords};
-ghost use Rattle.rings.specs.Rings.{mostRings};
-ghost use Rattle.clip.specs.Polygon as P;
-ghost use Rattle.frame_bytes.specs.Frame as F;
-ghost use Rattle.frames.specs.Part as S;
+ghost use Rattle.rings.specs.LentRings.{mostRings};
+ghost use Rattle.clip.specs.Polygon as Polygon;
+ghost use Rattle.frame_bytes.specs.Contracts as FrameBytesContracts;
+ghost use Rattle.frame_bytes.specs.Frame as Frames;
+ghost use Rattle.frames.specs.Contracts as Contracts;
 use clip::polygon::CUT;
 use clip::polygon::Flags;
 use clip::polygon::OVERLAY;
@@ -38,21 +39,22 @@ pub enum PartAnswer {
 }
 
 // How far the rings of a part are written: how many, and where the next stands in the output.
-struct Written {
+struct RingCursor {
     rings: usize,
     next: usize,
 }
 
 // Writes the cut ring of n coordinates at the front of a slice; one without coordinates is left out.
-fn put_cut_ring(ring: &[f64], n: usize, out: &mut [u8], at: Written) -> Written
+fn put_cut_ring(ring: &[f64], n: usize, out: &mut [u8], at: RingCursor) -> RingCursor
     requires { ⌜ (2 * n ≤ length (now ring)) × (at .next + 2 + 16 * n ≤ length (now out)) × (at .rings ≤ mostRings) ⌝ }
-    ensures { λ r. ⌜ S.PutRings (P.unlessNone (coords (take (2 * n) (now (ring .entry)))) []) at (now (out .entry)) r (now (out .exit)) ⌝ }
+    ensures { λ r. ⌜ Contracts.PutRings (Polygon.unlessNone (coords (take (2 * n) (now (ring .entry)))) []) at (now (out .entry)) r
+        (now (out .exit)) ⌝ }
 {
     if n == 0 {
         return at;
     }
     let next = put_ring(ring, n, out, at.next);
-    Written {
+    RingCursor {
         rings: at.rings + 1,
         next,
     }
@@ -68,10 +70,12 @@ fn put_holes(
     a: &mut [f64],
     b: &mut [f64],
     out: &mut [u8],
-    exterior: Written,
-) -> Written
-    requires { ⌜ S.RingsRoom (now frame) start holes (length (now ring)) (length (now a)) (length (now b)) (length (now out)) exterior × (exterior .rings + holes ≤ mostRings) ⌝ }
-    ensures { λ r. ⌜ S.PutRings (P.cutHoles bounds (F.ringsFrom (now (frame .entry)) start holes)) exterior (now (out .entry)) r (now (out .exit)) ⌝ }
+    exterior: RingCursor,
+) -> RingCursor
+    requires { ⌜ Contracts.RingsRoom (now frame) start holes (length (now ring)) (length (now a)) (length (now b)) (length (now out))
+        exterior × (exterior .rings + holes ≤ mostRings) ⌝ }
+    ensures { λ r. ⌜ Contracts.PutRings (Polygon.cutHoles bounds (FrameBytesContracts.ringsFrom (now (frame .entry)) start holes))
+        exterior (now (out .entry)) r (now (out .exit)) ⌝ }
 {
     let mut written = exterior;
     let mut at = start;
@@ -100,13 +104,15 @@ fn put_cut(
     out: &mut [u8],
     to: usize,
 ) -> usize
-    requires { ⌜ S.CutRoom bounds (now frame) at m (length (now ring)) (length (now a)) (now b) (length (now out)) to ⌝ }
-    ensures { λ r. ⌜ r ≡ to + length (S.writtenPart index (P.cut (P.cutRings bounds (F.partAt (now (frame .entry)) at)))) ⌝ }
-    ensures { λ _. ⌜ now (out .exit) ≡ sets (now (out .entry)) to (S.writtenPart index (P.cut (P.cutRings bounds (F.partAt (now (frame .entry)) at)))) ⌝ }
+    requires { ⌜ Contracts.CutRoom bounds (now frame) at m (length (now ring)) (length (now a)) (now b) (length (now out)) to ⌝ }
+    ensures { λ r. ⌜ r ≡ to + length (Contracts.writtenPart index
+        (Polygon.cut (Polygon.cutRings bounds (FrameBytesContracts.partAt (now (frame .entry)) at)))) ⌝ }
+    ensures { λ _. ⌜ now (out .exit) ≡ sets (now (out .entry)) to
+        (Contracts.writtenPart index (Polygon.cut (Polygon.cutRings bounds (FrameBytesContracts.partAt (now (frame .entry)) at)))) ⌝ }
 {
     let rings = count_at(frame, at);
     let n = count_at(frame, at + COUNT);
-    let first = Written {
+    let first = RingCursor {
         rings: 0,
         next: to + PART + COUNT,
     };
@@ -127,9 +133,12 @@ fn overlay_or_dropped(
     out: &mut [u8],
     to: usize,
 ) -> PartAnswer
-    requires { ⌜ (at ≤ length (now frame)) × F.Accepted (F.readPart (drop at (now frame))) × (to + 4 ≤ length (now out)) ⌝ }
-    ensures { λ r. ⌜ r ≡ S.partAnswer to index (P.overlayOrDropped (F.partAt (now (frame .entry)) at) reason) ⌝ }
-    ensures { λ _. ⌜ now (out .exit) ≡ sets (now (out .entry)) to (S.writtenPart index (P.overlayOrDropped (F.partAt (now (frame .entry)) at) reason)) ⌝ }
+    requires { ⌜ (at ≤ length (now frame)) × FrameBytesContracts.Accepted (Frames.readPart (drop at (now frame)))
+        × (to + 4 ≤ length (now out)) ⌝ }
+    ensures { λ r. ⌜ r ≡ Contracts.partAnswer to index
+        (Polygon.overlayOrDropped (FrameBytesContracts.partAt (now (frame .entry)) at) reason) ⌝ }
+    ensures { λ _. ⌜ now (out .exit) ≡ sets (now (out .entry)) to
+        (Contracts.writtenPart index (Polygon.overlayOrDropped (FrameBytesContracts.partAt (now (frame .entry)) at) reason)) ⌝ }
 {
     if part_has_huge(frame, at) {
         return PartAnswer::Dropped;
@@ -151,9 +160,11 @@ fn answer_route(
     out: &mut [u8],
     to: usize,
 ) -> PartAnswer
-    requires { ⌜ S.RouteRoom route bounds (now frame) at (length (now ring)) (length (now a)) (now b) (length (now out)) to ⌝ }
-    ensures { λ r. ⌜ r ≡ S.partAnswer to index (P.routed route bounds (F.partAt (now (frame .entry)) at)) ⌝ }
-    ensures { λ _. ⌜ now (out .exit) ≡ sets (now (out .entry)) to (S.writtenPart index (P.routed route bounds (F.partAt (now (frame .entry)) at))) ⌝ }
+    requires { ⌜ Contracts.RouteRoom route bounds (now frame) at (length (now ring)) (length (now a)) (now b) (length (now out)) to ⌝ }
+    ensures { λ r. ⌜ r ≡ Contracts.partAnswer to index
+        (Polygon.routed route bounds (FrameBytesContracts.partAt (now (frame .entry)) at)) ⌝ }
+    ensures { λ _. ⌜ now (out .exit) ≡ sets (now (out .entry)) to
+        (Contracts.writtenPart index (Polygon.routed route bounds (FrameBytesContracts.partAt (now (frame .entry)) at))) ⌝ }
 {
     match route {
         Route::Nothing => PartAnswer::Nothing,
@@ -166,7 +177,8 @@ fn answer_route(
     }
 }
 
-// What becomes of the part at a place as a polygon, as if rect were its rectangle; one that is not finite is dropped before. What the working slices hold afterwards is open.
+// What becomes of the part at a place as a polygon, as if rect were its rectangle; one that is not finite is dropped before. What the
+// working slices hold afterwards is open.
 pub fn route_part(
     frame: &[u8],
     at: usize,
@@ -181,9 +193,12 @@ pub fn route_part(
     out: &mut [u8],
     to: usize,
 ) -> PartAnswer
-    requires { ⌜ S.PartRoom (now frame) at (length (now ring)) (length (now a)) (length (now b)) (length (now order)) (length (now out)) to ⌝ }
-    ensures { λ r. ⌜ r ≡ S.partAnswer to index (P.routeMeasured flags rect bounds (F.partAt (now (frame .entry)) at)) ⌝ }
-    ensures { λ _. ⌜ now (out .exit) ≡ sets (now (out .entry)) to (S.writtenPart index (P.routeMeasured flags rect bounds (F.partAt (now (frame .entry)) at))) ⌝ }
+    requires { ⌜ Contracts.PartRoom (now frame) at (length (now ring)) (length (now a)) (length (now b)) (length (now order))
+        (length (now out)) to ⌝ }
+    ensures { λ r. ⌜ r ≡ Contracts.partAnswer to index
+        (Polygon.routeMeasured flags rect bounds (FrameBytesContracts.partAt (now (frame .entry)) at)) ⌝ }
+    ensures { λ _. ⌜ now (out .exit) ≡ sets (now (out .entry)) to
+        (Contracts.writtenPart index (Polygon.routeMeasured flags rect bounds (FrameBytesContracts.partAt (now (frame .entry)) at))) ⌝ }
 {
     let n = count_at(frame, at + COUNT);
     decode_ring(frame, at + COUNT + COUNT, n, ring);

@@ -3,13 +3,12 @@ ghost use mathlib.Core.Path.{_≡_};
 ghost use Prim.Native.Nat.{_+_, _≤_};
 ghost use lib.ListN.{length};
 ghost use lib.Seq.{sets};
-ghost use Rattle.frame_bytes.specs.Frame as F;
-ghost use Rattle.frame_bytes.specs.Room as R;
-ghost use Rattle.frame_bytes.specs.Encoding as E;
+ghost use Rattle.frame_bytes.specs.Contracts as FrameBytesContracts;
+ghost use Rattle.frame_bytes.specs.Frame as Frames;
+ghost use Rattle.frame_bytes.specs.Room as OutputRoom;
+ghost use Rattle.frame_bytes.specs.Encoding as Encoding;
 ghost use Rattle.frames.specs.Answer as Answers;
-ghost use Rattle.frames.specs.Part as Q;
-ghost use Rattle.frames.specs.Parts as S;
-ghost use Rattle.frames.specs.Entry as Y;
+ghost use Rattle.frames.specs.Contracts as Contracts;
 use super::part::PartAnswer;
 use super::part::route_part;
 use clip::polygon::DROPPED;
@@ -33,20 +32,21 @@ use tile::TileBounds;
 const LISTED: u8 = 3;
 
 // What is listed so far: the guard count, how many parts, and where the next stands in the output.
-struct Listing {
+struct ListedSoFar {
     guard: usize,
     parts: usize,
     next: usize,
 }
 
 // The listing with one more part; one that is unchanged is still to be written.
-fn list_part(answer: PartAnswer, index: usize, out: &mut [u8], before: Listing) -> Listing
-    requires { ⌜ (before .next + 4 ≤ length (now out)) × S.Few index before ⌝ }
-    ensures { λ r. ⌜ (r ≡ S.withPart answer before) × (now (out .exit) ≡ sets (now (out .entry)) (before .next) (S.unchangedBytes index answer)) ⌝ }
+fn list_part(answer: PartAnswer, index: usize, out: &mut [u8], before: ListedSoFar) -> ListedSoFar
+    requires { ⌜ (before .next + 4 ≤ length (now out)) × Contracts.Few index before ⌝ }
+    ensures { λ r. ⌜ (r ≡ Contracts.withPart answer before)
+        × (now (out .exit) ≡ sets (now (out .entry)) (before .next) (Contracts.unchangedBytes index answer)) ⌝ }
 {
     match answer {
         PartAnswer::Nothing => before,
-        PartAnswer::Dropped => Listing {
+        PartAnswer::Dropped => ListedSoFar {
             guard: before.guard + 1,
             parts: before.parts,
             next: before.next,
@@ -54,13 +54,13 @@ fn list_part(answer: PartAnswer, index: usize, out: &mut [u8], before: Listing) 
         PartAnswer::Unchanged => {
             let at = before.next;
             put_part(out, at, index, UNCHANGED, 0);
-            Listing {
+            ListedSoFar {
                 guard: before.guard,
                 parts: before.parts + 1,
                 next: at + PART,
             }
         }
-        PartAnswer::Listed(next) => Listing {
+        PartAnswer::Listed(next) => ListedSoFar {
             guard: before.guard,
             parts: before.parts + 1,
             next,
@@ -81,10 +81,13 @@ fn add_part(
     b: &mut [f64],
     order: &mut [u32],
     out: &mut [u8],
-    before: Listing,
-) -> Listing
-    requires { ⌜ Q.PartRoom (now frame) at (length (now ring)) (length (now a)) (length (now b)) (length (now order)) (length (now out)) (before .next) × S.Few index before ⌝ }
-    ensures { λ r. ⌜ S.Lists (S.listingOf index (S.routePartAs flags rect bounds (F.partAt (now (frame .entry)) at))) before (now (out .entry)) r (now (out .exit)) ⌝ }
+    before: ListedSoFar,
+) -> ListedSoFar
+    requires { ⌜ Contracts.PartRoom (now frame) at (length (now ring)) (length (now a)) (length (now b)) (length (now order))
+        (length (now out)) (before .next) × Contracts.Few index before ⌝ }
+    ensures { λ r. ⌜ Contracts.Lists (Contracts.listingOf index
+        (Contracts.routePartAs flags rect bounds (FrameBytesContracts.partAt (now (frame .entry)) at))) before (now (out .entry)) r
+        (now (out .exit)) ⌝ }
 {
     if !intersects_bounds(rect, bounds) {
         return before;
@@ -121,11 +124,14 @@ fn list_parts(
     b: &mut [f64],
     order: &mut [u32],
     out: &mut [u8],
-) -> Listing
-    requires { ⌜ S.PartsRoom (now frame) F.headBytes parts (length (now ring)) (length (now a)) (length (now b)) (length (now order)) (length (now out)) R.leastRoom × (parts ≤ F.mostParts) ⌝ }
-    ensures { λ r. ⌜ S.Lists (Answers.listParts flags bounds 0 (S.partsFrom (now (frame .entry)) F.headBytes parts)) (record { guard = 0; parts = 0; next = R.leastRoom }) (now (out .entry)) r (now (out .exit)) ⌝ }
+) -> ListedSoFar
+    requires { ⌜ Contracts.PartsRoom (now frame) Frames.headBytes parts (length (now ring)) (length (now a)) (length (now b))
+        (length (now order)) (length (now out)) OutputRoom.leastRoom × (parts ≤ Frames.mostParts) ⌝ }
+    ensures { λ r. ⌜ Contracts.Lists (Answers.listParts flags bounds 0
+        (Contracts.partsFrom (now (frame .entry)) Frames.headBytes parts))
+        (record { guard = 0; parts = 0; next = OutputRoom.leastRoom }) (now (out .entry)) r (now (out .exit)) ⌝ }
 {
-    let mut listing = Listing {
+    let mut listing = ListedSoFar {
         guard: 0,
         parts: 0,
         next: LEAST_ROOM,
@@ -156,9 +162,10 @@ fn list_parts(
 }
 
 // Writes the header before what is listed, and answers how many bytes the answer has.
-fn finish(listing: Listing, out: &mut [u8]) -> usize
-    requires { ⌜ R.leastRoom ≤ length (now out) ⌝ }
-    ensures { λ r. ⌜ (r ≡ S.finishedLength listing) × (now (out .exit) ≡ sets (now (out .entry)) 0 (S.finishedHeader listing)) ⌝ }
+fn finish(listing: ListedSoFar, out: &mut [u8]) -> usize
+    requires { ⌜ OutputRoom.leastRoom ≤ length (now out) ⌝ }
+    ensures { λ r. ⌜ (r ≡ Contracts.finishedLength listing)
+        × (now (out .exit) ≡ sets (now (out .entry)) 0 (Contracts.finishedHeader listing)) ⌝ }
 {
     if listing.parts == 0 {
         put_header(out, NOTHING, listing.guard, 0);
@@ -170,8 +177,8 @@ fn finish(listing: Listing, out: &mut [u8]) -> usize
 
 // Writes an answer that lists nothing.
 pub fn put_alone(out: &mut [u8], number: u8, guard: usize) -> usize
-    requires { ⌜ R.leastRoom ≤ length (now out) ⌝ }
-    ensures { λ r. ⌜ (r ≡ R.leastRoom) × (now (out .exit) ≡ sets (now (out .entry)) 0 (E.headerBytes number guard 0)) ⌝ }
+    requires { ⌜ OutputRoom.leastRoom ≤ length (now out) ⌝ }
+    ensures { λ r. ⌜ (r ≡ OutputRoom.leastRoom) × (now (out .exit) ≡ sets (now (out .entry)) 0 (Encoding.headerBytes number guard 0)) ⌝ }
 {
     put_header(out, number, guard, 0);
     LEAST_ROOM
@@ -179,8 +186,9 @@ pub fn put_alone(out: &mut [u8], number: u8, guard: usize) -> usize
 
 // Writes the header of a polygon's answer, by its only part, before what is listed, and answers how many bytes the answer has.
 fn finish_polygon(answer: PartAnswer, out: &mut [u8]) -> usize
-    requires { ⌜ R.leastRoom ≤ length (now out) ⌝ }
-    ensures { λ r. ⌜ (r ≡ S.polygonLength answer) × (now (out .exit) ≡ sets (now (out .entry)) 0 (S.polygonHeader answer)) ⌝ }
+    requires { ⌜ OutputRoom.leastRoom ≤ length (now out) ⌝ }
+    ensures { λ r. ⌜ (r ≡ Contracts.polygonLength answer)
+        × (now (out .exit) ≡ sets (now (out .entry)) 0 (Contracts.polygonHeader answer)) ⌝ }
 {
     match answer {
         PartAnswer::Nothing => put_alone(out, NOTHING, 0),
@@ -193,7 +201,8 @@ fn finish_polygon(answer: PartAnswer, out: &mut [u8]) -> usize
     }
 }
 
-// The answer to a frame as if rect were its rectangle, in the working slices lent: a polygon is routed, and the parts of a multipolygon are listed. A polygon that is not finite is dropped before. What the working slices hold afterwards is open.
+// The answer to a frame as if rect were its rectangle, in the working slices lent: a polygon is routed, and the parts of a multipolygon are
+// listed. A polygon that is not finite is dropped before. What the working slices hold afterwards is open.
 pub fn answer_in(
     frame: &[u8],
     head: Head,
@@ -205,8 +214,10 @@ pub fn answer_in(
     order: &mut [u32],
     out: &mut [u8],
 ) -> usize
-    requires { ⌜ Y.PartsReady (now frame) head (length (now ring)) (length (now a)) (length (now b)) (length (now order)) (length (now out)) ⌝ }
-    ensures { λ r. ⌜ S.Answers (Y.answerMeasured head rect bounds (S.partsFrom (now (frame .entry)) F.headBytes (head .parts))) (now (out .entry)) r (now (out .exit)) ⌝ }
+    requires { ⌜ Contracts.PartsReady (now frame) head (length (now ring)) (length (now a)) (length (now b)) (length (now order))
+        (length (now out)) ⌝ }
+    ensures { λ r. ⌜ Contracts.Answers (Contracts.answerMeasured head rect bounds
+        (Contracts.partsFrom (now (frame .entry)) Frames.headBytes (head .parts))) (now (out .entry)) r (now (out .exit)) ⌝ }
 {
     let flags = Flags {
         assume_simple: head.assume_simple,

@@ -16,13 +16,15 @@ blocksPrint st (block ∷ others) = printedBy st block ++ blocksPrint (stateAfte
 abbrev whole : List (List ℕ) → List ℕ
 whole blocks = each (λ (block : List ℕ). block) blocks
 
-as-one : (blocks : List (List ℕ)) (st : State) → blocksPrint st blocks ≡ printedBy st (whole blocks) ++ endOfInput (stateAfter st (whole blocks))
+as-one : (blocks : List (List ℕ)) (st : State) → blocksPrint st blocks ≡ printedBy st (whole blocks) ++ endOfInput
+    (stateAfter st (whole blocks))
 unfolding blocksPrint each printedBy stateAfter
 as-one [] st = refl
 as-one (block ∷ others) st =
     let rest = whole others in
     let reached = stateAfter st block in
-    ap (λ (l : List ℕ). printedBy st block ++ l) (as-one others reached) ∙ sym (append-assoc (printedBy st block) (printedBy reached rest) (endOfInput (stateAfter reached rest)))
+    ap (λ (l : List ℕ). printedBy st block ++ l) (as-one others reached)
+    ∙ sym (append-assoc (printedBy st block) (printedBy reached rest) (endOfInput (stateAfter reached rest)))
     ∙ sym (rw (printed-append block rest st, state-append block rest st))
 
 pub all-printed : (blocks : List (List ℕ)) → blocksPrint start blocks ≡ printed (whole blocks)

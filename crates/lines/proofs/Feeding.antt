@@ -14,37 +14,39 @@ use Rattle.binary64.specs.Slices.{over}
 use Rattle.binary64.proofs.Booleans.{both}
 use Rattle.frame_bytes.specs.Frame.{longest}
 use Rattle.lines.specs.declared.line.Line.{Line}
-use Rattle.lines.specs.declared.line.Line.the-variants as Held
+use Rattle.lines.specs.declared.line.Line.the-variants as KnownLines
 use Rattle.lines.specs.Lines.{newline}
-use Rattle.lines.specs.State.{State, whole, start, endLine, endOfInput, stateAfter, printedBy, lineLength, stateOf, part}
-use Rattle.lines.specs.State.{Passes, Takes, lineRoom, lent, Prints, Feeds, notBegun}
+use Rattle.lines.specs.State.{State, whole, start, endLine, endOfInput, stateAfter, printedBy, lineLength, stateOf, lineRoom}
+use Rattle.lines.specs.State.{slicesFit, Prints, Feeds}
+use Rattle.lines.specs.Contracts.{charsBetween, ReadsOn, Takes, notBegun}
 use Rattle.lines.proofs.Running.{state-append, printed-append}
 
 -- ---- whether the slices have the lengths that are asked for
 
-pub kept-short : (kept out : List ℕ) → length kept < longest → lent kept out ≡ false
+pub kept-short : (kept out : List ℕ) → length kept < longest → slicesFit kept out ≡ false
 kept-short kept out h = rw (lt-leb longest (length kept) h)
 
-pub both-lent : (kept out : List ℕ) → longest ≤ length kept → lineRoom ≤ length out → lent kept out ≡ true
+pub both-lent : (kept out : List ℕ) → longest ≤ length kept → lineRoom ≤ length out → slicesFit kept out ≡ true
 both-lent kept out e h = rw (le-leb longest (length kept) e, le-leb lineRoom (length out) h)
 
-pub lent-lengths : (kept out : List ℕ) → lent kept out ≡ true → (longest ≤ length kept) × (lineRoom ≤ length out)
+pub lent-lengths : (kept out : List ℕ) → slicesFit kept out ≡ true → (longest ≤ length kept) × (lineRoom ≤ length out)
 lent-lengths kept out e =
     let t = both (leb longest (length kept)) (leb lineRoom (length out)) e in
     (leb-true longest (length kept) (t .0), leb-true lineRoom (length out) (t .1))
 
 -- the same by the answer of a test
-pub not-lent : (r : Bool) (kept out : List ℕ) → r ≡ lent kept out → not r ≡ true → lent kept out ≡ false
+pub not-lent : (r : Bool) (kept out : List ℕ) → r ≡ slicesFit kept out → not r ≡ true → slicesFit kept out ≡ false
 not-lent true kept out e t = absurd (true≢false (sym t))
 not-lent false kept out e t = sym e
 
-pub is-lent : (r : Bool) (kept out : List ℕ) → r ≡ lent kept out → not r ≡ false → lent kept out ≡ true
+pub is-lent : (r : Bool) (kept out : List ℕ) → r ≡ slicesFit kept out → not r ≡ false → slicesFit kept out ≡ true
 is-lent true kept out e t = sym e
 is-lent false kept out e t = absurd (true≢false t)
 
 -- ---- what is written over the front of the output has room in it
 
-pub over-fits : (w out out′ : List ℕ) (written : ℕ) → written ≡ length w → out′ ≡ over w out → length out′ ≡ length out → written ≤ length out
+pub over-fits : (w out out′ : List ℕ) (written : ℕ) → written ≡ length w → out′ ≡ over w out → length out′ ≡ length out
+    → written ≤ length out
 over-fits w out out′ written n o kept = omega (arith, n, kept, ap length o, length-append w (drop (length w) out))
 
 -- ---- feeding
@@ -53,7 +55,8 @@ pub prints-nothing : (st : State) (out : List ℕ) → Prints [] st out 0 st out
 unfolding stateAfter printedBy
 prints-nothing st out = record { state = refl; count = refl; output = refl; room = omega arith }
 
-pub feeds-nothing : (block : List ℕ) (line : Line) (kept out : List ℕ) → lent kept out ≡ false → Feeds block line kept out 0 0 line kept out
+pub feeds-nothing : (block : List ℕ) (line : Line) (kept out : List ℕ) → slicesFit kept out ≡ false
+    → Feeds block line kept out 0 0 line kept out
 feeds-nothing block line kept out e = record {
   first-line = rw e;
   prints = prints-nothing (stateOf line kept) out;
@@ -66,8 +69,8 @@ taken-only : {A : Type 0} {ready : Bool} → ready ≡ true → ready ≡ false 
 taken-only t f = absurd (true≢false (sym t ∙ f))
 
 -- from the front of a block
-module _ {block : List ℕ} {st st₁ : State} {at : ℕ} (p : Passes block 0 st at st₁) where
-  whole-front : part 0 at block ≡ take at block
+module _ {block : List ℕ} {st st₁ : State} {at : ℕ} (p : ReadsOn block 0 st at st₁) where
+  whole-front : charsBetween 0 at block ≡ take at block
   whole-front = ap (λ (n : ℕ). take n block) (sub-zero at)
 
   front-state : st₁ ≡ stateAfter st (take at block)
@@ -77,7 +80,7 @@ module _ {block : List ℕ} {st st₁ : State} {at : ℕ} (p : Passes block 0 st
   front-silent = sym (ap (printedBy st) whole-front) ∙ p .silent
 
 -- up to the block's end, with no newline in it
-pub feeds-block : (block : List ℕ) (line line′ : Line) (kept kept′ out : List ℕ) (at : ℕ) → lent kept out ≡ true
+pub feeds-block : (block : List ℕ) (line line′ : Line) (kept kept′ out : List ℕ) (at : ℕ) → slicesFit kept out ≡ true
     → Takes block 0 line kept at line′ kept′ → length block ≤ at → length kept′ ≡ length kept
     → Feeds block line kept out at 0 line′ kept′ out
 unfolding lineLength
@@ -106,14 +109,15 @@ module _ (block : List ℕ) (at : ℕ) (h : at < length block) (e : getD block a
   unfolding stateAfter
   line-state st = rw with-newline (state-append (take at block) (newline ∷ []) st)
 
-  line-printed : (st : State) → printedBy st (take at block) ≡ [] → printedBy st (take (at + 1) block) ≡ endLine (stateAfter st (take at block))
+  line-printed : (st : State) → printedBy st (take at block) ≡ [] → printedBy st (take (at + 1) block) ≡ endLine
+      (stateAfter st (take at block))
   unfolding printedBy
   line-printed st none = rw with-newline (printed-append (take at block) (newline ∷ []) st ∙ rw none (append-nil _))
 
-pub feeds-line : (block : List ℕ) (line line₁ : Line) (kept kept′ out out′ : List ℕ) (at written : ℕ) → lent kept out ≡ true
+pub feeds-line : (block : List ℕ) (line line₁ : Line) (kept kept′ out out′ : List ℕ) (at written : ℕ) → slicesFit kept out ≡ true
     → Takes block 0 line kept at line₁ kept′ → at < length block → written ≡ length (endLine (stateOf line₁ kept′))
     → out′ ≡ over (endLine (stateOf line₁ kept′)) out → length out′ ≡ length out → length kept′ ≡ length kept
-    → Feeds block line kept out (at + 1) written (Held.Whole 0) kept′ out′
+    → Feeds block line kept out (at + 1) written (KnownLines.Whole 0) kept′ out′
 feeds-line block line line₁ kept kept′ out out′ at written e t h n o sized free =
     let p = t .passes in
     let st = stateOf line kept in
@@ -170,14 +174,14 @@ some-kept (suc n) (b ∷ kept) h k = refl
 
 pub ends-begun : (line : Line) (kept : List ℕ) → longest ≤ length kept → notBegun line ≡ false
     → endOfInput (stateOf line kept) ≡ endLine (stateOf line kept)
-ends-begun Held.NotDigits kept h e = refl
-ends-begun (Held.Whole n) kept h e = some-kept n kept (pos-of-ne-zero (eqb-false n 0 e)) (omega arith)
-ends-begun (Held.Half n high) kept h e = refl
-ends-begun (Held.Long odd) kept h e = refl
+ends-begun KnownLines.NotDigits kept h e = refl
+ends-begun (KnownLines.Whole n) kept h e = some-kept n kept (pos-of-ne-zero (eqb-false n 0 e)) (omega arith)
+ends-begun (KnownLines.Half n high) kept h e = refl
+ends-begun (KnownLines.Long odd) kept h e = refl
 
 pub ends-not-begun : (line : Line) (kept : List ℕ) → notBegun line ≡ true → endOfInput (stateOf line kept) ≡ []
-ends-not-begun Held.NotDigits kept e = absurd (true≢false (sym e))
-ends-not-begun (Held.Whole zero) kept e = refl
-ends-not-begun (Held.Whole (suc n)) kept e = absurd (omega (arith, eqb-true (suc n) 0 e))
-ends-not-begun (Held.Half n high) kept e = absurd (true≢false (sym e))
-ends-not-begun (Held.Long odd) kept e = absurd (true≢false (sym e))
+ends-not-begun KnownLines.NotDigits kept e = absurd (true≢false (sym e))
+ends-not-begun (KnownLines.Whole zero) kept e = refl
+ends-not-begun (KnownLines.Whole (suc n)) kept e = absurd (omega (arith, eqb-true (suc n) 0 e))
+ends-not-begun (KnownLines.Half n high) kept e = absurd (true≢false (sym e))
+ends-not-begun (KnownLines.Long odd) kept e = absurd (true≢false (sym e))

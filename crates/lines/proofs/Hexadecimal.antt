@@ -38,7 +38,8 @@ module _ {old l : List ℕ} {count : ℕ} (room : 2 * count ≤ length old) wher
   byte-left j h =
       let under : j < suc j = omega arith in
       let few : j < count = omega (arith, h .few) in
-      sym (getD-take (suc j) l j 0 under) ∙ ap (λ (s : List ℕ). getD s j 0) (h .front) ∙ getD-take (suc j) old j 0 under ∙ sym (getD-take count old j 0 few)
+      sym (getD-take (suc j) l j 0 under) ∙ ap (λ (s : List ℕ). getD s j 0) (h .front) ∙ getD-take (suc j) old j 0 under
+      ∙ sym (getD-take count old j 0 few)
 
   hexed-suc : (j : ℕ) → Hexed old count (suc j) l → Hexed old count j (sets l (2 * j) (lowerHex (getD l j 0 ∷ [])))
   unfolding lowerHex
@@ -54,7 +55,14 @@ module _ {old l : List ℕ} {count : ℕ} (room : 2 * count ≤ length old) wher
       record {
         few = omega (arith, h .few);
         same = length-sets l (2 * j) (lowerHex (x ∷ [])) ∙ h .same;
-        front = rw (take-set-le j _ (suc (2 * j)) _ le′, take-set-le j l (2 * j) _ le, ← take-take j (suc j) l le″, ← take-take j (suc j) old le″, h .front);
+        front = rw (
+          take-set-le j _ (suc (2 * j)) _ le′,
+          take-set-le j l (2 * j) _ le,
+          ← take-take j (suc j) l le″,
+          ← take-take j
+              (suc j) old le″,
+          h .front,
+        );
         back =
             ap (drop (2 * j)) (sets-eq (lowerHex (x ∷ [])) l (2 * j) fits ∙ append-assoc (take (2 * j) l) (lowerHex (x ∷ [])) _)
             ∙ drop-at (take (2 * j) l) (lowerHex (x ∷ []) ++ drop (2 * j + 2) l) (2 * j) (length-take-le (2 * j) l (omega (arith, fits)))
@@ -77,6 +85,15 @@ module _ (old : List ℕ) (count : ℕ) (room : 2 * count < length old) where
   pub line-length : length (hexLine (take count old)) ≡ 2 * count + 1
   line-length = length-append (lowerHex (take count old)) (newline ∷ []) ∙ rw counted
 
-  pub line-ended : {l : List ℕ} → l ≡ lowerHex (take count old) ++ drop (2 * count) old → set l (2 * count) newline ≡ over (hexLine (take count old)) old
+  pub line-ended : {l : List ℕ} → l ≡ lowerHex (take count old) ++ drop (2 * count) old → set l (2 * count) newline ≡ over
+      (hexLine (take count old)) old
   line-ended {l} e =
-      rw (e, drop-cons old (2 * count) 0 room, set-at (lowerHex (take count old)) (getD old (2 * count) 0) (drop (suc (2 * count)) old) newline (2 * count) counted, line-length, add-one, append-assoc)
+      rw (
+        e,
+        drop-cons old (2 * count) 0 room,
+        set-at (lowerHex (take count old)) (getD old (2 * count) 0) (drop (suc (2 * count)) old)
+            newline (2 * count) counted,
+        line-length,
+        add-one,
+        append-assoc,
+      )

@@ -11,7 +11,7 @@ use lib.Seq.{take-suc-set, length-take-le}
 use borrow.Author.Tests.{lt-ltb, le-ltb}
 use Rattle.frame_bytes.specs.Frame.{longest}
 use Rattle.lines.specs.declared.line.Line.{Line}
-use Rattle.lines.specs.declared.line.Line.the-variants as Held
+use Rattle.lines.specs.declared.line.Line.the-variants as KnownLines
 use Rattle.lines.specs.State.{State, notDigits, whole, half, long, takeDigit, stateOf, Proper}
 
 module _ (l : List ℕ) (n high d : ℕ) (sized : longest ≤ length l) where
@@ -29,13 +29,13 @@ module _ (l : List ℕ) (n high d : ℕ) (sized : longest ≤ length l) where
 -- ---- a line of the line step is settled by its state
 
 abbrev pub lineOf : State → Line
-lineOf notDigits = Held.NotDigits
-lineOf (whole l) = Held.Whole (length l)
-lineOf (half l high) = Held.Half (length l) high
-lineOf (long odd) = Held.Long odd
+lineOf notDigits = KnownLines.NotDigits
+lineOf (whole l) = KnownLines.Whole (length l)
+lineOf (half l high) = KnownLines.Half (length l) high
+lineOf (long odd) = KnownLines.Long odd
 
 pub line-settled : (line : Line) (kept : List ℕ) → longest ≤ length kept → Proper line → lineOf (stateOf line kept) ≡ line
-line-settled Held.NotDigits kept h p = refl
-line-settled (Held.Whole n) kept h p = rw (length-take-le n kept (omega (arith, h, p .0)))
-line-settled (Held.Half n high) kept h p = rw (length-take-le n kept (omega (arith, h, p .0)), mod-eq-of-lt (p .1))
-line-settled (Held.Long odd) kept h p = refl
+line-settled KnownLines.NotDigits kept h p = refl
+line-settled (KnownLines.Whole n) kept h p = rw (length-take-le n kept (omega (arith, h, p .0)))
+line-settled (KnownLines.Half n high) kept h p = rw (length-take-le n kept (omega (arith, h, p .0)), mod-eq-of-lt (p .1))
+line-settled (KnownLines.Long odd) kept h p = refl

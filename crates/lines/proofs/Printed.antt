@@ -10,8 +10,10 @@ use borrow.Author.Tests.{lt-ltb, le-ltb, ltb-false}
 use Rattle.frame_bytes.specs.Frame.{longest, shortest, readFrame, frameRefusalNumber}
 use Rattle.frame_bytes.specs.declared.reader.FrameRefusal.the-variants.{Size}
 use Rattle.frame_bytes.specs.Encoding.{each}
-use Rattle.lines.specs.Lines.{newline, inFront, linesOf, digit, isDigit, Decoded, notPairs, bytes, withByte, decode, hexLine, refusalBytes, frameAnswer, notPairsNumber, decodedAnswer, answerLine, printed}
-use Rattle.lines.specs.State.{State, notDigits, whole, half, long, start, takeDigit, after, endAnswer, endLine, endOfInput, stateAfter, printedBy}
+use Rattle.lines.specs.Lines.{newline, inFront, linesOf, digit, isDigit, Decoded, notPairs, pairsOf, withByte, decode, hexLine}
+use Rattle.lines.specs.Lines.{refusalBytes, frameAnswer, notPairsNumber, decodedAnswer, answerLine, printed}
+use Rattle.lines.specs.State.{State, notDigits, whole, half, long, start, takeDigit, after, endAnswer, endLine, endOfInput}
+use Rattle.lines.specs.State.{stateAfter, printedBy}
 
 -- a frame over the longest is answered 11
 too-long : (l : List ℕ) → longest < length l → refusalBytes (frameRefusalNumber Size) ≡ frameAnswer l
@@ -47,17 +49,19 @@ spoilt (b ∷ line) = rw (stays-spoilt b (isDigit b) refl) (spoilt line)
 -- a line that has more bytes than the longest frame already
 longAnswer : Decoded → List ℕ
 longAnswer notPairs = refusalBytes notPairsNumber
-longAnswer (bytes l) = refusalBytes (frameRefusalNumber Size)
+longAnswer (pairsOf l) = refusalBytes (frameRefusalNumber Size)
 
 long-byte : (x : ℕ) (d : Decoded) → longAnswer d ≡ longAnswer (withByte true x d)
 unfolding longAnswer
 long-byte x notPairs = refl
-long-byte x (bytes l) = refl
+long-byte x (pairsOf l) = refl
 
-long-pair : (a b : ℕ) (rest : List ℕ) (s t : Bool) → isDigit a ≡ s → isDigit b ≡ t → endAnswer (runs (long false) rest) ≡ longAnswer (decode rest)
+long-pair : (a b : ℕ) (rest : List ℕ) (s t : Bool) → isDigit a ≡ s → isDigit b ≡ t → endAnswer (runs (long false) rest)
+    ≡ longAnswer (decode rest)
     → endAnswer (runs (after (after (long false) a) b) rest) ≡ longAnswer (decode (a ∷ b ∷ rest))
 unfolding decode longAnswer
-long-pair a b rest true true e f ih = rw (digit-taken (long false) a e, digit-taken (long true) b f, e, f) (ih ∙ long-byte (digit a * 16 + digit b) (decode rest))
+long-pair a b rest true true e f ih =
+    rw (digit-taken (long false) a e, digit-taken (long true) b f, e, f) (ih ∙ long-byte (digit a * 16 + digit b) (decode rest))
 long-pair a b rest true false e f ih = rw (digit-taken (long false) a e, spoilt-by (long true) b f, e, f) (spoilt rest)
 long-pair a b rest false t e f ih = rw (spoilt-by (long false) a e, stays-spoilt b t f, e) (spoilt rest)
 
@@ -74,28 +78,33 @@ long-line (a ∷ b ∷ rest) = long-pair a b rest (isDigit a) (isDigit b) refl r
 -- a line of which these bytes are there already
 behind : List ℕ → Decoded → Decoded
 behind l notPairs = notPairs
-behind l (bytes m) = bytes (l ++ m)
+behind l (pairsOf m) = pairsOf (l ++ m)
 
 behind-byte : (l : List ℕ) (x : ℕ) (d : Decoded) → decodedAnswer (behind (l ++ x ∷ []) d) ≡ decodedAnswer (behind l (withByte true x d))
 unfolding behind
 behind-byte l x notPairs = refl
-behind-byte l x (bytes m) = rw (append-assoc l (x ∷ []) m)
+behind-byte l x (pairsOf m) = rw (append-assoc l (x ∷ []) m)
 
 grown-long : (l : List ℕ) (x : ℕ) (d : Decoded) → longest ≤ length l → longAnswer d ≡ decodedAnswer (behind l (withByte true x d))
 unfolding longAnswer behind
 grown-long l x notPairs h = refl
-grown-long l x (bytes m) h = too-long (l ++ x ∷ m) (omega (arith, length-append l (x ∷ m)))
+grown-long l x (pairsOf m) h = too-long (l ++ x ∷ m) (omega (arith, length-append l (x ∷ m)))
 
 module _ (l : List ℕ) where
-  pair-taken : (a b : ℕ) (rest : List ℕ) (t : Bool) → ltb (length l) longest ≡ t → ((m : List ℕ) → endAnswer (runs (whole m) rest) ≡ decodedAnswer (behind m (decode rest)))
-      → endAnswer (runs (takeDigit (half l (digit a)) (digit b)) rest) ≡ decodedAnswer (behind l (withByte true (digit a * 16 + digit b) (decode rest)))
+  pair-taken : (a b : ℕ) (rest : List ℕ) (t : Bool) → ltb (length l) longest ≡ t
+      → ((m : List ℕ) → endAnswer (runs (whole m) rest) ≡ decodedAnswer (behind m (decode rest)))
+      → endAnswer (runs (takeDigit (half l (digit a)) (digit b)) rest) ≡ decodedAnswer
+      (behind l (withByte true (digit a * 16 + digit b) (decode rest)))
   pair-taken a b rest true e ih = rw e (ih (l ++ (digit a * 16 + digit b) ∷ []) ∙ behind-byte l (digit a * 16 + digit b) (decode rest))
-  pair-taken a b rest false e ih = rw e (long-line rest ∙ grown-long l (digit a * 16 + digit b) (decode rest) (ltb-false (length l) longest e))
+  pair-taken a b rest false e ih =
+      rw e (long-line rest ∙ grown-long l (digit a * 16 + digit b) (decode rest) (ltb-false (length l) longest e))
 
-  line-pair : (a b : ℕ) (rest : List ℕ) (s t : Bool) → isDigit a ≡ s → isDigit b ≡ t → ((m : List ℕ) → endAnswer (runs (whole m) rest) ≡ decodedAnswer (behind m (decode rest)))
+  line-pair : (a b : ℕ) (rest : List ℕ) (s t : Bool) → isDigit a ≡ s → isDigit b ≡ t
+      → ((m : List ℕ) → endAnswer (runs (whole m) rest) ≡ decodedAnswer (behind m (decode rest)))
       → endAnswer (runs (after (after (whole l) a) b) rest) ≡ decodedAnswer (behind l (decode (a ∷ b ∷ rest)))
   unfolding decode behind
-  line-pair a b rest true true e f ih = rw (digit-taken (whole l) a e, digit-taken (half l (digit a)) b f, e, f) (pair-taken a b rest (ltb (length l) longest) refl ih)
+  line-pair a b rest true true e f ih =
+      rw (digit-taken (whole l) a e, digit-taken (half l (digit a)) b f, e, f) (pair-taken a b rest (ltb (length l) longest) refl ih)
   line-pair a b rest true false e f ih = rw (digit-taken (whole l) a e, spoilt-by (half l (digit a)) b f, e, f) (spoilt rest)
   line-pair a b rest false t e f ih = rw (spoilt-by (whole l) a e, stays-spoilt b t f, e) (spoilt rest)
 
@@ -116,7 +125,7 @@ line-answer line = ap hexLine (line-from line [] ∙ same (decode line))
   where
     same : (d : Decoded) → decodedAnswer (behind [] d) ≡ decodedAnswer d
     same notPairs = refl
-    same (bytes m) = refl
+    same (pairsOf m) = refl
 
 -- ---- all lines
 
@@ -134,7 +143,8 @@ begun st b true e = rw (digit-taken st b e) (by-state st (digit b))
     one-more [] x = refl
     one-more (y ∷ l) x = refl
 
-    by-room : (l : List ℕ) (x : ℕ) (t : Bool) → endOfInput (cond t (whole (l ++ x ∷ [])) (long false)) ≡ endLine (cond t (whole (l ++ x ∷ [])) (long false))
+    by-room : (l : List ℕ) (x : ℕ) (t : Bool) → endOfInput (cond t (whole (l ++ x ∷ [])) (long false)) ≡ endLine
+        (cond t (whole (l ++ x ∷ [])) (long false))
     by-room l x true = one-more l x
     by-room l x false = refl
 
@@ -158,10 +168,12 @@ from-start (line ∷ others) = rw (line-answer line)
 abbrev toTheEnd : State → List ℕ → List ℕ
 toTheEnd st rest = printedBy st rest ++ endOfInput (stateAfter st rest)
 
-by-newline : (st : State) (b : ℕ) (rest : List ℕ) (t : Bool) → eqb b newline ≡ t → ((st : State) → toTheEnd st rest ≡ printedLines st (linesOf rest))
+by-newline : (st : State) (b : ℕ) (rest : List ℕ) (t : Bool) → eqb b newline ≡ t
+    → ((st : State) → toTheEnd st rest ≡ printedLines st (linesOf rest))
     → toTheEnd st (b ∷ rest) ≡ printedLines st (linesOf (b ∷ rest))
 unfolding printedBy stateAfter linesOf printedLines runs
-by-newline st b rest true e ih = rw e (append-assoc (endLine st) (printedBy start rest) _ ∙ ap (λ (l : List ℕ). endLine st ++ l) (ih start ∙ from-start (linesOf rest)))
+by-newline st b rest true e ih =
+    rw e (append-assoc (endLine st) (printedBy start rest) _ ∙ ap (λ (l : List ℕ). endLine st ++ l) (ih start ∙ from-start (linesOf rest)))
 by-newline st b rest false e ih = rw e (ih (after st b) ∙ one-in-front st b (linesOf rest))
 
 printed-lines : (input : List ℕ) (st : State) → toTheEnd st input ≡ printedLines st (linesOf input)

@@ -1,10 +1,8 @@
 -- Lines of hexadecimal digits, and what is printed for an input of them (document 01, "Frames": the program `ringcut`). Definitions only.
-use mathlib.Core.Path.{_≡_}
 use mathlib.Core.Bool.{Bool, true, false, cond, _&&_}
 use mathlib.Core.List.{List, [], _∷_, _++_}
-use Prim.Native.Nat.{ℕ, _+_, _*_, _-_, _/_, _%_, _<_}
+use Prim.Native.Nat.{ℕ, _+_, _*_, _-_, _/_, _%_}
 use lib.Dec.{ltb, leb, eqb}
-use lib.ListN.{getD}
 use Rattle.frame_bytes.specs.Frame.{Reading, refused, read, Frame, frameRefusalNumber, readFrame}
 use Rattle.frame_bytes.specs.Encoding.{each}
 use Rattle.frames.specs.Output.{frameBytes}
@@ -33,25 +31,21 @@ between low high b = leb low b && leb b high
 unfoldable pub digit : ℕ → ℕ
 digit b = cond (between 48 57 b) (b - 48) (cond (between 97 102 b) (b - 87) (cond (between 65 70 b) (b - 55) 16))
 
--- a table of these values
-abbrev pub DigitValues : List ℕ → Type 0
-DigitValues values = (b : ℕ) → b < 256 → getD values b 0 ≡ digit b
-
 abbrev pub isDigit : ℕ → Bool
 isDigit b = ltb (digit b) 16
 
 -- what a line stands for: bytes, unless it "is not pairs of hexadecimal digits"
 pub data Decoded : Type 0 where
   notPairs : Decoded
-  bytes : List ℕ → Decoded
+  pairsOf : List ℕ → Decoded
 
 abbrev pub withByte : Bool → ℕ → Decoded → Decoded
 withByte false b others = notPairs
 withByte true b notPairs = notPairs
-withByte true b (bytes l) = bytes (b ∷ l)
+withByte true b (pairsOf l) = pairsOf (b ∷ l)
 
 unfoldable pub decode : List ℕ → Decoded
-decode [] = bytes []
+decode [] = pairsOf []
 decode (a ∷ []) = notPairs
 decode (a ∷ b ∷ rest) = withByte (isDigit a && isDigit b) (digit a * 16 + digit b) (decode rest)
 
@@ -85,7 +79,7 @@ notPairsNumber = 10
 
 abbrev pub decodedAnswer : Decoded → List ℕ
 decodedAnswer notPairs = refusalBytes notPairsNumber
-decodedAnswer (bytes l) = frameAnswer l
+decodedAnswer (pairsOf l) = frameAnswer l
 
 abbrev pub answerLine : List ℕ → List ℕ
 answerLine line = hexLine (decodedAnswer (decode line))

@@ -5,17 +5,18 @@ use mathlib.Core.Bool.{Bool, true, false, not, _&&_, cond}
 use mathlib.Core.List.{List, [], _∷_, _++_}
 use Prim.Native.Nat.{ℕ, suc, _+_, _*_, _-_, _%_, _≤_, _<_}
 use lib.Dec.{ltb, leb, eqb}
-use lib.ListN.{length, getD, take, drop}
+use lib.ListN.{length, take}
 use Rattle.binary64.specs.Slices.{over}
 use Rattle.frame_bytes.specs.Frame.{longest, frameRefusalNumber}
 use Rattle.frame_bytes.specs.declared.reader.FrameRefusal.the-variants.{Size}
 use Rattle.lines.specs.declared.line.Line.{Line}
-use Rattle.lines.specs.declared.line.Line.the-variants as Held
+use Rattle.lines.specs.declared.line.Line.the-variants as KnownLines
 use Rattle.lines.specs.declared.feed.Finished.{Finished}
-use Rattle.lines.specs.declared.feed.Finished.the-variants.{TooShort, Written}
+use Rattle.lines.specs.declared.feed.Finished.the-variants.{TooShort, Wrote}
 use Rattle.lines.specs.Lines.{newline, digit, isDigit, hexLine, refusalBytes, frameAnswer, notPairsNumber, printed}
 
--- The bytes that its pairs of digits stand for, and the value of a digit that still wants its second. Of a line of more bytes than the longest frame it is
+-- The bytes that its pairs of digits stand for, and the value of a digit that still wants its second. Of a line of more bytes than the
+-- longest frame it is
 -- enough to know whether a digit wants its second; of one with another character, nothing.
 pub data State : Type 0 where
   notDigits : State
@@ -62,7 +63,8 @@ unfoldable pub stateAfter : State → List ℕ → State
 stateAfter st [] = st
 stateAfter st (b ∷ rest) = cond (eqb b newline) (stateAfter start rest) (stateAfter (after st b) rest)
 
--- what they print: an answer at each newline. An input prints this, and what its end prints (proofs/Blocks.antt: `printed`, in blocks of any sizes).
+-- what they print: an answer at each newline. An input prints this, and what its end prints (proofs/Blocks.antt: `printed`, in blocks of
+-- any sizes).
 unfoldable pub printedBy : State → List ℕ → List ℕ
 printedBy st [] = []
 printedBy st (b ∷ rest) = cond (eqb b newline) (endLine st ++ printedBy start rest) (printedBy (after st b) rest)
@@ -75,23 +77,23 @@ lineLength (b ∷ rest) = cond (eqb b newline) 1 (suc (lineLength rest))
 -- ---- the state as the code holds it, its bytes at the front of a lent slice
 
 abbrev pub stateOf : Line → List ℕ → State
-stateOf Held.NotDigits kept = notDigits
-stateOf (Held.Whole n) kept = whole (take n kept)
-stateOf (Held.Half n high) kept = half (take n kept) (high % 16)
-stateOf (Held.Long odd) kept = long odd
+stateOf KnownLines.NotDigits kept = notDigits
+stateOf (KnownLines.Whole n) kept = whole (take n kept)
+stateOf (KnownLines.Half n high) kept = half (take n kept) (high % 16)
+stateOf (KnownLines.Long odd) kept = long odd
 
 -- how many bytes a line counts, and the value that it holds of a digit that wants its second
 abbrev pub counted : Line → ℕ
-counted Held.NotDigits = 0
-counted (Held.Whole n) = n
-counted (Held.Half n high) = n
-counted (Held.Long odd) = 0
+counted KnownLines.NotDigits = 0
+counted (KnownLines.Whole n) = n
+counted (KnownLines.Half n high) = n
+counted (KnownLines.Long odd) = 0
 
 abbrev pub firstDigit : Line → ℕ
-firstDigit Held.NotDigits = 0
-firstDigit (Held.Whole n) = 0
-firstDigit (Held.Half n high) = high
-firstDigit (Held.Long odd) = 0
+firstDigit KnownLines.NotDigits = 0
+firstDigit (KnownLines.Whole n) = 0
+firstDigit (KnownLines.Half n high) = high
+firstDigit (KnownLines.Long odd) = 0
 
 -- A line as the line step makes it. Where `kept` holds the longest frame, the state of such a line settles it
 -- (proofs/Kept.antt: `line-settled`).
@@ -100,25 +102,8 @@ Proper line = (counted line ≤ longest) × (firstDigit line < 16)
 
 -- An input may begin here: what its characters print, and then its end, is what is to be printed for it.
 abbrev pub Begins : Line → Type 0
-Begins line = (kept input : List ℕ) → printedBy (stateOf line kept) input ++ endOfInput (stateAfter (stateOf line kept) input) ≡ printed input
-
--- the characters of a block from one place to another
-abbrev pub part : ℕ → ℕ → List ℕ → List ℕ
-part from to block = take (to - from) (drop from block)
-
--- Reading on within a line, from one place of a block to another: no newline lies between them.
-pub record Passes (block : List ℕ) (from : ℕ) (st : State) (to : ℕ) (st′ : State) : Type 0 where
-  pub forward : from ≤ to
-  pub within : to ≤ length block
-  pub in-line : from + lineLength (drop from block) ≡ to + lineLength (drop to block)
-  pub reached : st′ ≡ stateAfter st (part from to block)
-  pub silent : printedBy st (part from to block) ≡ []
-
--- Taking a block's characters from a place on, to the next newline or to the block's end.
-pub record Takes (block : List ℕ) (from : ℕ) (line : Line) (kept : List ℕ) (to : ℕ) (line′ : Line) (kept′ : List ℕ) : Type 0 where
-  pub passes : Passes block from (stateOf line kept) to (stateOf line′ kept′)
-  pub stops : to < length block → getD block to 0 ≡ newline
-  pub proper : Proper line → Proper line′
+Begins line =
+    (kept input : List ℕ) → printedBy (stateOf line kept) input ++ endOfInput (stateAfter (stateOf line kept) input) ≡ printed input
 
 -- ---- the lent slices
 
@@ -131,8 +116,8 @@ abbrev pub lineRoom : ℕ
 lineRoom = 2 * answerRoom + 1
 
 -- whether the slice for the bytes of a line holds the longest frame, and the one for what is printed has room for a line
-abbrev pub lent : List ℕ → List ℕ → Bool
-lent kept out = leb longest (length kept) && leb lineRoom (length out)
+abbrev pub slicesFit : List ℕ → List ℕ → Bool
+slicesFit kept out = leb longest (length kept) && leb lineRoom (length out)
 
 -- ---- the line step
 
@@ -143,12 +128,12 @@ pub record Prints (characters : List ℕ) (st : State) (out : List ℕ) (written
   pub output : out′ ≡ over (printedBy st characters) out
   pub room : written ≤ length out
 
--- Feeding a block: its first line is taken, or nothing where a lent slice is shorter than `lent` asks for.
+-- Feeding a block: its first line is taken, or nothing where a lent slice is shorter than `slicesFit` asks for.
 pub record Feeds (block : List ℕ) (line : Line) (kept out : List ℕ) (taken written : ℕ) (line′ : Line) (kept′ out′ : List ℕ) : Type 0 where
-  pub first-line : taken ≡ cond (lent kept out) (lineLength block) 0
+  pub first-line : taken ≡ cond (slicesFit kept out) (lineLength block) 0
   pub prints : Prints (take taken block) (stateOf line kept) out written (stateOf line′ kept′) out′
   -- where a slice is too short the line and its bytes stay
-  pub untaken : lent kept out ≡ false → (line′ ≡ line) × (kept′ ≡ kept)
+  pub untaken : slicesFit kept out ≡ false → (line′ ≡ line) × (kept′ ≡ kept)
   -- otherwise the bytes that the new state does not name are free
   pub free : length kept′ ≡ length kept
   -- Nothing is free of a line that the line step made: `prints` settles its state, and that settles it. Of one that a caller made up,
@@ -156,34 +141,17 @@ pub record Feeds (block : List ℕ) (line : Line) (kept out : List ℕ) (taken w
   -- in which neither is seen, so no answer depends on them.
   pub proper : Proper line → Proper line′
 
--- Feeding a block's lines one behind the other: to its end, or until the output has no room for one line more; how many lines that are is
--- left free. Something is taken of a block that is not empty.
-pub record FeedsLines (block : List ℕ) (st : State) (kept out : List ℕ) (taken written : ℕ) (st′ : State) (kept′ out′ : List ℕ) : Type 0 where
-  pub within : taken ≤ length block
-  pub prints : Prints (take taken block) st out written st′ out′
-  pub stops : taken < length block → length out < written + lineRoom
-  pub some : 0 < length block → 0 < taken
-  -- the bytes of `kept` are free but for those that the new state names
-  pub free : length kept′ ≡ length kept
-
 -- ---- the end of the input
 
--- what `finish` answers: how many bytes it wrote, 0 where there is no last line, or that a lent slice is shorter than `lent` asks for
+-- what `finish` answers: how many bytes it wrote, 0 where there is no last line, or that a lent slice is shorter than `slicesFit` asks for
 abbrev pub finishAnswer : Line → List ℕ → List ℕ → Finished
-finishAnswer line kept out = cond (lent kept out) (Written (length (endOfInput (stateOf line kept)))) TooShort
+finishAnswer line kept out = cond (slicesFit kept out) (Wrote (length (endOfInput (stateOf line kept)))) TooShort
 
 -- and what the output holds then
 abbrev pub finishOutput : Line → List ℕ → List ℕ → List ℕ
-finishOutput line kept out = cond (lent kept out) (over (endOfInput (stateOf line kept)) out) out
+finishOutput line kept out = cond (slicesFit kept out) (over (endOfInput (stateOf line kept)) out) out
 
 -- how many bytes were written by such an answer
 abbrev pub bytesWritten : Finished → ℕ
 bytesWritten TooShort = 0
-bytesWritten (Written count) = count
-
--- a line of which no character was read
-abbrev pub notBegun : Line → Bool
-notBegun Held.NotDigits = false
-notBegun (Held.Whole n) = eqb n 0
-notBegun (Held.Half n high) = false
-notBegun (Held.Long odd) = false
+bytesWritten (Wrote count) = count

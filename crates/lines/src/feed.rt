@@ -4,6 +4,7 @@ ghost use Prim.Native.Nat.{_+_, _<_, _≤_};
 ghost use lib.ListN.{length, take, drop};
 ghost use Rattle.frame_bytes.specs.Frame.{longest};
 ghost use Rattle.lines.specs.State as State;
+ghost use Rattle.lines.specs.Contracts as Contracts;
 use super::answer::LINE_ROOM;
 use super::answer::answer_line;
 use super::line::Line;
@@ -22,7 +23,7 @@ pub enum Finished {
     // `kept` or `out` is shorter than the line step asks: nothing was written, nor is it told whether there is a last line.
     TooShort,
     // So many bytes were written, 0 where there is no last line.
-    Written(usize),
+    Wrote(usize),
 }
 
 // What is known of a line before an input is read.
@@ -35,7 +36,7 @@ pub fn start() -> Line
 
 // Whether the lent slices are as long as the line step asks: `kept` holds the longest frame, and `out` has room for a line.
 fn are_lent(kept: &[u8], out: &[u8]) -> bool
-    ensures lent { λ r. ⌜ r ≡ State.lent (now (kept .entry)) (now (out .entry)) ⌝ }
+    ensures lent { λ r. ⌜ r ≡ State.slicesFit (now (kept .entry)) (now (out .entry)) ⌝ }
 {
     if kept.len() < LONGEST {
         return false;
@@ -98,7 +99,7 @@ fn feed_from(
 // Answers every line that ends in the block, as long as the output has room for one more: a write for each would cost more than the answer.
 pub fn feed_lines(block: &[u8], line: Line, kept: &mut [u8], out: &mut [u8]) -> Fed
     requires { ⌜ (longest ≤ length (now kept)) × (State.lineRoom ≤ length (now out)) ⌝ }
-    ensures feeds { λ r. ⌜ State.FeedsLines (now (block .entry)) (State.stateOf line (now (kept .entry)))
+    ensures feeds { λ r. ⌜ Contracts.FeedsLines (now (block .entry)) (State.stateOf line (now (kept .entry)))
         (now (kept .entry)) (now (out .entry)) (r .taken) (r .written) (State.stateOf (r .line) (now (kept .exit)))
         (now (kept .exit)) (now (out .exit)) ⌝ }
 {
@@ -126,7 +127,7 @@ pub fn feed_lines(block: &[u8], line: Line, kept: &mut [u8], out: &mut [u8]) -> 
 }
 
 fn is_not_begun(line: Line) -> bool
-    ensures answer { λ r. ⌜ r ≡ State.notBegun line ⌝ }
+    ensures answer { λ r. ⌜ r ≡ Contracts.notBegun line ⌝ }
 {
     match line {
         Line::NotDigits => false,
@@ -147,7 +148,7 @@ pub fn finish(line: Line, kept: &[u8], out: &mut [u8]) -> Finished
         return Finished::TooShort;
     }
     if is_not_begun(line) {
-        return Finished::Written(0);
+        return Finished::Wrote(0);
     }
-    Finished::Written(answer_line(line, kept, out))
+    Finished::Wrote(answer_line(line, kept, out))
 }

@@ -3,7 +3,7 @@ ghost use mathlib.Core.Path.{_≡_};
 ghost use Prim.Native.Nat.{_<_, _≤_};
 ghost use lib.ListN.{length, take};
 ghost use Rattle.frame_bytes.specs.Frame.{longest};
-ghost use Rattle.lines.specs.Lines as Lines;
+ghost use Rattle.lines.specs.Contracts as Contracts;
 ghost use Rattle.lines.specs.State as State;
 use super::digits::NEWLINE;
 use super::digits::NOT_A_DIGIT;
@@ -43,7 +43,7 @@ fn take_digit(line: Line, d: u8, kept: &mut [u8]) -> Line
 }
 
 fn take_char(line: Line, b: u8, values: &[u8; 256], kept: &mut [u8]) -> Line
-    requires { ⌜ Lines.DigitValues (now values) × (longest ≤ length (now kept)) ⌝ }
+    requires { ⌜ Contracts.DigitValues (now values) × (longest ≤ length (now kept)) ⌝ }
     ensures state { λ r. ⌜ State.stateOf r (now (kept .exit)) ≡ State.after (State.stateOf line (now (kept .entry))) b ⌝ }
     ensures proper { λ r. ⌜ (State.Proper line → State.Proper r) ⌝ }
 {
@@ -62,8 +62,8 @@ struct Pairs {
 
 // Takes pairs of digits from the front of a block, as long as there are any and a byte more is kept: nearly every line is such pairs.
 fn take_pairs(block: &[u8], bytes: usize, values: &[u8; 256], kept: &mut [u8]) -> Pairs
-    requires { ⌜ Lines.DigitValues (now values) × (longest ≤ length (now kept)) ⌝ }
-    ensures passes { λ r. ⌜ State.Passes (now (block .entry)) 0 (State.whole (take bytes (now (kept .entry))))
+    requires { ⌜ Contracts.DigitValues (now values) × (longest ≤ length (now kept)) ⌝ }
+    ensures passes { λ r. ⌜ Contracts.ReadsOn (now (block .entry)) 0 (State.whole (take bytes (now (kept .entry))))
         (r .at) (State.whole (take (r .bytes) (now (kept .exit)))) ⌝ }
     ensures few { λ r. ⌜ (bytes ≤ longest → r .bytes ≤ longest) ⌝ }
 {
@@ -96,8 +96,8 @@ pub struct Place {
 
 // Takes characters from a place of a block on, to the next newline or to the block's end.
 fn take_chars(block: &[u8], from: usize, line: Line, values: &[u8; 256], kept: &mut [u8]) -> Place
-    requires { ⌜ (from ≤ length (now block)) × Lines.DigitValues (now values) × (longest ≤ length (now kept)) ⌝ }
-    ensures takes { λ r. ⌜ State.Takes (now (block .entry)) from line (now (kept .entry)) (r .at) (r .line) (now (kept .exit)) ⌝ }
+    requires { ⌜ (from ≤ length (now block)) × Contracts.DigitValues (now values) × (longest ≤ length (now kept)) ⌝ }
+    ensures takes { λ r. ⌜ Contracts.Takes (now (block .entry)) from line (now (kept .entry)) (r .at) (r .line) (now (kept .exit)) ⌝ }
 {
     let mut reached = line;
     let mut at = from;
@@ -115,7 +115,7 @@ fn take_chars(block: &[u8], from: usize, line: Line, values: &[u8; 256], kept: &
 // Takes a block's characters to its first newline or to its end.
 pub fn take_line(block: &[u8], line: Line, kept: &mut [u8]) -> Place
     requires { ⌜ longest ≤ length (now kept) ⌝ }
-    ensures takes { λ r. ⌜ State.Takes (now (block .entry)) 0 line (now (kept .entry)) (r .at) (r .line) (now (kept .exit)) ⌝ }
+    ensures takes { λ r. ⌜ Contracts.Takes (now (block .entry)) 0 line (now (kept .entry)) (r .at) (r .line) (now (kept .exit)) ⌝ }
 {
     let values = digit_values();
     if let Line::Whole(bytes) = line {

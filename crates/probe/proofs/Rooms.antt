@@ -9,11 +9,12 @@ use lib.Ieee.{Float}
 use lib.ListN.{length}
 use borrow.Author.Tests.{leb-true, ltb-true}
 use Rattle.binary64.proofs.Booleans.{both}
-use Rattle.box_pairs.specs.Pairs.{front, selfIntersecting}
-use Rattle.box_pairs.specs.Issue.{IssueRoom}
+use Rattle.box_pairs.specs.Contracts.{front, IssueRoom}
+use Rattle.box_pairs.specs.Pairs.{selfIntersecting}
 use Rattle.probe.specs.Edges.{hasRoom, flagCode}
 
-pub room-of : (ring work : List Float) (order : List ℕ) → hasRoom (length ring / 2) work order ≡ true → IssueRoom (length ring / 2) ring work order
+pub room-of : (ring work : List Float) (order : List ℕ) → hasRoom (length ring / 2) work order ≡ true
+    → IssueRoom (length ring / 2) ring work order
 unfolding hasRoom
 room-of ring work order h =
     let n = length ring / 2 in
@@ -30,5 +31,6 @@ room-of ring work order h =
 pub one-edge-less : (P : ℕ → Type 0) (n : ℕ) → (n ≡ 0 → ⊥) → P n → P (n - 1 + 1)
 one-edge-less P n h p = let q : n ≡ n - 1 + 1 = omega arith in subst P q p
 
-pub same-verdict : (ring : List Float) (n : ℕ) (b : Bool) → (n ≡ 0 → ⊥) → b ≡ selfIntersecting (front ring (n - 1 + 1)) → flagCode b ≡ flagCode (selfIntersecting (front ring n))
+pub same-verdict : (ring : List Float) (n : ℕ) (b : Bool) → (n ≡ 0 → ⊥) → b ≡ selfIntersecting (front ring (n - 1 + 1))
+    → flagCode b ≡ flagCode (selfIntersecting (front ring n))
 same-verdict ring n b h e = let q : n - 1 + 1 ≡ n = omega arith in rw (e, q)

@@ -7,7 +7,8 @@ use lib.Ieee.{Float}
 use lib.ListN.{length}
 use Rattle.box_pairs.specs.declared.Issue.{Issue}
 use Rattle.box_pairs.specs.declared.Issue.the-variants.{Sound, Short, Repeated, Crossing}
-use Rattle.box_pairs.specs.Pairs.{front, selfIntersecting}
+use Rattle.box_pairs.specs.Contracts.{front}
+use Rattle.box_pairs.specs.Pairs.{selfIntersecting}
 use Rattle.box_pairs.specs.Issue.{issueOf}
 
 abbrev pub issueCode : Issue → ℕ
@@ -26,9 +27,10 @@ unfoldable pub foundIssue : List Float → ℕ → List Float → List ℕ → �
 foundIssue ring simple work order =
     cond (hasRoom (length ring / 2) work order) (issueCode (issueOf (not (eqb simple 0)) (front ring (length ring / 2)))) 255
 
-unfoldable pub scanned : List Float → ℕ
-scanned ring = cond (eqb (length ring / 2) 0) 255 (flagCode (selfIntersecting (front ring (length ring / 2))))
+unfoldable pub scanAnswer : List Float → ℕ
+scanAnswer ring = cond (eqb (length ring / 2) 0) 255 (flagCode (selfIntersecting (front ring (length ring / 2))))
 
-unfoldable pub swept : List Float → List Float → List ℕ → ℕ
-swept ring work order =
-    cond (eqb (length ring / 2) 0) 255 (cond (hasRoom (length ring / 2) work order) (flagCode (selfIntersecting (front ring (length ring / 2)))) 255)
+unfoldable pub sweepAnswer : List Float → List Float → List ℕ → ℕ
+sweepAnswer ring work order =
+    cond (eqb (length ring / 2) 0) 255 (cond (hasRoom (length ring / 2) work order)
+    (flagCode (selfIntersecting (front ring (length ring / 2)))) 255)

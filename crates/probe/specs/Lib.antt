@@ -1,3 +1,3 @@
-pub mod Numbers
 pub mod Edges
+pub mod Numbers
 pub mod Reader

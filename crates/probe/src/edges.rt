@@ -1,12 +1,13 @@
 // The issue finder of `box_pairs`, and its scan and sweep apart, so that they can be compared on one ring.
-// The issue finder and the sweep test the room of `work` and `order` first and answer 255 where it is short; the scan needs none and tests none.
+// The issue finder and the sweep test the room of `work` and `order` first and answer 255 where it is short; the scan needs none and tests
+// none.
 // The scan and the sweep answer 255 for a ring of no coordinates. What the calls leave in `work` and `order` is left open here.
 ghost use mathlib.Core.Path.{_≡_};
-ghost use Rattle.probe.specs.Edges as S;
+ghost use Rattle.probe.specs.Edges as Edges;
 use box_pairs::Issue;
 
 fn has_room(n: usize, work: &[f64], order: &[u32]) -> bool
-    ensures { λ r. ⌜ r ≡ S.hasRoom n (now (work .entry)) (now (order .entry)) ⌝ }
+    ensures { λ r. ⌜ r ≡ Edges.hasRoom n (now (work .entry)) (now (order .entry)) ⌝ }
 {
     if n > work.len() / 2 {
         return false;
@@ -18,7 +19,7 @@ fn has_room(n: usize, work: &[f64], order: &[u32]) -> bool
 }
 
 fn issue_code(issue: Issue) -> u8
-    ensures { λ r. ⌜ r ≡ S.issueCode issue ⌝ }
+    ensures { λ r. ⌜ r ≡ Edges.issueCode issue ⌝ }
 {
     match issue {
         Issue::Sound => 0,
@@ -29,7 +30,7 @@ fn issue_code(issue: Issue) -> u8
 }
 
 fn flag_code(flag: bool) -> u8
-    ensures { λ r. ⌜ r ≡ S.flagCode flag ⌝ }
+    ensures { λ r. ⌜ r ≡ Edges.flagCode flag ⌝ }
 {
     if flag {
         return 1;
@@ -45,7 +46,7 @@ pub extern "C" fn probe_find_issue(
     work: &mut [f64],
     order: &mut [u32],
 ) -> u8
-    ensures { λ r. ⌜ r ≡ S.foundIssue (now (ring .entry)) «assume_simple» (now (work .entry)) (now (order .entry)) ⌝ }
+    ensures { λ r. ⌜ r ≡ Edges.foundIssue (now (ring .entry)) «assume_simple» (now (work .entry)) (now (order .entry)) ⌝ }
 {
     let n = ring.len() / 2;
     if has_room(n, work, order) {
@@ -57,7 +58,7 @@ pub extern "C" fn probe_find_issue(
 // Whether two edges cross, by all pairs.
 #[no_mangle]
 pub extern "C" fn probe_scan_pairs(ring: &[f64]) -> u8
-    ensures { λ r. ⌜ r ≡ S.scanned (now (ring .entry)) ⌝ }
+    ensures { λ r. ⌜ r ≡ Edges.scanAnswer (now (ring .entry)) ⌝ }
 {
     let n = ring.len() / 2;
     if n == 0 {
@@ -69,7 +70,7 @@ pub extern "C" fn probe_scan_pairs(ring: &[f64]) -> u8
 // Whether two edges cross, by the sweep.
 #[no_mangle]
 pub extern "C" fn probe_sweep_pairs(ring: &[f64], work: &mut [f64], order: &mut [u32]) -> u8
-    ensures { λ r. ⌜ r ≡ S.swept (now (ring .entry)) (now (work .entry)) (now (order .entry)) ⌝ }
+    ensures { λ r. ⌜ r ≡ Edges.sweepAnswer (now (ring .entry)) (now (work .entry)) (now (order .entry)) ⌝ }
 {
     let n = ring.len() / 2;
     if n == 0 {

@@ -3,7 +3,7 @@ ghost use mathlib.Core.Path.{_≡_};
 ghost use lib.Ieee.{nan};
 ghost use lib.ListN.{getD, set};
 ghost use Rattle.tile.specs.Bounds.{empty, isValid, expand, intersect, width, height, buffered};
-ghost use Rattle.sutherland_hodgman.specs.Call.{ringSlices, ringCallCheck};
+ghost use Rattle.sutherland_hodgman.specs.RingCall.{ringSlices, ringCallCheck};
 ghost use Rattle.sutherland_hodgman.specs.Contracts.{ClippedTo};
 ghost use Rattle.probe.specs.Numbers.{boundsAt, stored};
 use sutherland_hodgman::call::Check;

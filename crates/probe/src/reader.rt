@@ -1,8 +1,9 @@
 // The frame reader: which refusal a frame call meets, and the room that an accepted frame asks for.
 ghost use mathlib.Core.Path.{_≡_};
-ghost use Rattle.frame_bytes.specs.Frame.{readFrame, checkOf};
-ghost use Rattle.frame_bytes.specs.Room.{coordinateBytes, frameRoom, readCall};
-ghost use Rattle.probe.specs.Reader as S;
+ghost use Rattle.frame_bytes.specs.Frame.{readFrame};
+ghost use Rattle.frame_bytes.specs.Contracts.{checkOf, frameRoom};
+ghost use Rattle.frame_bytes.specs.Room.{coordinateBytes, readCall};
+ghost use Rattle.probe.specs.Reader as Reader;
 use frame_bytes::reader::FrameCheck;
 use frame_bytes::reader::check_frame;
 use frame_bytes::reader::refusal_number;
@@ -12,7 +13,7 @@ use frame_bytes::room::frame_room;
 // The refusal's number; 0 where there is none.
 #[no_mangle]
 pub extern "C" fn probe_check_call(frame: &[u8], out: usize) -> u8
-    ensures { λ r. ⌜ r ≡ S.checkCode (checkOf (readCall (now (frame .entry)) out)) ⌝ }
+    ensures { λ r. ⌜ r ≡ Reader.checkCode (checkOf (readCall (now (frame .entry)) out)) ⌝ }
 {
     match check_call(frame, out) {
         FrameCheck::Fails(refusal) => refusal_number(refusal),

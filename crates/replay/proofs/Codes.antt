@@ -10,7 +10,7 @@ use Rattle.sutherland_hodgman.specs.declared.call.Refusal.the-variants.{Lengths
 use Rattle.clip.specs.declared.polygon.Flags.{Flags}
 use Rattle.slices.specs.declared.call.SliceAnswer.{SliceAnswer}
 use Rattle.slices.specs.declared.call.SliceAnswer.the-variants.{Refused, Answered}
-use Rattle.slices.specs.Slice.{PolygonSlices, sliceCallAnswer, sliceCallCode}
+use Rattle.slices.specs.SliceCall.{PolygonSlices, sliceCallAnswer, sliceCallCode}
 use Rattle.slices.proofs.Answers.{answer-below}
 use Rattle.replay.specs.Code.{bitsOf}
 

@@ -70,10 +70,12 @@ holds-at : (m : ℕ) (f l : List ℕ) (i : ℕ) → i < length f → i < length 
 unfolding holds
 holds-at m f l i h k = rw (add-one i, drop-cons l i 0 k, drop-cons f i 0 h)
 
-pub holds-step : (m : ℕ) (f l : List ℕ) (i : ℕ) → i < length f → i < length l → eqb (getD l i 0) (getD f i 0) ≡ true → HoldsFrom m f l i → HoldsFrom m f l (i + 1)
+pub holds-step : (m : ℕ) (f l : List ℕ) (i : ℕ) → i < length f → i < length l → eqb (getD l i 0) (getD f i 0) ≡ true → HoldsFrom m f l i
+    → HoldsFrom m f l (i + 1)
 holds-step m f l i h k e p = record { read = omega arith; left = p .left ∙ holds-at m f l i h k ∙ rw e }
 
-pub holds-miss : (m : ℕ) (f l : List ℕ) (i : ℕ) → i < length f → i < length l → eqb (getD l i 0) (getD f i 0) ≡ false → HoldsFrom m f l i → holds m f l ≡ false
+pub holds-miss : (m : ℕ) (f l : List ℕ) (i : ℕ) → i < length f → i < length l → eqb (getD l i 0) (getD f i 0) ≡ false
+    → HoldsFrom m f l i → holds m f l ≡ false
 holds-miss m f l i h k e p = p .left ∙ holds-at m f l i h k ∙ rw e
 
 pub holds-end : (m : ℕ) (f l : List ℕ) (i : ℕ) → length f ≤ i → HoldsFrom m f l i → holds m f l ≡ areAll (drop (length f) l) m

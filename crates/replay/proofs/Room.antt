@@ -10,10 +10,10 @@ use lib.Ieee.{Float}
 use lib.ListN.{length, take, replicate, length-replicate}
 use lib.Seq.{length-take-le}
 use Rattle.binary64.proofs.Booleans.{both}
-use Rattle.replay.specs.declared.ring_calls.Head as RingHead
-use Rattle.replay.specs.declared.slice_calls.Head as SliceHead
-use Rattle.replay.specs.Lent.{marks, wholeMarks, room}
-use Rattle.replay.specs.Calls.{ringRoom, sliceRoom}
+use Rattle.replay.specs.declared.ring_calls.RingVector.{RingVector}
+use Rattle.replay.specs.declared.slice_calls.SliceVector.{SliceVector}
+use Rattle.replay.specs.Lent.{marks, wholeMarks, mostLent}
+use Rattle.replay.specs.Calls.{ringFits, sliceFits}
 
 take-replicate : {A : Type 0} (n m : ℕ) (x : A) → n ≤ m → take n (replicate m x) ≡ replicate n x
 take-replicate zero m x h = refl
@@ -29,35 +29,36 @@ pub record Front (m : List Float) (n : ℕ) : Type 0 where
   pub here : n ≡ length (take n m)
   pub is : take n m ≡ marks n
 
-pub front : (m : List Float) (n : ℕ) → m ≡ marks room → n ≤ room → Front m n
+pub front : (m : List Float) (n : ℕ) → m ≡ marks mostLent → n ≤ mostLent → Front m n
 unfolding marks
 front m n e h =
-    let w = replicated-within m n room _ e h in
-    record { within = w; here = sym (length-take-le n m w); is = rw e (take-replicate n room _ h) }
+    let w = replicated-within m n mostLent _ e h in
+    record { within = w; here = sym (length-take-le n m w); is = rw e (take-replicate n mostLent _ h) }
 
 pub record WholeFront (m : List ℕ) (n : ℕ) : Type 0 where
   pub within : n ≤ length m
   pub here : n ≡ length (take n m)
   pub is : take n m ≡ wholeMarks n
 
-pub whole-front : (m : List ℕ) (n : ℕ) → m ≡ wholeMarks room → n ≤ room → WholeFront m n
+pub whole-front : (m : List ℕ) (n : ℕ) → m ≡ wholeMarks mostLent → n ≤ mostLent → WholeFront m n
 unfolding wholeMarks
 whole-front m n e h =
-    let w = replicated-within m n room _ e h in
-    record { within = w; here = sym (length-take-le n m w); is = rw e (take-replicate n room _ h) }
+    let w = replicated-within m n mostLent _ e h in
+    record { within = w; here = sym (length-take-le n m w); is = rw e (take-replicate n mostLent _ h) }
 
-pub ring-room : (head : RingHead.Head) → ringRoom head ≡ true → (head .a ≤ room) × (head .b ≤ room) × (head .out ≤ room)
-unfolding ringRoom
+pub ring-room : (head : RingVector) → ringFits head ≡ true → (head .a ≤ mostLent) × (head .b ≤ mostLent) × (head .out ≤ mostLent)
+unfolding ringFits
 ring-room head e =
-    let p = both (leb (head .a) room) _ e in
-    let q = both (leb (head .b) room) _ (p .1) in
+    let p = both (leb (head .a) mostLent) _ e in
+    let q = both (leb (head .b) mostLent) _ (p .1) in
     (leb-true _ _ (p .0), leb-true _ _ (q .0), leb-true _ _ (q .1))
 
-pub slice-room : (head : SliceHead.Head) → sliceRoom head ≡ true → (head .a ≤ room) × (head .b ≤ room) × (head .order ≤ room) × (head .out ≤ room) × (head .«out_lengths» ≤ room)
-unfolding sliceRoom
+pub slice-room : (head : SliceVector) → sliceFits head ≡ true → (head .a ≤ mostLent) × (head .b ≤ mostLent) × (head .order ≤ mostLent)
+    × (head .out ≤ mostLent) × (head .«out_lengths» ≤ mostLent)
+unfolding sliceFits
 slice-room head e =
-    let p = both (leb (head .a) room) _ e in
-    let q = both (leb (head .b) room) _ (p .1) in
-    let r = both (leb (head .order) room) _ (q .1) in
-    let s = both (leb (head .out) room) _ (r .1) in
+    let p = both (leb (head .a) mostLent) _ e in
+    let q = both (leb (head .b) mostLent) _ (p .1) in
+    let r = both (leb (head .order) mostLent) _ (q .1) in
+    let s = both (leb (head .out) mostLent) _ (r .1) in
     (leb-true _ _ (p .0), leb-true _ _ (q .0), leb-true _ _ (r .0), leb-true _ _ (s .0), leb-true _ _ (s .1))

@@ -5,15 +5,15 @@ use Prim.Native.Nat.{ℕ}
 use lib.Dec.{eqb, leb}
 use lib.Ieee.{Float}
 use Rattle.tile.specs.declared.TileBounds.{TileBounds}
-use Rattle.sutherland_hodgman.specs.Call.{RingSlices, ringSlices, ringCallAnswer, ringCallCode, ringCallSlices}
+use Rattle.sutherland_hodgman.specs.RingCall.{RingSlices, ringSlices, ringCallAnswer, ringCallCode, ringCallSlices}
 use Rattle.clip.specs.declared.polygon.Flags.{Flags}
-use Rattle.slices.specs.Slice.{PolygonSlices, polygonSlices, sliceCallAnswer, sliceCallCode, sliceCallSlices}
+use Rattle.slices.specs.SliceCall.{PolygonSlices, polygonSlices, sliceCallAnswer, sliceCallCode, sliceCallSlices}
 use Rattle.replay.specs.declared.code.Outcome.{Outcome}
 use Rattle.replay.specs.declared.code.Outcome.the-variants.{Same, Differs, Broken}
-use Rattle.replay.specs.declared.ring_calls.Head as RingHead
-use Rattle.replay.specs.declared.slice_calls.Head as SliceHead
+use Rattle.replay.specs.declared.ring_calls.RingVector.{RingVector}
+use Rattle.replay.specs.declared.slice_calls.SliceVector.{SliceVector}
 use Rattle.replay.specs.Code.{bitsOf, isRefusal}
-use Rattle.replay.specs.Lent.{bits, mark, wholeMark, marks, wholeMarks, room, areAll, holds, scratchAfter, orderAfter}
+use Rattle.replay.specs.Lent.{bits, mark, wholeMark, marks, wholeMarks, areAll, holds, scratchAfter, orderAfter, mostLent}
 
 -- the code of an answer, and after the call both scratch slices and the output, at whose front the kept numbers stand
 unfoldable pub answerAgrees : ℕ → ℕ → List Float → List Float → List Float → List Float → Bool
@@ -42,29 +42,30 @@ sliceAgrees code expected expectedLengths flags bounds buffer coords lengths len
 
 -- ---- what becomes of a vector
 
-abbrev pub outcome : Bool → Bool → ℕ → Outcome
-outcome false agrees code = Broken
-outcome true false code = Differs
-outcome true true code = Same code
+abbrev pub vectorOutcome : Bool → Bool → ℕ → Outcome
+vectorOutcome false agrees code = Broken
+vectorOutcome true false code = Differs
+vectorOutcome true true code = Same code
 
 -- whether the slices that are lent to be written have room
-unfoldable pub ringRoom : RingHead.Head → Bool
-ringRoom head = leb (head .a) room && (leb (head .b) room && leb (head .out) room)
+unfoldable pub ringFits : RingVector → Bool
+ringFits head = leb (head .a) mostLent && (leb (head .b) mostLent && leb (head .out) mostLent)
 
-unfoldable pub sliceRoom : SliceHead.Head → Bool
-sliceRoom head =
-    leb (head .a) room && (leb (head .b) room && (leb (head .order) room && (leb (head .out) room && leb (head .«out_lengths») room)))
+unfoldable pub sliceFits : SliceVector → Bool
+sliceFits head =
+    leb (head .a) mostLent && (leb (head .b) mostLent &&
+    (leb (head .order) mostLent && (leb (head .out) mostLent && leb (head .«out_lengths») mostLent)))
 
 -- of a ring call, or a slice call, with what was kept of it
-unfoldable pub ringOutcome : RingHead.Head → ℕ → List Float → List Float → Outcome
+unfoldable pub ringOutcome : RingVector → ℕ → List Float → List Float → Outcome
 ringOutcome head code ring expected =
     let lent = ringSlices (marks (head .a)) (marks (head .b)) (marks (head .out)) in
-    outcome (ringRoom head) (ringAgrees code expected ring (head .bounds) lent) code
+    vectorOutcome (ringFits head) (ringAgrees code expected ring (head .bounds) lent) code
 
-unfoldable pub sliceOutcome : SliceHead.Head → ℕ → List Float → List ℕ → List Float → List ℕ → Outcome
+unfoldable pub sliceOutcome : SliceVector → ℕ → List Float → List ℕ → List Float → List ℕ → Outcome
 sliceOutcome head code coords lengths expected expectedLengths =
     let outLengths = wholeMarks (head .«out_lengths») in
     let lent = polygonSlices (marks (head .a)) (marks (head .b)) (wholeMarks (head .order)) (marks (head .out)) outLengths in
-    outcome (sliceRoom head)
+    vectorOutcome (sliceFits head)
     (sliceAgrees code expected expectedLengths (head .flags) (head .bounds) (head .buffer) coords lengths lent)
     code

@@ -15,9 +15,9 @@ abbrev pub isRefusal : ℕ → Bool
 isRefusal code = ltb 0x7fff_ffff_ffff_ffff code
 
 -- the count of numbers that a ring call with this answer writes
-abbrev pub numbersOf : ℕ → ℕ
-numbersOf code = cond (isRefusal code) 0 (2 * code)
+abbrev pub numbersWritten : ℕ → ℕ
+numbersWritten code = cond (isRefusal code) 0 (2 * code)
 
 -- the count of rings that a slice call with this answer writes: only a cut, whose number is 4, writes any
-abbrev pub ringsOf : ℕ → ℕ
-ringsOf code = cond (isRefusal code) 0 (cond (eqb (code % 256) 4) (code / 65536) 0)
+abbrev pub ringsWritten : ℕ → ℕ
+ringsWritten code = cond (isRefusal code) 0 (cond (eqb (code % 256) 4) (code / 65536) 0)

@@ -5,7 +5,7 @@ use Prim.Native.Nat.{ℕ, _+_, _*_}
 use lib.Dec.{eqb, leb}
 use lib.Ieee.{Float, binary64, ofBits, toBits}
 use lib.ListN.{replicate}
-use Rattle.rings.specs.Rings.{sum}
+use Rattle.rings.specs.LentRings.{sum}
 
 -- numbers by their bits; the logic has one NaN, so that a NaN's bits are free
 unfoldable pub bits : List Float → List ℕ
@@ -49,9 +49,9 @@ abbrev pub mostNumbers : ℕ
 mostNumbers = 131074
 
 -- the longest slice that is lent to be written
-abbrev pub room : ℕ
-room = 4096
+abbrev pub mostLent : ℕ
+mostLent = 4096
 
 -- the count of numbers of rings with these lengths; where they have no room, one more than that
 abbrev pub numbersIn : List ℕ → ℕ
-numbersIn lengths = cond (leb (2 * sum lengths) room) (2 * sum lengths) (room + 1)
+numbersIn lengths = cond (leb (2 * sum lengths) mostLent) (2 * sum lengths) (mostLent + 1)

@@ -1,3 +1,3 @@
+pub mod Calls
 pub mod Code
 pub mod Lent
-pub mod Calls

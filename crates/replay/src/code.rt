@@ -1,9 +1,9 @@
 // Answers as they cross in the exported calls: an i64, here by its bits, so that minus a refusal's number is a number from the top.
 ghost use mathlib.Core.Path.{_≡_};
 ghost use Prim.Native.Nat.{_^_, _<_};
-ghost use Rattle.sutherland_hodgman.specs.Call.{ringCallCode};
-ghost use Rattle.slices.specs.Slice.{answerCode, sliceCallCode};
-ghost use Rattle.replay.specs.Code.{bitsOf, isRefusal, numbersOf, ringsOf};
+ghost use Rattle.sutherland_hodgman.specs.RingCall.{ringCallCode};
+ghost use Rattle.slices.specs.SliceCall.{answerCode, sliceCallCode};
+ghost use Rattle.replay.specs.Code.{bitsOf, isRefusal, numbersWritten, ringsWritten};
 use clip::polygon::PolygonAnswer;
 use clip::polygon::reason_number;
 use slices::call::SliceAnswer;
@@ -48,7 +48,7 @@ pub fn of_ring(answer: RingAnswer) -> u64
 
 // The numbers that a ring call with this answer writes.
 pub fn numbers_of(code: u64) -> usize
-    ensures { λ r. ⌜ r ≡ numbersOf code ⌝ }
+    ensures { λ r. ⌜ r ≡ numbersWritten code ⌝ }
 {
     if is_refusal(code) {
         return 0;
@@ -81,7 +81,7 @@ pub fn of_slice(answer: SliceAnswer) -> u64
 
 // The rings that a slice call with this answer writes.
 pub fn rings_of(code: u64) -> usize
-    ensures { λ r. ⌜ r ≡ ringsOf code ⌝ }
+    ensures { λ r. ⌜ r ≡ ringsWritten code ⌝ }
 {
     if is_refusal(code) {
         return 0;

@@ -3,8 +3,8 @@ ghost use mathlib.Core.Path.{_≡_};
 ghost use lib.Dec.{eqb};
 ghost use lib.Ieee.{binary64, toBits};
 ghost use lib.ListN.{length};
-ghost use Rattle.replay.specs.Lent as S;
-ghost use Rattle.replay.specs.Calls as K;
+ghost use Rattle.replay.specs.Lent as Lent;
+ghost use Rattle.replay.specs.Calls as Calls;
 use super::code::is_refusal;
 use binary64::bytes::to_bits;
 
@@ -21,20 +21,20 @@ const WHOLE_MARK: u32 = 77;
 
 // Such slices, as long as they can be.
 pub fn marks() -> [f64; ROOM]
-    ensures { λ r. ⌜ r ≡ S.marks S.room ⌝ }
+    ensures { λ r. ⌜ r ≡ Lent.marks Lent.mostLent ⌝ }
 {
     [MARK; ROOM]
 }
 
 pub fn whole_marks() -> [u32; ROOM]
-    ensures { λ r. ⌜ r ≡ S.wholeMarks S.room ⌝ }
+    ensures { λ r. ⌜ r ≡ Lent.wholeMarks Lent.mostLent ⌝ }
 {
     [WHOLE_MARK; ROOM]
 }
 
 // Room for the numbers of a polygon or a ring: a function of its own, so that no caller has the array written out in its proof.
 pub fn no_numbers() -> [f64; MOST_NUMBERS]
-    ensures { λ r. ⌜ length r ≡ S.mostNumbers ⌝ }
+    ensures { λ r. ⌜ length r ≡ Lent.mostNumbers ⌝ }
 {
     [0.0; MOST_NUMBERS]
 }
@@ -48,19 +48,19 @@ fn is_same(x: f64, y: f64) -> bool
 
 // What scratch holds after a call, and the order slice.
 fn scratch_after(refused: bool) -> f64
-    ensures { λ r. ⌜ toBits binary64 r ≡ S.scratchAfter refused ⌝ }
+    ensures { λ r. ⌜ toBits binary64 r ≡ Lent.scratchAfter refused ⌝ }
 {
     if refused { MARK } else { 0.0 }
 }
 
 fn order_after(refused: bool) -> u32
-    ensures { λ r. ⌜ r ≡ S.orderAfter refused ⌝ }
+    ensures { λ r. ⌜ r ≡ Lent.orderAfter refused ⌝ }
 {
     if refused { WHOLE_MARK } else { 0 }
 }
 
 fn are_all(s: &[f64], x: f64) -> bool
-    ensures { λ r. ⌜ r ≡ S.areAll (S.bits (now (s .entry))) (toBits binary64 x) ⌝ }
+    ensures { λ r. ⌜ r ≡ Lent.areAll (Lent.bits (now (s .entry))) (toBits binary64 x) ⌝ }
 {
     let mut i = 0usize;
     while i < s.len() {
@@ -73,7 +73,7 @@ fn are_all(s: &[f64], x: f64) -> bool
 }
 
 fn are_all_wholes(s: &[u32], x: u32) -> bool
-    ensures { λ r. ⌜ r ≡ S.areAll (now (s .entry)) x ⌝ }
+    ensures { λ r. ⌜ r ≡ Lent.areAll (now (s .entry)) x ⌝ }
 {
     let mut i = 0usize;
     while i < s.len() {
@@ -87,7 +87,7 @@ fn are_all_wholes(s: &[u32], x: u32) -> bool
 
 // Whether a slice holds these numbers at its front, and past them what it held before the call.
 fn holds(s: &[f64], front: &[f64]) -> bool
-    ensures { λ r. ⌜ r ≡ S.holds S.mark (S.bits (now (front .entry))) (S.bits (now (s .entry))) ⌝ }
+    ensures { λ r. ⌜ r ≡ Lent.holds Lent.mark (Lent.bits (now (front .entry))) (Lent.bits (now (s .entry))) ⌝ }
 {
     let n = front.len();
     if s.len() < n {
@@ -104,7 +104,7 @@ fn holds(s: &[f64], front: &[f64]) -> bool
 }
 
 fn holds_wholes(s: &[u32], front: &[u32]) -> bool
-    ensures { λ r. ⌜ r ≡ S.holds S.wholeMark (now (front .entry)) (now (s .entry)) ⌝ }
+    ensures { λ r. ⌜ r ≡ Lent.holds Lent.wholeMark (now (front .entry)) (now (s .entry)) ⌝ }
 {
     let n = front.len();
     if s.len() < n {
@@ -120,7 +120,8 @@ fn holds_wholes(s: &[u32], front: &[u32]) -> bool
     are_all_wholes(&s[n..], WHOLE_MARK)
 }
 
-// Whether the code of an answer is the kept one, and the call has left the scratch slices and the output as it has to. It reads them only: where they are lent to be written, each return is proved to keep all their lengths.
+// Whether the code of an answer is the kept one, and the call has left the scratch slices and the output as it has to. It reads them only:
+// where they are lent to be written, each return is proved to keep all their lengths.
 pub fn answer_agrees(
     given: u64,
     code: u64,
@@ -129,7 +130,7 @@ pub fn answer_agrees(
     out: &[f64],
     expected: &[f64],
 ) -> bool
-    ensures { λ r. ⌜ r ≡ K.answerAgrees given code (now (a .entry)) (now (b .entry)) (now (out .entry)) (now (expected .entry)) ⌝ }
+    ensures { λ r. ⌜ r ≡ Calls.answerAgrees given code (now (a .entry)) (now (b .entry)) (now (out .entry)) (now (expected .entry)) ⌝ }
 {
     if given != code {
         return false;
@@ -146,7 +147,7 @@ pub fn answer_agrees(
 
 // Whether a call has left the order slice and the second length slice as it has to.
 pub fn wholes_agree(refused: bool, order: &[u32], out_lengths: &[u32], expected: &[u32]) -> bool
-    ensures { λ r. ⌜ r ≡ K.wholesAgree refused (now (order .entry)) (now («out_lengths» .entry)) (now (expected .entry)) ⌝ }
+    ensures { λ r. ⌜ r ≡ Calls.wholesAgree refused (now (order .entry)) (now («out_lengths» .entry)) (now (expected .entry)) ⌝ }
 {
     if !are_all_wholes(order, order_after(refused)) {
         return false;

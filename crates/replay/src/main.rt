@@ -1,4 +1,5 @@
-// Replays ring calls and slice calls from standard input, each with the answer that the unchanged Rust gave to it (harness/README.md, "Vectors to replay": a file of ring calls, then one of slice calls), and prints how often each answer was
+// Replays ring calls and slice calls from standard input, each with the answer that the unchanged Rust gave to it (harness/README.md,
+// "Vectors to replay": a file of ring calls, then one of slice calls), and prints how often each answer was
 // given and how many calls were answered otherwise.
 mod code;
 mod lent;

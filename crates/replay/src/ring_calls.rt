@@ -1,8 +1,8 @@
 // Ring calls, each held to its answer and to what that answer leaves in the lent slices.
 ghost use mathlib.Core.Path.{_≡_};
 ghost use lib.ListN.{length};
-ghost use Rattle.sutherland_hodgman.specs.Call.{ringSlices};
-ghost use Rattle.replay.specs.Calls.{ringAgrees, ringRoom, ringOutcome};
+ghost use Rattle.sutherland_hodgman.specs.RingCall.{ringSlices};
+ghost use Rattle.replay.specs.Calls.{ringAgrees, ringFits, ringOutcome};
 use super::code::Outcome;
 use super::code::numbers_of;
 use super::code::of_ring;
@@ -24,7 +24,7 @@ use tile::TileBounds;
 const HEAD: usize = 52;
 
 // `a`, `b` and `out` are the lengths of the slices. Of the numbers that are lent only the first are stored; the others are zeros.
-struct Head {
+struct RingVector {
     a: usize,
     b: usize,
     out: usize,
@@ -33,14 +33,14 @@ struct Head {
     stored: usize,
 }
 
-fn read_head(bytes: &[u8]) -> Head
+fn read_head(bytes: &[u8]) -> RingVector
     requires { ⌜ length (now bytes) ≡ 52 ⌝ }
 {
     let west = read_f64(bytes, 12);
     let south = read_f64(bytes, 20);
     let east = read_f64(bytes, 28);
     let north = read_f64(bytes, 36);
-    Head {
+    RingVector {
         a: count_at(bytes, 0),
         b: count_at(bytes, 4),
         out: count_at(bytes, 8),
@@ -67,8 +67,8 @@ fn agrees(
 }
 
 // Whether the slices that are lent to be written have room.
-fn has_room(head: Head) -> bool
-    ensures { λ r. ⌜ r ≡ ringRoom head ⌝ }
+fn has_room(head: RingVector) -> bool
+    ensures { λ r. ⌜ r ≡ ringFits head ⌝ }
 {
     if head.a > ROOM {
         return false;
@@ -79,7 +79,7 @@ fn has_room(head: Head) -> bool
     head.out <= ROOM
 }
 
-fn call(head: Head, code: u64, lent: &[f64], expected: &[f64]) -> Outcome
+fn call(head: RingVector, code: u64, lent: &[f64], expected: &[f64]) -> Outcome
     ensures { λ r. ⌜ r ≡ ringOutcome head code (now (lent .entry)) (now (expected .entry)) ⌝ }
 {
     if !has_room(head) {
@@ -106,7 +106,7 @@ fn call(head: Head, code: u64, lent: &[f64], expected: &[f64]) -> Outcome
 }
 
 // From the answer on: the numbers of its ring follow it.
-fn replay_answer(head: Head, lent: &[f64]) -> Outcome {
+fn replay_answer(head: RingVector, lent: &[f64]) -> Outcome {
     let Code::Is(code) = read_code() else {
         return Outcome::Broken;
     };
@@ -122,7 +122,7 @@ fn replay_answer(head: Head, lent: &[f64]) -> Outcome {
 }
 
 // From the numbers of the ring on.
-fn replay_with(head: Head) -> Outcome {
+fn replay_with(head: RingVector) -> Outcome {
     let n = head.numbers;
     if n > MOST_NUMBERS {
         return Outcome::Broken;

@@ -4,9 +4,9 @@ ghost use mathlib.Core.Bool.{_&&_};
 ghost use Prim.Native.Nat.{_^_, _<_};
 ghost use lib.ListN.{length};
 ghost use Rattle.replay.specs.Code.{isRefusal};
-ghost use Rattle.slices.specs.Slice.{polygonSlices};
+ghost use Rattle.slices.specs.SliceCall.{polygonSlices};
 ghost use Rattle.replay.specs.Lent.{numbersIn};
-ghost use Rattle.replay.specs.Calls.{answerAgrees, wholesAgree, sliceAgrees, sliceRoom, sliceOutcome};
+ghost use Rattle.replay.specs.Calls.{answerAgrees, wholesAgree, sliceAgrees, sliceFits, sliceOutcome};
 use super::code::Outcome;
 use super::code::is_refusal;
 use super::code::of_slice;
@@ -38,7 +38,7 @@ const HEAD: usize = 68;
 const MOST_RINGS: usize = 128;
 
 // `a` to `out_lengths` are the lengths of the slices.
-struct Head {
+struct SliceVector {
     flags: Flags,
     a: usize,
     b: usize,
@@ -70,10 +70,10 @@ fn read_bounds(bytes: &[u8]) -> TileBounds
     TileBounds::new(west, south, east, north)
 }
 
-fn read_head(bytes: &[u8]) -> Head
+fn read_head(bytes: &[u8]) -> SliceVector
     requires { ⌜ length (now bytes) ≡ 68 ⌝ }
 {
-    Head {
+    SliceVector {
         flags: read_flags(bytes),
         a: count_at(bytes, 4),
         b: count_at(bytes, 8),
@@ -109,7 +109,7 @@ fn slices_agree(
 
 fn agrees(
     code: u64,
-    head: Head,
+    head: SliceVector,
     coords: &[f64],
     lengths: &[u32],
     a: &mut [f64],
@@ -150,8 +150,8 @@ fn agrees(
 }
 
 // Whether the slices that are lent to be written have room.
-fn has_room(head: Head) -> bool
-    ensures { λ r. ⌜ r ≡ sliceRoom head ⌝ }
+fn has_room(head: SliceVector) -> bool
+    ensures { λ r. ⌜ r ≡ sliceFits head ⌝ }
 {
     if head.a > ROOM {
         return false;
@@ -169,7 +169,7 @@ fn has_room(head: Head) -> bool
 }
 
 fn call(
-    head: Head,
+    head: SliceVector,
     code: u64,
     coords: &[f64],
     lengths: &[u32],
@@ -234,7 +234,7 @@ fn numbers_in(lengths: &[u32]) -> usize
 
 // From a cut's numbers on.
 fn replay_expected(
-    head: Head,
+    head: SliceVector,
     code: u64,
     coords: &[f64],
     lengths: &[u32],
@@ -259,7 +259,7 @@ fn replay_expected(
 }
 
 // From the answer on: a cut's lengths and numbers follow it.
-fn replay_answer(head: Head, coords: &[f64], lengths: &[u32]) -> Outcome {
+fn replay_answer(head: SliceVector, coords: &[f64], lengths: &[u32]) -> Outcome {
     let Code::Is(code) = read_code() else {
         return Outcome::Broken;
     };
@@ -275,7 +275,7 @@ fn replay_answer(head: Head, coords: &[f64], lengths: &[u32]) -> Outcome {
 }
 
 // From the count of numbers on.
-fn replay_numbers(head: Head, lengths: &[u32]) -> Outcome {
+fn replay_numbers(head: SliceVector, lengths: &[u32]) -> Outcome {
     let Count::Is(n) = read_count() else {
         return Outcome::Broken;
     };
@@ -292,7 +292,7 @@ fn replay_numbers(head: Head, lengths: &[u32]) -> Outcome {
     replay_answer(head, &coords[..n], lengths)
 }
 
-fn replay_with(head: Head) -> Outcome {
+fn replay_with(head: SliceVector) -> Outcome {
     let k = head.rings;
     if k > MOST_RINGS {
         return Outcome::Broken;

@@ -1,4 +1,5 @@
-// Vectors as they stand on standard input: little-endian numbers, taken from the front. What is not there, or has no room, is said to be missing.
+// Vectors as they stand on standard input: little-endian numbers, taken from the front. What is not there, or has no room, is said to be
+// missing.
 ghost use Prim.Native.Nat.{_+_, _*_, _≤_};
 ghost use lib.ListN.{length};
 use binary64::bytes::read_f64;

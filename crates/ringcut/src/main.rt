@@ -85,7 +85,7 @@ fn main() {
     let mut out = [0u8; OUTPUT];
     let line = read_all(&mut kept, &mut out);
     // Both slices are as long as `finish` asks, so it never answers that one is too short.
-    if let Finished::Written(waiting) = finish(line, &kept, &mut out) {
+    if let Finished::Wrote(waiting) = finish(line, &kept, &mut out) {
         write_out(&out, waiting);
     }
 }

@@ -13,12 +13,12 @@ use Rattle.sutherland_hodgman.specs.declared.call.Refusal.{Refusal}
 use Rattle.sutherland_hodgman.specs.declared.call.Refusal.the-variants.{Lengths, Coordinates, Scratch, Output}
 use Rattle.sutherland_hodgman.specs.declared.call.RingAnswer.the-variants.{Refused}
 use Rattle.sutherland_hodgman.specs.Growth.{mostCoordinates}
-use Rattle.sutherland_hodgman.specs.Call.{ringCallCode}
+use Rattle.sutherland_hodgman.specs.RingCall.{ringCallCode}
 use Rattle.frame_bytes.specs.declared.reader.FrameRefusal.{FrameRefusal}
 use Rattle.frame_bytes.specs.declared.reader.FrameRefusal.the-variants as Frames
 use Rattle.frame_bytes.specs.Frame.{frameRefusalNumber}
 use Rattle.frames.specs.declared.entry.FrameAnswer.the-variants.{Answered}
-use Rattle.frames.specs.Entry.{frameCallAnswer}
+use Rattle.frames.specs.FrameCall.{frameCallAnswer}
 use Rattle.frames.proofs.Entries.{answered-few}
 
 pub count-fits : (n : ℕ) → n ≤ 8 * mostCoordinates → SFits w64 (pos n)

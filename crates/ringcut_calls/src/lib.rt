@@ -3,11 +3,11 @@
 ghost use mathlib.Core.Path.{_≡_};
 ghost use Prim.Native.Nat.{_^_, _<_};
 ghost use Rattle.tile.specs.Bounds.{newOf};
-ghost use Rattle.sutherland_hodgman.specs.Call.{ringSlices, ringCallAnswer, ringCallCode, ringCallSlices, RingCallPromise};
-ghost use Rattle.slices.specs.Slice.{polygonSlices, sliceCallAnswer, sliceCallSlices};
-ghost use Rattle.slices.specs.Slice.{answerCode, sliceCallCode, sliceCallGuards, guardsIn};
+ghost use Rattle.sutherland_hodgman.specs.RingCall.{ringSlices, ringCallAnswer, ringCallCode, ringCallSlices, RingCallPromise};
+ghost use Rattle.slices.specs.SliceCall.{polygonSlices, sliceCallAnswer, sliceCallSlices, answerCode, sliceCallCode, sliceCallGuards};
+ghost use Rattle.slices.specs.SliceCall.{guardsIn};
 ghost use Rattle.frames.specs.Output.{frameCallOutput};
-ghost use Rattle.frames.specs.Entry.{frameCallAnswer, frameCallCode};
+ghost use Rattle.frames.specs.FrameCall.{frameCallAnswer, frameCallCode};
 ghost use Rattle.ringcut_calls.specs.Flags.{isSet, flagsOf};
 use clip::polygon::CUT;
 use clip::polygon::DROPPED;

@@ -1,4 +1,5 @@
--- Closing a ring changes neither the rectangle nor whether a coordinate is huge, and a rectangle that is finite says that every ring could be closed. Assumes nothing.
+-- Closing a ring changes neither the rectangle nor whether a coordinate is huge, and a rectangle that is finite says that every ring could
+-- be closed. Assumes nothing.
 use mathlib.Core.Path.{_≡_, refl, sym, _∙_}
 use mathlib.Core.Bool.{Bool, true, false, cond, _||_, or-assoc, or-false, true≢false}
 use mathlib.Core.List.{List, [], _∷_, _++_}
@@ -16,10 +17,11 @@ use Rattle.tile.specs.declared.Coord.{Coord}
 use Rattle.tile.specs.Ring.{coords, same, closed, close}
 use Rattle.tile.proofs.Rings.{close-closes}
 use Rattle.rings.specs.declared.rectangle.Rect.{Rect}
-use Rattle.rings.specs.declared.rectangle.Rect.the-variants as R
+use Rattle.rings.specs.declared.rectangle.Rect.the-variants as Rects
 use Rattle.rings.specs.Rectangle.{ifFinite, isFiniteCoord, withCoord, withRing, withRings, withParts}
 use Rattle.rings.specs.Representable.{hugeCoord, anyHuge}
-use Rattle.rings.specs.Rings.{closedRings, allClosed}
+use Rattle.rings.specs.LentRings.{closedRings}
+use Rattle.rings.specs.Contracts.{allClosed}
 
 -- ---- of two numbers the one that comes first in an order; a NaN gives way
 
@@ -98,32 +100,40 @@ pub record Corners (p : Coord) (w s e n : Float) : Type 0 where
   pub north : Covers gt n (p .y)
 
 abbrev pub Holds : Coord → Rect → Type 0
-Holds p R.Nothing = ⊥
-Holds p R.NotFinite = Unit {0}
-Holds p (R.Box w s e n) = Corners p w s e n
+Holds p Rects.Nothing = ⊥
+Holds p Rects.NotFinite = Unit {0}
+Holds p (Rects.Box w s e n) = Corners p w s e n
 
 holds-same : (p : Coord) (r : Rect) → Holds p r → withCoord r p ≡ r
 unfolding withCoord minimum maximum
-holds-same p R.Nothing h = absurd h
-holds-same p R.NotFinite h = refl
-holds-same p (R.Box w s e n) h = rw (h .whole, covers-same lt lt-trans lt-asym w (p .x) (h .west), covers-same lt lt-trans lt-asym s (p .y) (h .south), covers-same gt gt-trans gt-asym e (p .x) (h .east), covers-same gt gt-trans gt-asym n (p .y) (h .north))
+holds-same p Rects.Nothing h = absurd h
+holds-same p Rects.NotFinite h = refl
+holds-same p (Rects.Box w s e n) h =
+    rw (
+      h .whole,
+      covers-same lt lt-trans lt-asym w (p .x) (h .west),
+      covers-same lt lt-trans lt-asym s (p .y) (h .south),
+      covers-same
+          gt gt-trans gt-asym e (p .x) (h .east),
+      covers-same gt gt-trans gt-asym n (p .y) (h .north),
+    )
 
 pub holds-new : (p : Coord) (r : Rect) → Holds p (withCoord r p)
 unfolding withCoord minimum maximum
 holds-new p r = go (isFiniteCoord p) refl r
   where
     go : (t : Bool) → isFiniteCoord p ≡ t → (r : Rect) → Holds p (withCoord r p)
-    go t e R.NotFinite = tt
-    go false e R.Nothing = rw e tt
-    go false e (R.Box w s e′ n) = rw e tt
-    go true e R.Nothing = rw e (record {
+    go t e Rects.NotFinite = tt
+    go false e Rects.Nothing = rw e tt
+    go false e (Rects.Box w s e′ n) = rw e tt
+    go true e Rects.Nothing = rw e (record {
       whole = e;
       west = covers-self lt lt-trans lt-asym (p .x) (number-x p e);
       south = covers-self lt lt-trans lt-asym (p .y) (number-y p e);
       east = covers-self gt gt-trans gt-asym (p .x) (number-x p e);
       north = covers-self gt gt-trans gt-asym (p .y) (number-y p e);
     })
-    go true e (R.Box w s e′ n) = rw e (record {
+    go true e (Rects.Box w s e′ n) = rw e (record {
       whole = e;
       west = covers-new lt lt-trans lt-asym w (p .x) (number-x p e);
       south = covers-new lt lt-trans lt-asym s (p .y) (number-y p e);
@@ -133,11 +143,12 @@ holds-new p r = go (isFiniteCoord p) refl r
 
 holds-more : (p q : Coord) (r : Rect) → Holds p r → Holds p (withCoord r q)
 unfolding withCoord minimum maximum
-holds-more p q R.Nothing h = absurd h
-holds-more p q R.NotFinite h = tt
-holds-more p q (R.Box w s e n) h = go (isFiniteCoord q) refl
+holds-more p q Rects.Nothing h = absurd h
+holds-more p q Rects.NotFinite h = tt
+holds-more p q (Rects.Box w s e n) h = go (isFiniteCoord q) refl
   where
-    go : (t : Bool) → isFiniteCoord q ≡ t → Holds p (ifFinite t (R.Box (minimum w (q .x)) (minimum s (q .y)) (maximum e (q .x)) (maximum n (q .y))))
+    go : (t : Bool) → isFiniteCoord q ≡ t → Holds p
+        (ifFinite t (Rects.Box (minimum w (q .x)) (minimum s (q .y)) (maximum e (q .x)) (maximum n (q .y))))
     go false f = tt
     go true f = record {
       whole = h .whole;
@@ -196,29 +207,30 @@ self-same : (p : Coord) → isFiniteCoord p ≡ true → same p p ≡ true
 unfolding same
 self-same p f = let g = both (finite (p .x)) (finite (p .y)) f in rw (self-equal (p .x) (g .0), self-equal (p .y) (g .1))
 
-not-finite : (r : Rect) (p : Coord) → isFiniteCoord p ≡ false → withCoord r p ≡ R.NotFinite
+not-finite : (r : Rect) (p : Coord) → isFiniteCoord p ≡ false → withCoord r p ≡ Rects.NotFinite
 unfolding withCoord
-not-finite R.Nothing p e = rw e
-not-finite R.NotFinite p e = refl
-not-finite (R.Box w s e′ n) p e = rw e
+not-finite Rects.Nothing p e = rw e
+not-finite Rects.NotFinite p e = refl
+not-finite (Rects.Box w s e′ n) p e = rw e
 
 -- a rectangle that is not finite stays so
-pub stays-ring : (c : List Coord) → withRing R.NotFinite c ≡ R.NotFinite
+pub stays-ring : (c : List Coord) → withRing Rects.NotFinite c ≡ Rects.NotFinite
 unfolding withRing withCoord
 stays-ring [] = refl
 stays-ring (p ∷ c) = stays-ring c
 
-pub stays-rings : (rings : List (List Coord)) → withRings R.NotFinite rings ≡ R.NotFinite
+pub stays-rings : (rings : List (List Coord)) → withRings Rects.NotFinite rings ≡ Rects.NotFinite
 unfolding withRings
 stays-rings [] = refl
 stays-rings (c ∷ rings) = rw (stays-ring c) (stays-rings rings)
 
-pub stays-parts : (parts : List (List (List Coord))) → withParts R.NotFinite parts ≡ R.NotFinite
+pub stays-parts : (parts : List (List (List Coord))) → withParts Rects.NotFinite parts ≡ Rects.NotFinite
 unfolding withParts
 stays-parts [] = refl
 stays-parts (part ∷ parts) = rw (stays-rings part) (stays-parts parts)
 
-pub ring-closed : (r : Rect) (c : List Coord) (rest : List (List Coord)) → (withRings (withRing r (close c)) rest ≡ R.NotFinite → ⊥) → closed (close c) ≡ true
+pub ring-closed : (r : Rect) (c : List Coord) (rest : List (List Coord)) → (withRings (withRing r (close c)) rest ≡ Rects.NotFinite → ⊥)
+    → closed (close c) ≡ true
 unfolding close closed withRing
 ring-closed r [] rest q = refl
 ring-closed r (p ∷ c) rest q = go (isFiniteCoord p) refl
@@ -227,12 +239,13 @@ ring-closed r (p ∷ c) rest q = go (isFiniteCoord p) refl
     go true f = close-closes p c (self-same p f)
     go false f = absurd (q (rw (rect-close r (p ∷ c), not-finite r p f, stays-ring c) (stays-rings rest)))
 
-pub all-closed : (r : Rect) (ns : List ℕ) (numbers : List Float) → (withRings r (closedRings ns numbers) ≡ R.NotFinite → ⊥) → allClosed (closedRings ns numbers) ≡ true
+pub all-closed : (r : Rect) (ns : List ℕ) (numbers : List Float) → (withRings r (closedRings ns numbers) ≡ Rects.NotFinite → ⊥)
+    → allClosed (closedRings ns numbers) ≡ true
 unfolding closedRings withRings allClosed
 all-closed r [] numbers q = refl
 all-closed r (k ∷ ns) numbers q =
     let c = coords (take (2 * k) numbers) in
     rw (ring-closed r c (closedRings ns (drop (2 * k) numbers)) q, all-closed (withRing r (close c)) ns (drop (2 * k) numbers) q)
 
-pub box-finite : (r : Rect) (w s e n : Float) → r ≡ R.Box w s e n → r ≡ R.NotFinite → ⊥
+pub box-finite : (r : Rect) (w s e n : Float) → r ≡ Rects.Box w s e n → r ≡ Rects.NotFinite → ⊥
 box-finite r w s e n p q = let z : _≡_ {A = ℕ} 0 1 = cc in omega arith

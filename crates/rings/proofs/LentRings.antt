@@ -1,4 +1,5 @@
--- The rings of a lent polygon from the k-th on, whose numbers start at a place of the slice: one ring further, and past the last. Assumes nothing.
+-- The rings of a lent polygon from the k-th on, whose numbers start at a place of the slice: one ring further, and past the last. Assumes
+-- nothing.
 use mathlib.Core.Path.{_≡_, refl, ap}
 use mathlib.Core.Bool.{Bool, true, false, cond, _||_}
 use mathlib.Core.List.{List, [], _∷_}
@@ -17,7 +18,8 @@ use Rattle.sutherland_hodgman.proofs.Offered.{B-le}
 use Rattle.rings.specs.declared.rectangle.Rect.{Rect}
 use Rattle.rings.specs.Rectangle.{withRing, withRings}
 use Rattle.rings.specs.Representable.{anyHuge, anyHugeRing}
-use Rattle.rings.specs.Rings.{sum, closedRings, total, larger, largest, ringRoom, Lent}
+use Rattle.rings.specs.LentRings.{sum, closedRings, total, larger, largest, ringRoom}
+use Rattle.rings.specs.Contracts.{Lent}
 use Rattle.rings.proofs.Closing.{rect-close, huge-close}
 
 -- the numbers of the rings that are left are there
@@ -37,7 +39,8 @@ unfolding sum
 sum-end lengths k h = rw (drop-of-length-le lengths h)
 
 module _ (lengths : List ℕ) (s : List Float) (k at : ℕ) (h : k < length lengths) where
-  pub rings-step : closedRings (drop k lengths) (drop at s) ≡ close (coords (take (2 * getD lengths k 0) (drop at s))) ∷ closedRings (drop (k + 1) lengths) (drop (at + 2 * getD lengths k 0) s)
+  pub rings-step : closedRings (drop k lengths) (drop at s) ≡ close (coords (take (2 * getD lengths k 0) (drop at s))) ∷ closedRings
+      (drop (k + 1) lengths) (drop (at + 2 * getD lengths k 0) s)
   unfolding closedRings
   rings-step = rw (add-one, drop-cons lengths k 0 h) (rw (drop-drop (2 * getD lengths k 0) at s))
 
@@ -54,7 +57,9 @@ rings-end lengths s k h = rw (drop-of-length-le lengths h)
 -- ---- a number of each ring, summed
 
 module _ (f : List Coord → ℕ) (lengths : List ℕ) (s : List Float) (k : ℕ) where
-  pub total-step : (at : ℕ) → k < length lengths → total f (closedRings (drop k lengths) (drop at s)) ≡ f (close (coords (take (2 * getD lengths k 0) (drop at s)))) + total f (closedRings (drop (k + 1) lengths) (drop (at + 2 * getD lengths k 0) s))
+  pub total-step : (at : ℕ) → k < length lengths → total f (closedRings (drop k lengths) (drop at s)) ≡ f
+      (close (coords (take (2 * getD lengths k 0) (drop at s)))) + total f
+      (closedRings (drop (k + 1) lengths) (drop (at + 2 * getD lengths k 0) s))
   unfolding total
   total-step at h = rw (rings-step lengths s k at h)
 
@@ -86,7 +91,9 @@ pub larger-zero : (a : ℕ) → larger a 0 ≡ a
 larger-zero a = omega (arith, larger-sum a 0)
 
 module _ (f : List Coord → ℕ) (lengths : List ℕ) (s : List Float) (k : ℕ) where
-  pub largest-step : (at : ℕ) → k < length lengths → largest f (closedRings (drop k lengths) (drop at s)) ≡ larger (f (close (coords (take (2 * getD lengths k 0) (drop at s))))) (largest f (closedRings (drop (k + 1) lengths) (drop (at + 2 * getD lengths k 0) s)))
+  pub largest-step : (at : ℕ) → k < length lengths → largest f (closedRings (drop k lengths) (drop at s)) ≡ larger
+      (f (close (coords (take (2 * getD lengths k 0) (drop at s)))))
+      (largest f (closedRings (drop (k + 1) lengths) (drop (at + 2 * getD lengths k 0) s)))
   unfolding largest
   largest-step at h = rw (rings-step lengths s k at h)
 
@@ -97,15 +104,22 @@ module _ (f : List Coord → ℕ) (lengths : List ℕ) (s : List Float) (k : ℕ
 -- ---- the rectangle, and huge coordinates
 
 module _ (lengths : List ℕ) (s : List Float) (k at : ℕ) where
-  pub rect-step : (r : Rect) → k < length lengths → withRings r (closedRings (drop k lengths) (drop at s)) ≡ withRings (withRing r (coords (take (2 * getD lengths k 0) (drop at s)))) (closedRings (drop (k + 1) lengths) (drop (at + 2 * getD lengths k 0) s))
+  pub rect-step : (r : Rect) → k < length lengths → withRings r (closedRings (drop k lengths) (drop at s)) ≡ withRings
+      (withRing r (coords (take (2 * getD lengths k 0) (drop at s))))
+      (closedRings (drop (k + 1) lengths) (drop (at + 2 * getD lengths k 0) s))
   unfolding withRings
-  rect-step r h = rw (rings-step lengths s k at h) (ap (λ (q : Rect). withRings q (closedRings (drop (k + 1) lengths) (drop (at + 2 * getD lengths k 0) s))) (rect-close r (coords (take (2 * getD lengths k 0) (drop at s)))))
+  rect-step r h =
+      rw (rings-step lengths s k at h) (ap (λ (q : Rect). withRings q
+      (closedRings (drop (k + 1) lengths) (drop (at + 2 * getD lengths k 0) s)))
+      (rect-close r (coords (take (2 * getD lengths k 0) (drop at s)))))
 
   pub rect-end : (r : Rect) → length lengths ≤ k → withRings r (closedRings (drop k lengths) (drop at s)) ≡ r
   unfolding withRings
   rect-end r h = rw (rings-end lengths (drop at s) k h)
 
-  pub huge-step : k < length lengths → anyHugeRing (closedRings (drop k lengths) (drop at s)) ≡ (anyHuge (coords (take (2 * getD lengths k 0) (drop at s))) || anyHugeRing (closedRings (drop (k + 1) lengths) (drop (at + 2 * getD lengths k 0) s)))
+  pub huge-step : k < length lengths → anyHugeRing (closedRings (drop k lengths) (drop at s))
+      ≡ (anyHuge (coords (take (2 * getD lengths k 0) (drop at s))) || anyHugeRing
+      (closedRings (drop (k + 1) lengths) (drop (at + 2 * getD lengths k 0) s)))
   unfolding anyHugeRing
   huge-step h = rw (rings-step lengths s k at h, huge-close (coords (take (2 * getD lengths k 0) (drop at s))))
 
@@ -131,7 +145,8 @@ unfolding largest total
 largest-total f [] = omega arith
 largest-total f (r ∷ rings) = let e = largest-total f rings in let l = larger-sum (f r) (largest f rings) in omega arith
 
-pub rooms-below : (rings : List (List Coord)) → total length rings ≤ mostCoordinates → total ringRoom rings ≤ length rings * (8 * mostCoordinates)
+pub rooms-below : (rings : List (List Coord)) → total length rings ≤ mostCoordinates → total ringRoom rings ≤ length rings
+    * (8 * mostCoordinates)
 unfolding total
 rooms-below [] h = omega arith
 rooms-below (r ∷ rings) h = let e = rooms-below rings (omega arith) in let b = B-le (length r) (omega arith) in omega arith

@@ -1,4 +1,5 @@
-pub mod Bridge
 pub mod Rectangle
+pub mod Bridge
 pub mod Representable
-pub mod Rings
+pub mod LentRings
+pub mod Contracts

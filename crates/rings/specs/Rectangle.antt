@@ -1,28 +1,29 @@
--- The rectangle of all rings of a polygon, and where it lies (document 01, "Nothing, or dropped" and "Unchanged"; of all parts, "Multipolygons"). Definitions only.
-use mathlib.Core.Path.{_≡_}
+-- The rectangle of all rings of a polygon, and where it lies (document 01, "Nothing, or dropped" and "Unchanged"; of all parts,
+-- "Multipolygons"). Definitions only.
 use mathlib.Core.Bool.{Bool, true, false, _&&_}
 use mathlib.Core.List.{List, [], _∷_}
-use lib.Ieee.{Float, isNan, le}
+use lib.Ieee.{Float, le}
 use lib.Ieee.Scale.{finite}
 use Rattle.binary64.specs.Compare.{minimum, maximum}
 use Rattle.tile.specs.declared.Coord.{Coord}
 use Rattle.tile.specs.declared.TileBounds.{TileBounds}
 use Rattle.rings.specs.declared.rectangle.Rect.{Rect}
-use Rattle.rings.specs.declared.rectangle.Rect.the-variants as R
+use Rattle.rings.specs.declared.rectangle.Rect.the-variants as Rects
 
 -- "Any coordinate NaN or infinite": no rectangle any more
 abbrev pub ifFinite : Bool → Rect → Rect
 ifFinite true r = r
-ifFinite false r = R.NotFinite
+ifFinite false r = Rects.NotFinite
 
 abbrev pub isFiniteCoord : Coord → Bool
 isFiniteCoord p = finite (p .x) && finite (p .y)
 
 -- the rectangle with one more coordinate
 unfoldable pub withCoord : Rect → Coord → Rect
-withCoord R.Nothing p = ifFinite (isFiniteCoord p) (R.Box (p .x) (p .y) (p .x) (p .y))
-withCoord R.NotFinite p = R.NotFinite
-withCoord (R.Box w s e n) p = ifFinite (isFiniteCoord p) (R.Box (minimum w (p .x)) (minimum s (p .y)) (maximum e (p .x)) (maximum n (p .y)))
+withCoord Rects.Nothing p = ifFinite (isFiniteCoord p) (Rects.Box (p .x) (p .y) (p .x) (p .y))
+withCoord Rects.NotFinite p = Rects.NotFinite
+withCoord (Rects.Box w s e n) p =
+    ifFinite (isFiniteCoord p) (Rects.Box (minimum w (p .x)) (minimum s (p .y)) (maximum e (p .x)) (maximum n (p .y)))
 
 -- with all of a ring
 unfoldable pub withRing : Rect → List Coord → Rect
@@ -35,37 +36,29 @@ withRings r [] = r
 withRings r (ring ∷ rings) = withRings (withRing r ring) rings
 
 abbrev pub rectangle : List (List Coord) → Rect
-rectangle rings = withRings R.Nothing rings
+rectangle rings = withRings Rects.Nothing rings
 
 -- the rectangle of all parts
 unfoldable pub withParts : Rect → List (List (List Coord)) → Rect
 withParts r [] = r
 withParts r (part ∷ parts) = withParts (withRings r part) parts
 
--- "They are not apart exactly if its high x is at least west, its low x at most east, its high y at least south and its low y at most north": on one axis
+-- "They are not apart exactly if its high x is at least west, its low x at most east, its high y at least south and its low y at most
+-- north": on one axis
 unfoldable pub reaches : Float → Float → Float → Float → Bool
 reaches low high from to = le from high && le low to
 
 -- not apart; what is no rectangle meets no bounds
 unfoldable pub intersectsBounds : Rect → TileBounds → Bool
-intersectsBounds R.Nothing b = false
-intersectsBounds R.NotFinite b = false
-intersectsBounds (R.Box w s e n) b = reaches w e (b .«lng_min») (b .«lng_max») && reaches s n (b .«lat_min») (b .«lat_max»)
+intersectsBounds Rects.Nothing b = false
+intersectsBounds Rects.NotFinite b = false
+intersectsBounds (Rects.Box w s e n) b = reaches w e (b .«lng_min») (b .«lng_max») && reaches s n (b .«lat_min») (b .«lat_max»)
 
 -- "rectangle inside the bounds (edges included)": on one axis
 unfoldable pub liesBetween : Float → Float → Float → Float → Bool
 liesBetween low high from to = le from low && le high to
 
 unfoldable pub isFullyInside : Rect → TileBounds → Bool
-isFullyInside R.Nothing b = false
-isFullyInside R.NotFinite b = false
-isFullyInside (R.Box w s e n) b = liesBetween w e (b .«lng_min») (b .«lng_max») && liesBetween s n (b .«lat_min») (b .«lat_max»)
-
--- ---- what the code asks for
-
--- four that are no NaN
-pub record Numbers (w s e n : Float) : Type 0 where
-  pub west : isNan w ≡ false
-  pub south : isNan s ≡ false
-  pub east : isNan e ≡ false
-  pub north : isNan n ≡ false
+isFullyInside Rects.Nothing b = false
+isFullyInside Rects.NotFinite b = false
+isFullyInside (Rects.Box w s e n) b = liesBetween w e (b .«lng_min») (b .«lng_max») && liesBetween s n (b .«lat_min») (b .«lat_max»)

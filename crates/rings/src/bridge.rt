@@ -5,7 +5,7 @@ ghost use Prim.Native.Nat.{_*_, _≤_};
 ghost use lib.ListN.{length, take};
 ghost use Rattle.binary64.specs.Compare.{near};
 ghost use Rattle.tile.specs.Ring.{coords};
-ghost use Rattle.rings.specs.Bridge as S;
+ghost use Rattle.rings.specs.Bridge as Bridges;
 use binary64::compare::is_near;
 use box_pairs::cross::is_short;
 use tile::Coord;
@@ -27,7 +27,7 @@ fn both_near(a: f64, b: f64, bound: f64) -> bool
 
 // Whether both ends of the edge from p to q are near one bound.
 fn runs_along(p: Coord, q: Coord, edge: Edge, bounds: TileBounds) -> bool
-    ensures { λ r. ⌜ r ≡ S.runsAlong edge bounds p q ⌝ }
+    ensures { λ r. ⌜ r ≡ Bridges.runsAlong edge bounds p q ⌝ }
 {
     match edge {
         Edge::Left => both_near(p.x, q.x, bounds.lng_min),
@@ -39,7 +39,7 @@ fn runs_along(p: Coord, q: Coord, edge: Edge, bounds: TileBounds) -> bool
 
 // The bound that the edge from p to q runs along, if any.
 fn bridge_of(p: Coord, q: Coord, bounds: TileBounds) -> Bridge
-    ensures { λ r. ⌜ r ≡ S.bridgeOf bounds p q ⌝ }
+    ensures { λ r. ⌜ r ≡ Bridges.bridgeOf bounds p q ⌝ }
 {
     if is_short(p, q) {
         return Bridge::None;
@@ -62,7 +62,7 @@ fn bridge_of(p: Coord, q: Coord, bounds: TileBounds) -> Bridge
 // The first bridge of the ring of n coordinates at the front of a slice.
 pub fn first_bridge(ring: &[f64], n: usize, bounds: TileBounds) -> Bridge
     requires { ⌜ 2 * n ≤ length (now ring) ⌝ }
-    ensures { λ r. ⌜ r ≡ S.firstBridge bounds (coords (take (2 * n) (now (ring .entry)))) ⌝ }
+    ensures { λ r. ⌜ r ≡ Bridges.firstBridge bounds (coords (take (2 * n) (now (ring .entry)))) ⌝ }
 {
     let mut k = 0usize;
     while k + 1 < n {

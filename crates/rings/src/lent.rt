@@ -1,10 +1,12 @@
-// Walks over all rings of a polygon that is lent as x, y numbers, ring behind ring, and their lengths in coordinates: the source's `polygon_rect_all_rings` and `polygon_representable`, and what the refusals measure.
+// Walks over all rings of a polygon that is lent as x, y numbers, ring behind ring, and their lengths in coordinates: the source's
+// `polygon_rect_all_rings` and `polygon_representable`, and what the refusals measure.
 ghost use mathlib.Core.Path.{_≡_};
 ghost use Prim.Native.Nat.{_*_, _≤_};
 ghost use lib.ListN.{length};
 ghost use Rattle.rings.specs.Rectangle.{rectangle};
 ghost use Rattle.rings.specs.Representable.{anyHugeRing};
-ghost use Rattle.rings.specs.Rings as S;
+ghost use Rattle.rings.specs.LentRings as LentRings;
+ghost use Rattle.rings.specs.Contracts as Contracts;
 use super::rectangle::Rect;
 use super::rectangle::with_ring;
 use super::representable::has_huge;
@@ -15,15 +17,15 @@ use tile::ring::closed_count;
 pub const MOST_RINGS: usize = 64;
 
 // The largest room of a ring, and the room of all, in coordinates.
-pub struct Room {
+pub struct RoomNeeded {
     pub largest: usize,
     pub all: usize,
 }
 
 // How many coordinates the rings have, as lent.
 pub fn lent_count(lengths: &[u32]) -> usize
-    requires { ⌜ length (now lengths) ≤ S.mostRings ⌝ }
-    ensures { λ r. ⌜ r ≡ S.sum (now (lengths .entry)) ⌝ }
+    requires { ⌜ length (now lengths) ≤ LentRings.mostRings ⌝ }
+    ensures { λ r. ⌜ r ≡ LentRings.sum (now (lengths .entry)) ⌝ }
 {
     let mut count = 0usize;
     let mut k = 0usize;
@@ -36,8 +38,8 @@ pub fn lent_count(lengths: &[u32]) -> usize
 
 // How many coordinates the rings have, closed.
 pub fn closed_sum(coords: &[f64], lengths: &[u32]) -> usize
-    requires { ⌜ S.Lent (now lengths) (now coords) ⌝ }
-    ensures { λ r. ⌜ r ≡ S.total length (S.closedRings (now (lengths .entry)) (now (coords .entry))) ⌝ }
+    requires { ⌜ Contracts.Lent (now lengths) (now coords) ⌝ }
+    ensures { λ r. ⌜ r ≡ LentRings.total length (LentRings.closedRings (now (lengths .entry)) (now (coords .entry))) ⌝ }
 {
     let mut count = 0usize;
     let mut at = 0usize;
@@ -52,7 +54,7 @@ pub fn closed_sum(coords: &[f64], lengths: &[u32]) -> usize
 }
 
 fn larger(m: usize, n: usize) -> usize
-    ensures { λ r. ⌜ r ≡ S.larger m n ⌝ }
+    ensures { λ r. ⌜ r ≡ LentRings.larger m n ⌝ }
 {
     if m < n {
         return n;
@@ -61,9 +63,9 @@ fn larger(m: usize, n: usize) -> usize
 }
 
 // The room for cutting the rings, closed.
-pub fn room_of(coords: &[f64], lengths: &[u32]) -> Room
-    requires { ⌜ S.Measurable (now lengths) (now coords) ⌝ }
-    ensures { λ r. ⌜ S.RoomOf (S.closedRings (now (lengths .entry)) (now (coords .entry))) (r .largest) (r .all) ⌝ }
+pub fn room_of(coords: &[f64], lengths: &[u32]) -> RoomNeeded
+    requires { ⌜ Contracts.Measurable (now lengths) (now coords) ⌝ }
+    ensures { λ r. ⌜ Contracts.RoomOf (LentRings.closedRings (now (lengths .entry)) (now (coords .entry))) (r .largest) (r .all) ⌝ }
 {
     let mut largest = 0usize;
     let mut all = 0usize;
@@ -77,13 +79,13 @@ pub fn room_of(coords: &[f64], lengths: &[u32]) -> Room
         at += 2 * n;
         k += 1;
     }
-    Room { largest, all }
+    RoomNeeded { largest, all }
 }
 
 // The rectangle of all rings.
 pub fn polygon_rect_all_rings(coords: &[f64], lengths: &[u32]) -> Rect
-    requires { ⌜ S.Lent (now lengths) (now coords) ⌝ }
-    ensures { λ r. ⌜ r ≡ rectangle (S.closedRings (now (lengths .entry)) (now (coords .entry))) ⌝ }
+    requires { ⌜ Contracts.Lent (now lengths) (now coords) ⌝ }
+    ensures { λ r. ⌜ r ≡ rectangle (LentRings.closedRings (now (lengths .entry)) (now (coords .entry))) ⌝ }
 {
     let mut rect = Rect::Nothing;
     let mut at = 0usize;
@@ -99,8 +101,8 @@ pub fn polygon_rect_all_rings(coords: &[f64], lengths: &[u32]) -> Rect
 
 // Whether a coordinate of any ring has a magnitude of 1e150 or more.
 pub fn has_huge_ring(coords: &[f64], lengths: &[u32]) -> bool
-    requires { ⌜ S.Lent (now lengths) (now coords) ⌝ }
-    ensures { λ r. ⌜ r ≡ anyHugeRing (S.closedRings (now (lengths .entry)) (now (coords .entry))) ⌝ }
+    requires { ⌜ Contracts.Lent (now lengths) (now coords) ⌝ }
+    ensures { λ r. ⌜ r ≡ anyHugeRing (LentRings.closedRings (now (lengths .entry)) (now (coords .entry))) ⌝ }
 {
     let mut at = 0usize;
     let mut k = 0usize;

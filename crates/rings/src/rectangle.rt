@@ -1,9 +1,11 @@
-// The rectangle of all rings of a polygon, and where it lies: the source's `intersects_bounds` and `is_fully_inside`, and a step of its `polygon_rect_all_rings`.
+// The rectangle of all rings of a polygon, and where it lies: the source's `intersects_bounds` and `is_fully_inside`, and a step of its
+// `polygon_rect_all_rings`.
 ghost use mathlib.Core.Path.{_≡_};
 ghost use Prim.Native.Nat.{_*_, _≤_};
 ghost use lib.ListN.{length, take, drop};
 ghost use Rattle.tile.specs.Ring.{coords};
-ghost use Rattle.rings.specs.Rectangle as S;
+ghost use Rattle.rings.specs.Rectangle as Rectangle;
+ghost use Rattle.rings.specs.Contracts as Contracts;
 use binary64::compare::higher;
 use binary64::compare::is_finite;
 use binary64::compare::lower;
@@ -21,14 +23,14 @@ pub enum Rect {
 }
 
 pub fn is_finite_coord(p: Coord) -> bool
-    ensures { λ r. ⌜ r ≡ S.isFiniteCoord p ⌝ }
+    ensures { λ r. ⌜ r ≡ Rectangle.isFiniteCoord p ⌝ }
 {
     is_finite(p.x) && is_finite(p.y)
 }
 
 // The rectangle with one more coordinate.
 pub fn with_coord(r: Rect, p: Coord) -> Rect
-    ensures { λ a. ⌜ a ≡ S.withCoord r p ⌝ }
+    ensures { λ a. ⌜ a ≡ Rectangle.withCoord r p ⌝ }
 {
     match r {
         Rect::NotFinite => Rect::NotFinite,
@@ -51,10 +53,12 @@ pub fn with_coord(r: Rect, p: Coord) -> Rect
     }
 }
 
-// The rectangle of four numbers with the coordinates at the front of a slice, from the second to the nth. The numbers are carried one by one: an enum would be stored and read back for every coordinate. None is a NaN, so `lower` and `higher` are the minimum and the maximum, by one comparison each.
+// The rectangle of four numbers with the coordinates at the front of a slice, from the second to the nth. The numbers are carried one by
+// one: an enum would be stored and read back for every coordinate. None is a NaN, so `lower` and `higher` are the minimum and the maximum,
+// by one comparison each.
 fn box_with_rest(w: f64, s: f64, e: f64, n: f64, ring: &[f64], count: usize) -> Rect
-    requires { ⌜ S.Numbers w s e n × (2 * count ≤ length (now ring)) ⌝ }
-    ensures { λ a. ⌜ a ≡ S.withRing (Rect.Box w s e n) (drop 1 (coords (take (2 * count) (now (ring .entry))))) ⌝ }
+    requires { ⌜ Contracts.Numbers w s e n × (2 * count ≤ length (now ring)) ⌝ }
+    ensures { λ a. ⌜ a ≡ Rectangle.withRing (Rect.Box w s e n) (drop 1 (coords (take (2 * count) (now (ring .entry))))) ⌝ }
 {
     let mut west = w;
     let mut south = s;
@@ -78,7 +82,7 @@ fn box_with_rest(w: f64, s: f64, e: f64, n: f64, ring: &[f64], count: usize) -> 
 // The rectangle with the n coordinates at the front of a slice. The first leaves something in it, so the arm for Nothing is never taken.
 pub fn with_ring(r: Rect, ring: &[f64], n: usize) -> Rect
     requires { ⌜ 2 * n ≤ length (now ring) ⌝ }
-    ensures { λ a. ⌜ a ≡ S.withRing r (coords (take (2 * n) (now (ring .entry)))) ⌝ }
+    ensures { λ a. ⌜ a ≡ Rectangle.withRing r (coords (take (2 * n) (now (ring .entry)))) ⌝ }
 {
     if n == 0 {
         return r;
@@ -92,21 +96,21 @@ pub fn with_ring(r: Rect, ring: &[f64], n: usize) -> Rect
 
 // Whether the numbers from low to high and those from one bound to the other are not apart.
 fn reaches(low: f64, high: f64, from: f64, to: f64) -> bool
-    ensures { λ a. ⌜ a ≡ S.reaches low high from to ⌝ }
+    ensures { λ a. ⌜ a ≡ Rectangle.reaches low high from to ⌝ }
 {
     high >= from && low <= to
 }
 
 // Whether the numbers from low to high lie between the bounds.
 fn lies_between(low: f64, high: f64, from: f64, to: f64) -> bool
-    ensures { λ a. ⌜ a ≡ S.liesBetween low high from to ⌝ }
+    ensures { λ a. ⌜ a ≡ Rectangle.liesBetween low high from to ⌝ }
 {
     low >= from && high <= to
 }
 
 // Whether the rectangle and the bounds are not apart.
 pub fn intersects_bounds(r: Rect, bounds: TileBounds) -> bool
-    ensures { λ a. ⌜ a ≡ S.intersectsBounds r bounds ⌝ }
+    ensures { λ a. ⌜ a ≡ Rectangle.intersectsBounds r bounds ⌝ }
 {
     match r {
         Rect::Nothing => false,
@@ -120,7 +124,7 @@ pub fn intersects_bounds(r: Rect, bounds: TileBounds) -> bool
 
 // Whether the rectangle lies in the bounds, edges included.
 pub fn is_fully_inside(r: Rect, bounds: TileBounds) -> bool
-    ensures { λ a. ⌜ a ≡ S.isFullyInside r bounds ⌝ }
+    ensures { λ a. ⌜ a ≡ Rectangle.isFullyInside r bounds ⌝ }
 {
     match r {
         Rect::Nothing => false,

@@ -21,20 +21,20 @@ use Rattle.rings.specs.declared.rectangle.Rect.{Rect}
 use Rattle.rings.specs.declared.rectangle.Rect.the-variants as Rects
 use Rattle.rings.specs.Rectangle.{rectangle}
 use Rattle.rings.specs.Representable.{anyHugeRing}
-use Rattle.rings.specs.Rings.{exterior, mostRings, closedRings}
+use Rattle.rings.specs.LentRings.{exterior, mostRings, closedRings}
 use Rattle.rings.proofs.LentRings.{length-closed}
 use Rattle.clip.specs.declared.polygon.Flags.{Flags}
 use Rattle.clip.specs.declared.polygon.Reason.{Reason}
-use Rattle.clip.specs.declared.polygon.Reason.the-variants as Because
+use Rattle.clip.specs.declared.polygon.Reason.the-variants as Reasons
 use Rattle.clip.specs.declared.polygon.Route.{Route}
-use Rattle.clip.specs.declared.polygon.Route.the-variants as To
+use Rattle.clip.specs.declared.polygon.Route.the-variants as Routes
 use Rattle.clip.specs.declared.polygon.PolygonAnswer.{PolygonAnswer}
-use Rattle.clip.specs.Polygon.{cutHole, unlessNone, cutHoles, cutRings, overlayOrDropped, routed, routeExterior, routeRect, route}
-use Rattle.clip.specs.Polygon.{Routed, nothing, dropped, unchanged, cut, overlay, reasonNumber, answerOf, guardCount}
+use Rattle.clip.specs.Polygon.{cutHole, unlessNone, cutHoles, cutRings, overlayOrDropped, routed, routeExterior, routeRect, route, Routed}
+use Rattle.clip.specs.Polygon.{nothing, dropped, unchanged, cut, overlay, reasonNumber, answerOf, guardCount}
 use Rattle.slices.specs.declared.call.SliceAnswer.{SliceAnswer}
 use Rattle.slices.specs.declared.call.SliceAnswer.the-variants.{Answered}
-use Rattle.slices.specs.Slice.{PolygonSlices, polygonSlices, sliceCallCheck, routeLent, sliceAnswered, sliceCallAnswer}
-use Rattle.slices.specs.Slice.{polygonSlicesAfter, answerCode, sliceCallCode, sliceCallGuards, guardsIn}
+use Rattle.slices.specs.SliceCall.{PolygonSlices, polygonSlices, sliceCallCheck, routeLent, sliceAnswered, sliceCallAnswer}
+use Rattle.slices.specs.SliceCall.{polygonSlicesAfter, answerCode, sliceCallCode, sliceCallGuards, guardsIn}
 use Rattle.slices.specs.Contracts.{Filled}
 use Rattle.slices.proofs.Checks.{passes-fit, fitting}
 
@@ -53,20 +53,20 @@ rings-count b [] = omega arith
 rings-count b (r ∷ rings) = omega (arith, holes-count b rings)
 
 reason-below : (r : Reason) → reasonNumber r ≤ 6
-reason-below (Because.Input i) = omega arith
-reason-below (Because.Cut i) = omega arith
-reason-below (Because.Bridge Left) = omega arith
-reason-below (Because.Bridge Right) = omega arith
-reason-below (Because.Bridge Bottom) = omega arith
-reason-below (Because.Bridge Top) = omega arith
+reason-below (Reasons.Input i) = omega arith
+reason-below (Reasons.Cut i) = omega arith
+reason-below (Reasons.Bridge Left) = omega arith
+reason-below (Reasons.Bridge Right) = omega arith
+reason-below (Reasons.Bridge Bottom) = omega arith
+reason-below (Reasons.Bridge Top) = omega arith
 
 module _ (b : TileBounds) (rings : List (List Coord)) (few : length rings ≤ mostRings) where
   routed-below : (to : Route) → answerCode (answerOf (routed to b rings)) < 2 ^ 32
   unfolding overlayOrDropped
-  routed-below To.Nothing = omega arith
-  routed-below To.Unchanged = omega arith
-  routed-below (To.Cut n) = omega (arith, rings-count b rings)
-  routed-below (To.Overlay reason) = go (anyHugeRing rings)
+  routed-below Routes.Nothing = omega arith
+  routed-below Routes.Unchanged = omega arith
+  routed-below (Routes.Cut n) = omega (arith, rings-count b rings)
+  routed-below (Routes.Overlay reason) = go (anyHugeRing rings)
     where
       go : (t : Bool) → answerCode (answerOf (cond t dropped (overlay reason))) < 2 ^ 32
       go true = omega arith

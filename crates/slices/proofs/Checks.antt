@@ -13,14 +13,15 @@ use Rattle.tile.specs.declared.Coord.{Coord}
 use Rattle.sutherland_hodgman.specs.declared.call.Refusal.the-variants.{Lengths, Coordinates, Scratch, Output}
 use Rattle.sutherland_hodgman.specs.declared.call.Check.the-variants.{Passes}
 use Rattle.sutherland_hodgman.specs.Growth.{mostCoordinates}
-use Rattle.sutherland_hodgman.specs.Call.{failsIf}
+use Rattle.sutherland_hodgman.specs.RingCall.{failsIf}
 use Rattle.sutherland_hodgman.proofs.Calls.{not-refused}
 use Rattle.rings.specs.Representable.{anyHugeRing}
-use Rattle.rings.specs.Rings.{mostRings, sum, closedRings, total, largest, ringRoom, allClosed, Lent}
+use Rattle.rings.specs.LentRings.{mostRings, sum, closedRings, total, largest, ringRoom}
+use Rattle.rings.specs.Contracts.{allClosed, Lent}
 use Rattle.rings.proofs.LentRings.{length-closed}
 use Rattle.clip.specs.declared.polygon.Reason.{Reason}
 use Rattle.clip.specs.Polygon.{dropped, overlay, overlayOrDropped}
-use Rattle.slices.specs.Slice.{lengthsFit, checkRoom, checkPolygon, numbersOf, lengthsOf}
+use Rattle.slices.specs.SliceCall.{lengthsFit, checkRoom, checkPolygon, numbersOf, lengthsOf}
 use Rattle.slices.specs.Contracts.{Filled, LentRingsRoom, nonePlaced}
 
 -- a polygon with room for its rings, whose exterior takes positions besides
@@ -45,7 +46,8 @@ module _ (ns : List ℕ) (s : List Float) (h : lengthsFit (length s) ns ≡ true
 
 module _ (ns : List ℕ) (s : List Float) (a b order out lens : ℕ) (h : checkPolygon s ns a b order out lens ≡ Passes) where
   past-lengths : (not (lengthsFit (length s) ns) ≡ false)
-      × (failsIf (ltb mostCoordinates (total length (closedRings ns s))) Coordinates (checkRoom (closedRings ns s) a b order out lens) ≡ Passes)
+      × (failsIf (ltb mostCoordinates (total length (closedRings ns s))) Coordinates
+      (checkRoom (closedRings ns s) a b order out lens) ≡ Passes)
   unfolding checkPolygon
   past-lengths = not-refused (not (lengthsFit (length s) ns)) Lengths _ h
 
@@ -65,7 +67,8 @@ module _ (ns : List ℕ) (s : List Float) (a b order out lens : ℕ) (h : checkP
       let to = neither (ltb out (2 * all)) (ltb lens (length (closedRings ns s))) (q4 .0) in
       record {
         rings = record {
-          measurable = record { lent = fitting ns s passes-fit; small = ltb-false mostCoordinates (total length (closedRings ns s)) (q2 .0) };
+          measurable =
+              record { lent = fitting ns s passes-fit; small = ltb-false mostCoordinates (total length (closedRings ns s)) (q2 .0) };
           closes = closes;
           first = ltb-false a (2 * most) (ta .0);
           second = ltb-false b (2 * most) (tb .0);
@@ -77,7 +80,8 @@ module _ (ns : List ℕ) (s : List Float) (a b order out lens : ℕ) (h : checkP
       }
 
 -- an overlay, dropped or not, writes nothing
-pub overlay-filled : (rings : List (List Coord)) (reason : Reason) (out : List Float) (lens : List ℕ) → Filled (overlayOrDropped rings reason) out lens out lens
+pub overlay-filled : (rings : List (List Coord)) (reason : Reason) (out : List Float) (lens : List ℕ)
+    → Filled (overlayOrDropped rings reason) out lens out lens
 unfolding overlayOrDropped numbersOf lengthsOf
 overlay-filled rings reason out lens = go (anyHugeRing rings)
   where

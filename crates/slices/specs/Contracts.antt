@@ -1,20 +1,23 @@
--- What the functions of this crate say to each other; a reader of the entry contracts need not read it. Definitions only.
+-- What the functions of the slice call say to each other and to the crates above: no contract of an entry point reaches it, so a reader of
+-- those can skip this file. Definitions only.
 use mathlib.Core.Path.{_≡_}
 use mathlib.Core.Bool.{true}
 use mathlib.Core.List.{List, [], _∷_}
-use Prim.Native.Nat.{ℕ, zero, suc, _+_, _*_, _^_, _<_, _≤_}
+use Prim.Native.Nat.{ℕ, _+_, _*_, zero, suc, _^_, _<_, _≤_}
 use lib.Ieee.{Float}
 use lib.ListN.{length}
 use lib.Seq.{sets}
 use Rattle.binary64.specs.Slices.{over}
 use Rattle.tile.specs.declared.Coord.{Coord}
 use Rattle.tile.specs.declared.TileBounds.{TileBounds}
-use Rattle.tile.specs.Ring.{Stands}
-use Rattle.rings.specs.Rings.{exterior, closedRings, total, largest, ringRoom, allClosed, Measurable}
+use Rattle.tile.specs.Contracts.{Stands}
+use Rattle.rings.specs.LentRings.{closedRings, total, largest, ringRoom, exterior}
+use Rattle.rings.specs.Contracts.{allClosed, Measurable}
 use Rattle.clip.specs.declared.polygon.Route.{Route}
-use Rattle.clip.specs.Polygon.{Routed, cutExterior, CutStands}
+use Rattle.clip.specs.Polygon.{Routed, route, cutExterior}
+use Rattle.clip.specs.Contracts.{CutStands}
 use Rattle.slices.specs.declared.call.Placed.{Placed}
-use Rattle.slices.specs.Slice.{writtenRings, numbersOf, lengthsOf}
+use Rattle.slices.specs.SliceCall.{writtenRings, numbersOf, lengthsOf}
 
 -- what becomes of a polygon is written
 pub record Filled (to : Routed) (out : List Float) (outLengths : List ℕ) (out′ : List Float) (outLengths′ : List ℕ) : Type 0 where

@@ -2,10 +2,11 @@
 ghost use mathlib.Core.Path.{_≡_};
 ghost use Prim.Native.Nat.{_*_};
 ghost use lib.ListN.{length, take, replicate};
-ghost use Rattle.rings.specs.Rings.{closedRings, Lent, Measurable};
+ghost use Rattle.rings.specs.LentRings.{closedRings};
+ghost use Rattle.rings.specs.Contracts.{Lent, Measurable};
 ghost use Rattle.clip.specs.Polygon as Polygon;
-ghost use Rattle.slices.specs.Slice.{lengthsFit, checkRoom, checkPolygon, polygonSlices, sliceCallCheck, sliceCallAnswer};
-ghost use Rattle.slices.specs.Slice.{sliceCallSlices};
+ghost use Rattle.slices.specs.SliceCall.{lengthsFit, checkRoom, checkPolygon, polygonSlices, sliceCallCheck, sliceCallAnswer};
+ghost use Rattle.slices.specs.SliceCall.{sliceCallSlices};
 ghost use Rattle.slices.specs.Contracts as Contracts;
 use binary64::slices::clear;
 use binary64::slices::copy;

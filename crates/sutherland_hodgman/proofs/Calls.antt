@@ -14,7 +14,8 @@ use Rattle.binary64.specs.Slices.{zeros}
 use Rattle.binary64.proofs.Booleans.{neither}
 use Rattle.tile.specs.declared.Coord.{Coord}
 use Rattle.tile.specs.declared.TileBounds.{TileBounds}
-use Rattle.tile.specs.Ring.{coords, flat, Stands, Written}
+use Rattle.tile.specs.Ring.{coords, flat}
+use Rattle.tile.specs.Contracts.{Stands, Written}
 use Rattle.tile.proofs.Rings.{length-flat, length-coords, coords-flat, written-front}
 use Rattle.sutherland_hodgman.specs.declared.call.Refusal.{Refusal}
 use Rattle.sutherland_hodgman.specs.declared.call.Refusal.the-variants.{Lengths, Coordinates, Scratch, Output}
@@ -24,11 +25,9 @@ use Rattle.sutherland_hodgman.specs.declared.call.RingAnswer.the-variant
 use Rattle.sutherland_hodgman.specs.Growth.{halfGrowth, fourHalfGrowths, B, mostCoordinates}
 use Rattle.sutherland_hodgman.specs.Clip.{clipRing}
 use Rattle.sutherland_hodgman.specs.Promise.{Promise}
-use Rattle.sutherland_hodgman.specs.Cutter.{Cut}
-use Rattle.sutherland_hodgman.specs.Walk.{threePasses, Topped}
-use Rattle.sutherland_hodgman.specs.Call.{failsIf, checkRing, RingSlices, ringSlices, ringCallCheck, ringAnswered}
-use Rattle.sutherland_hodgman.specs.Call.{ringCallAnswer, ringCallSlices}
-use Rattle.sutherland_hodgman.specs.Contracts.{ClippedTo}
+use Rattle.sutherland_hodgman.specs.Contracts.{RingCut, threePasses, LastPassDone, ClippedTo}
+use Rattle.sutherland_hodgman.specs.RingCall.{failsIf, checkRing, RingSlices, ringSlices, ringCallCheck, ringAnswered, ringCallAnswer}
+use Rattle.sutherland_hodgman.specs.RingCall.{ringCallSlices}
 use Rattle.sutherland_hodgman.proofs.Growth.{clipRing-grows}
 use Rattle.sutherland_hodgman.proofs.Promises.{HeldBounds, held-front}
 use Rattle.sutherland_hodgman.proofs.LastPass.{topped-cut, topped-written}
@@ -86,30 +85,36 @@ module _ (ring : List Float) (bounds : TileBounds) (numbers : 2 * (length ring /
   whole-ring = rw (numbers, take-length ring)
 
   -- what the passes leave is the cut of the whole ring
-  pub lent-cut : (k : ℕ) (d d₀ d′ : List Float) (r : ℕ) → HeldBounds bounds → ((i : ℕ) → T (fits binary64 (getD ring i nan))) → Stands (threePasses bounds (coords (take (2 * (length ring / 2)) ring))) k d
-      → Topped bounds (coords (take (2 * k) d)) d₀ r d′ → Cut bounds (coords ring) r d′
+  pub lent-cut : (k : ℕ) (d d₀ d′ : List Float) (r : ℕ) → HeldBounds bounds → ((i : ℕ) → T (fits binary64 (getD ring i nan)))
+      → Stands (threePasses bounds (coords (take (2 * (length ring / 2)) ring))) k d
+      → LastPassDone bounds (coords (take (2 * k) d)) d₀ r d′ → RingCut bounds (coords ring) r d′
   lent-cut k d d₀ d′ r hb hr s t =
-      rw whole-ring at (topped-cut bounds (coords (take (2 * (length ring / 2)) ring)) k d d₀ d′ r hb (held-front ring (length ring / 2) hr) s t)
+      rw whole-ring at (topped-cut bounds (coords (take (2 * (length ring / 2)) ring)) k d d₀ d′ r hb
+      (held-front ring (length ring / 2) hr) s t)
 
   -- what stands at the front of the slice
-  cut-ring : (r : ℕ) (after : List Float) → Cut bounds (coords ring) r after → coords (take (2 * r) after) ≡ clipRing bounds (coords ring)
+  cut-ring : (r : ℕ) (after : List Float) → RingCut bounds (coords ring) r after → coords (take (2 * r) after) ≡ clipRing
+      bounds (coords ring)
   cut-ring r after c = rw (c .stands .numbers) (coords-flat (clipRing bounds (coords ring)))
 
-  pub cut-room : (r : ℕ) (after : List Float) → Cut bounds (coords ring) r after → r ≤ B (length ring / 2)
+  pub cut-room : (r : ℕ) (after : List Float) → RingCut bounds (coords ring) r after → r ≤ B (length ring / 2)
   cut-room r after c =
       let cut = clipRing bounds (coords ring) in
       let p : Promise bounds (coords ring) cut = rw (cut-ring r after c) at (c .promise) in
       let g : length cut ≤ B (length ring / 2) = rw ring-length at (promise-room bounds (coords ring) cut p) in
       omega (arith, c .stands .count)
 
-  pub cut-clipped : (out out′ cut : List Float) (r : ℕ) → Cut bounds (coords ring) r cut → out′ ≡ take (2 * r) cut ++ drop (2 * r) out → ClippedTo ring bounds out r out′
+  pub cut-clipped : (out out′ cut : List Float) (r : ℕ) → RingCut bounds (coords ring) r cut → out′ ≡ take (2 * r) cut ++ drop (2 * r)
+      out → ClippedTo ring bounds out r out′
   cut-clipped out out′ cut r c ho =
       let s = c .stands in
       let w : Written (clipRing bounds (coords ring)) out r out′ = record { count = s .count; numbers = ho ∙ rw (s .numbers) } in
       record { written = w; promise = rw (written-front w, ← cut-ring r cut c) (c .promise) }
 
-  pub topped-clipped : (k : ℕ) (d out out′ : List Float) (r : ℕ) → HeldBounds bounds → ((i : ℕ) → T (fits binary64 (getD ring i nan))) → 4 ≤ k
-      → Stands (threePasses bounds (coords (take (2 * (length ring / 2)) ring))) k d → Topped bounds (coords (take (2 * k) d)) out r out′ → ClippedTo ring bounds out r out′
+  pub topped-clipped : (k : ℕ) (d out out′ : List Float) (r : ℕ) → HeldBounds bounds
+      → ((i : ℕ) → T (fits binary64 (getD ring i nan))) → 4 ≤ k
+      → Stands (threePasses bounds (coords (take (2 * (length ring / 2)) ring))) k d → LastPassDone bounds (coords (take (2 * k) d)) out
+      r out′ → ClippedTo ring bounds out r out′
   topped-clipped k d out out′ r hb hr h s t = record {
     written = rw whole-ring at (topped-written bounds (coords (take (2 * (length ring / 2)) ring)) k d out out′ r h s t);
     promise = lent-cut k d out out′ r hb hr s t .promise;

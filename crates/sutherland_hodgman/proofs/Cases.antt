@@ -1,4 +1,5 @@
--- Two cuts at the bounds 0, 0, 10, 10 that document 01 does not work out, and its figures for B, computed from the definitions. The worked rings are in the table of the crate `frames`. Assumes nothing.
+-- Two cuts at the bounds 0, 0, 10, 10 that document 01 does not work out, and its figures for B, computed from the definitions. The worked
+-- rings are in the table of the crate `frames`. Assumes nothing.
 use mathlib.Core.Path.{_≡_, refl}
 use mathlib.Core.List.{List, [], _∷_}
 use lib.Ieee.{nan, le, eq, add, sub, mul, div}
@@ -7,7 +8,7 @@ use Rattle.tile.specs.declared.Coord.{Coord}
 use Rattle.tile.specs.declared.TileBounds.{TileBounds}
 use Rattle.tile.specs.Ring.{same, last, closed, close}
 use Rattle.tile.proofs.WholeNumbers.{num, at}
-use Rattle.sutherland_hodgman.specs.Lines.{inside, crossing}
+use Rattle.sutherland_hodgman.specs.CuttingLines.{inside, crossing}
 use Rattle.sutherland_hodgman.specs.Clip.{steps, leaveOff, around, pass, passes, finish, clipRing}
 use Rattle.sutherland_hodgman.specs.Growth.{halfGrowth, fourHalfGrowths, B}
 
@@ -45,7 +46,8 @@ clipped [] = []
 clipped (r ∷ rs) = clipRing ten r ∷ clipped rs
 
 each-cut : clipped (rings cases) ≡ cuts cases
-unfolding clipRing finish passes pass around leaveOff steps inside crossing same last closed close interpolate ten at edge num le eq add sub mul div
+unfolding clipRing finish passes pass around leaveOff steps inside crossing same last closed close interpolate ten at edge num le eq add
+    sub mul div
 each-cut = refl
 
 -- document 01's figures for B

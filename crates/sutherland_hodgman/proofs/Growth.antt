@@ -14,7 +14,7 @@ use Rattle.tile.specs.declared.Edge.{Edge}
 use Rattle.tile.specs.declared.Edge.the-variants.{Left, Right, Bottom, Top}
 use Rattle.tile.specs.Ring.{last, closed, close}
 use Rattle.tile.proofs.Rings.{close-most}
-use Rattle.sutherland_hodgman.specs.Lines.{inside, crossing}
+use Rattle.sutherland_hodgman.specs.CuttingLines.{inside, crossing}
 use Rattle.sutherland_hodgman.specs.Clip.{step, steps, leaveOff, around, pass, passes, finish, clipRing}
 use Rattle.sutherland_hodgman.specs.Growth.{halfGrowth, fourHalfGrowths, B, mostCoordinates}
 
@@ -32,11 +32,19 @@ step-grows false true cross end = omega arith
 step-grows false false cross end = omega arith
 
 module _ (l : Edge) (b : TileBounds) where
-  steps-grow : (v : Bool) (s e : Coord) (r : List Coord) → 2 * length (steps l b v s (e ∷ r)) + weight v ≤ 3 * length (e ∷ r) + weight (inside l b (last e r))
+  steps-grow : (v : Bool) (s e : Coord) (r : List Coord) → 2 * length (steps l b v s (e ∷ r)) + weight v ≤ 3 * length (e ∷ r) + weight
+      (inside l b (last e r))
   unfolding steps last
-  steps-grow v s e [] = omega (arith, length-append (step v (inside l b e) (crossing l b s e) e) [], step-grows v (inside l b e) (crossing l b s e) e)
+  steps-grow v s e [] =
+      omega (arith, length-append (step v (inside l b e) (crossing l b s e) e) [], step-grows v (inside l b e) (crossing l b s e) e)
   steps-grow v s e (q ∷ r) =
-      omega (arith, length-append (step v (inside l b e) (crossing l b s e) e) (steps l b (inside l b e) e (q ∷ r)), step-grows v (inside l b e) (crossing l b s e) e, steps-grow (inside l b e) e q r)
+      omega (
+        arith,
+        length-append (step v (inside l b e) (crossing l b s e) e) (steps l b (inside l b e) e (q ∷ r)),
+        step-grows v
+            (inside l b e) (crossing l b s e) e,
+        steps-grow (inside l b e) e q r,
+      )
 
   around-grows : (r : List Coord) → length (around l b r) ≤ halfGrowth (length r)
   unfolding around halfGrowth
@@ -66,7 +74,8 @@ pass-grows l b r = le-trans (around-grows l b (leaveOff r)) (halfGrowth-mono (le
 pub passes-grow : (b : TileBounds) (r : List Coord) → length (passes b r) ≤ fourHalfGrowths (length r)
 unfolding passes fourHalfGrowths
 passes-grow b r =
-    le-trans (pass-grows Top b _) (halfGrowth-mono (le-trans (pass-grows Bottom b _) (halfGrowth-mono (le-trans (pass-grows Right b _) (halfGrowth-mono (pass-grows Left b r))))))
+    le-trans (pass-grows Top b _) (halfGrowth-mono
+    (le-trans (pass-grows Bottom b _) (halfGrowth-mono (le-trans (pass-grows Right b _) (halfGrowth-mono (pass-grows Left b r))))))
 
 finish-grows : (r : List Coord) → length (finish r) ≤ suc (length r)
 unfolding finish

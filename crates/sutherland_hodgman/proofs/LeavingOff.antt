@@ -9,7 +9,8 @@ use lib.ListN.{length, getD, take, length-append}
 use lib.Seq.{take-at}
 use borrow.Author.Tests.{le-leb, lt-leb}
 use Rattle.tile.specs.declared.Coord.{Coord}
-use Rattle.tile.specs.Ring.{coords, flat, closed, close, Written}
+use Rattle.tile.specs.Ring.{coords, flat, closed, close}
+use Rattle.tile.specs.Contracts.{Written}
 use Rattle.tile.proofs.Rings.{front-front, length-front, close-closed, close-open}
 use Rattle.sutherland_hodgman.specs.Clip.{leaveOff, finish}
 
@@ -46,7 +47,8 @@ module _ (s : List Float) (n : ℕ) (h : 2 * n ≤ length s) where
 
   pub finish-few : n < 3 → Written (finish (coords (take (2 * n) s))) s 0 s
   unfolding finish flat
-  finish-few l = let t = lt-leb 3 (length (coords (take (2 * n) s))) (omega (arith, length-front s n h)) in record { count = rw t; numbers = rw t }
+  finish-few l =
+      let t = lt-leb 3 (length (coords (take (2 * n) s))) (omega (arith, length-front s n h)) in record { count = rw t; numbers = rw t }
 
   pub finish-close : 3 ≤ n → finish (coords (take (2 * n) s)) ≡ close (coords (take (2 * n) s))
   unfolding finish

@@ -1,4 +1,5 @@
--- Demand 3: with south at most north every latitude of a cut ring lies from south to north, whatever the floats; and where all numbers are at most 256 in magnitude,
+-- Demand 3: with south at most north every latitude of a cut ring lies from south to north, whatever the floats; and where all numbers are
+-- at most 256 in magnitude,
 -- every longitude is finite and at most 2 ^ 1032 units (1 / 2 ^ 42) below west or above east. Assumes nothing.
 use mathlib.Core.Path.{_≡_, refl}
 use mathlib.Core.Logic.{_⊎_, inl, inr}
@@ -13,7 +14,7 @@ use lib.ListN.{length, getD, take}
 use lib.Ieee.{Float, nan, fin, binary64, fits, le}
 use lib.Ieee.Fits.{and-l, and-r}
 use Rattle.binary64.specs.Interpolation.{interpolate}
-use Rattle.binary64.specs.Scaled.{mag, plus, minus}
+use Rattle.binary64.specs.Scaled.{mag, aboveZero, belowZero}
 use Rattle.binary64.specs.Lists.{Every}
 use Rattle.binary64.proofs.Order.{le-self-of-le, finite-between}
 use Rattle.binary64.proofs.Value.{Number, Le-of-le}
@@ -25,7 +26,7 @@ use Rattle.tile.specs.declared.Edge.{Edge}
 use Rattle.tile.specs.declared.Edge.the-variants.{Left, Right, Bottom, Top}
 use Rattle.tile.specs.Ring.{coords, close}
 use Rattle.tile.proofs.Rings.{coords-take, length-close}
-use Rattle.sutherland_hodgman.specs.Lines.{fixed, free, place, bound, isLow, inside, crossing}
+use Rattle.sutherland_hodgman.specs.CuttingLines.{fixed, free, place, bound, isLow, inside, crossing}
 use Rattle.sutherland_hodgman.specs.Clip.{pass, passes, finish, clipRing}
 use Rattle.sutherland_hodgman.specs.Promise.{LatitudeInBounds, atMost256, CoordAtMost256, LongitudeNearBounds, Promise}
 use Rattle.sutherland_hodgman.proofs.Growth.{clipRing-grows}
@@ -52,7 +53,8 @@ module _ (b : TileBounds) (h : T (le (b .«lat_min») (b .«lat_max»))) where
   latitudes r =
       let r2 = pass Right b (pass Left b r) in
       let r3 = pass Bottom b r2 in
-      every-finish (LatitudeInBounds b) (pass Top b r3) (passed Above (LatitudeInBounds b) Top b top r3 (passed Any Above Bottom b bottom r2 (every-of-all Any r2 (λ p. tt))))
+      every-finish (LatitudeInBounds b) (pass Top b r3)
+      (passed Above (LatitudeInBounds b) Top b top r3 (passed Any Above Bottom b bottom r2 (every-of-all Any r2 (λ p. tt))))
 
 -- ---- atMost256 numbers, from -256 to 256
 abbrev AtMost256 : Float → Type 0
@@ -72,12 +74,17 @@ abbrev whole : Range
 whole = record { lp = 0; ln = most; hp = most; hn = 0 }
 
 at-most-in : (x : Float) → AtMost256 x → In binary64 whole x
-unfolding fits plus minus
+unfolding fits aboveZero belowZero
 at-most-in x h =
     let l = and-l (le least x) (le x greatest) (h .1) in
     let g = and-r (le least x) (le x greatest) (h .1) in
     let n : Number binary64 x = record { is-finite = finite-between least x greatest tt tt l g; in-format = h .0 } in
-    record { number = n; not-below = Le-of-le (record { is-finite = tt; in-format = tt }) n l; not-above = Le-of-le n (record { is-finite = tt; in-format = tt }) g }
+    record {
+      number = n;
+      not-below = Le-of-le (record { is-finite = tt; in-format = tt }) n l;
+      not-above =
+          Le-of-le n (record { is-finite = tt; in-format = tt }) g;
+    }
 
 -- ---- one pass over a ring whose vertices lie in v in the coordinate that the line fixes, and in u in the other
 abbrev Lies : Edge → Range → Range → Coord → Type 0
@@ -100,7 +107,9 @@ turns : (l : Edge) (b : TileBounds) (v u : Range) → Cut l b v u → Turns (Lie
 unfolding inside crossing
 turns l b v u h = record {
   keeps = λ p a i. let k = kept (isLow l) h (a .0) (a .1) i in (k .fixed, k .free);
-  crosses = λ s e i hs he p q. let k = crossed (isLow l) i h (hs .0) (he .0) (hs .1) (he .1) p q in placed l (interpolate binary64 (bound l b) (fixed l s) (fixed l e) (free l s) (free l e)) (k .fixed) (k .free);
+  crosses =
+      λ s e i hs he p q. let k = crossed (isLow l) i h (hs .0) (he .0) (hs .1) (he .1) p q in placed l
+      (interpolate binary64 (bound l b) (fixed l s) (fixed l e) (free l s) (free l e)) (k .fixed) (k .free);
 }
   where
     placed : (l : Edge) (y : Float) {v u : Range} → In binary64 v (bound l b) → In binary64 u y → Lies l v u (place l (bound l b) y)
@@ -116,16 +125,26 @@ at-most-reach : (x : Float) → AtMost256 x → mag binary64 x ≤ most
 at-most-reach x h = mag-le-reach whole-reach (at-most-in x h)
 
 cut : (l : Edge) (b : TileBounds) {v u : Range} → AtMost256 (bound l b) → Reach far v → Reach far u → Cut l b v u
-cut l b m v u = record { room = lit< tt; reach = lit< tt; line = at-most-in (bound l b) m .number; line-le = le-trans (at-most-reach (bound l b) m) (lit≤ tt); fixed = v; free = u }
+cut l b m v u =
+    record {
+      room = lit< tt;
+      reach = lit< tt;
+      line = at-most-in (bound l b) m .number;
+      line-le = le-trans (at-most-reach (bound l b) m)
+          (lit≤ tt);
+      fixed = v;
+      free = u;
+    }
 
 -- ---- the four passes
 -- what they leave of a longitude, in the words of the demand
-end : (b : TileBounds) (p : Coord) → In binary64 (widen step (widen step (cutAt binary64 false (b .«lng_max») (cutAt binary64 true (b .«lng_min») whole)))) (p .x) → LongitudeNearBounds b p
+end : (b : TileBounds) (p : Coord) → In binary64 (widen step
+    (widen step (cutAt binary64 false (b .«lng_max») (cutAt binary64 true (b .«lng_min») whole)))) (p .x) → LongitudeNearBounds b p
 end b p h =
     let f = binary64 in (
       h .number .is-finite,
-      low (plus f (b .«lng_min»)) (minus f (p .x)) (plus f (p .x)) (minus f (b .«lng_min»)) step (h .not-below),
-      high (plus f (p .x)) (minus f (b .«lng_max»)) (plus f (b .«lng_max»)) (minus f (p .x)) step (h .not-above),
+      low (aboveZero f (b .«lng_min»)) (belowZero f (p .x)) (aboveZero f (p .x)) (belowZero f (b .«lng_min»)) step (h .not-below),
+      high (aboveZero f (p .x)) (belowZero f (b .«lng_max»)) (aboveZero f (b .«lng_max»)) (belowZero f (p .x)) step (h .not-above),
     )
   where
     low : (p n q m e : ℕ) → p + n ≤ q + (m + e + e) → p + n ≤ q + m + (e + e)
@@ -137,7 +156,8 @@ end b p h =
 abbrev Fine : Coord → Type 0
 Fine p = AtMost256 (p .x) × AtMost256 (p .y)
 
-longitudes : (b : TileBounds) (r : List Coord) → AtMost256 (b .«lng_min») → AtMost256 (b .«lat_min») → AtMost256 (b .«lng_max») → AtMost256 (b .«lat_max») → Every Fine r → Every (LongitudeNearBounds b) (clipRing b r)
+longitudes : (b : TileBounds) (r : List Coord) → AtMost256 (b .«lng_min») → AtMost256 (b .«lat_min») → AtMost256 (b .«lng_max»)
+    → AtMost256 (b .«lat_max») → Every Fine r → Every (LongitudeNearBounds b) (clipRing b r)
 unfolding clipRing passes
 longitudes b r hw hs he hn hr =
     let f = binary64 in
@@ -163,7 +183,8 @@ longitudes b r hw hs he hn hr =
     let r2 = pass Right b r1 in
     let r3 = pass Bottom b r2 in
     let r4 = pass Top b r3 in
-    let h0 : Every (Lies Left whole whole) r = every-map Fine (Lies Left whole whole) r (λ p h. (at-most-in (p .x) (h .0), at-most-in (p .y) (h .1))) hr in
+    let h0 : Every (Lies Left whole whole) r = every-map Fine (Lies Left whole whole) r
+    (λ p h. (at-most-in (p .x) (h .0), at-most-in (p .y) (h .1))) hr in
     let h1 : Every (Lies Right x1 y1) r1 = passed (Lies Left whole whole) (Lies Left x1 y1) Left b (turns Left b whole whole c1) r h0 in
     let h2 : Every (Lies Right x2 y2) r2 = passed (Lies Right x1 y1) (Lies Right x2 y2) Right b (turns Right b x1 y1 c2) r1 h1 in
     let h2' : Every (Lies Bottom y2 x2) r2 = every-map (Lies Right x2 y2) (Lies Bottom y2 x2) r2 (λ p h. (h .1, h .0)) h2 in
@@ -182,7 +203,9 @@ vertices r = go (leb 3 (length r)) (leb→le 3 (length r))
 
 -- ---- the demand, whole: what it asks of is held by doubles
 abbrev pub HeldBounds : TileBounds → Type 0
-HeldBounds b = T (fits binary64 (b .«lng_min»)) × T (fits binary64 (b .«lat_min»)) × T (fits binary64 (b .«lng_max»)) × T (fits binary64 (b .«lat_max»))
+HeldBounds b =
+    T (fits binary64 (b .«lng_min»)) × T (fits binary64 (b .«lat_min»)) × T (fits binary64 (b .«lng_max»))
+    × T (fits binary64 (b .«lat_max»))
 
 abbrev pub HeldCoord : Coord → Type 0
 HeldCoord p = T (fits binary64 (p .x)) × T (fits binary64 (p .y))
@@ -204,5 +227,6 @@ promise b r hb hr = record {
   vertices = vertices (passes b r);
   growth = clipRing-grows b r;
   longitudes = λ _ _ mb mr. longitudes b r (hb .0, mb .0) (hb .1, mb .1) (hb .2, mb .2) (hb .3, mb .3)
-      (every-map (λ p. HeldCoord p × CoordAtMost256 p) Fine r (λ p h. ((h .0 .0, h .1 .0), (h .0 .1, h .1 .1))) (every-both HeldCoord CoordAtMost256 r hr mr));
+      (every-map (λ p. HeldCoord p × CoordAtMost256 p) Fine r (λ p h. ((h .0 .0, h .1 .0), (h .0 .1, h .1 .1)))
+      (every-both HeldCoord CoordAtMost256 r hr mr));
 }

@@ -10,7 +10,7 @@ use Rattle.tile.specs.declared.Coord.{Coord}
 use Rattle.tile.specs.declared.TileBounds.{TileBounds}
 use Rattle.tile.specs.declared.Edge.{Edge}
 use Rattle.tile.specs.Ring.{last, closed, close}
-use Rattle.sutherland_hodgman.specs.Lines.{inside, crossing}
+use Rattle.sutherland_hodgman.specs.CuttingLines.{inside, crossing}
 use Rattle.sutherland_hodgman.specs.Clip.{step, steps, leaveOff, around, pass, finish}
 
 -- where the ends of an edge satisfy P, what the line keeps and where it crosses satisfy Q
@@ -77,7 +77,8 @@ module _ (P Q : Coord → Type 0) (l : Edge) (b : TileBounds) (w : Turns P Q l b
   unfolding steps
   walked s [] hs hr = tt
   walked s (e ∷ r) hs hr =
-      every-append Q (step (inside l b s) (inside l b e) (crossing l b s e) e) (steps l b (inside l b e) e r) (stepped s e (inside l b s) (inside l b e) hs (hr .0) refl refl) (walked e r (hr .0) (hr .1))
+      every-append Q (step (inside l b s) (inside l b e) (crossing l b s e) e) (steps l b (inside l b e) e r)
+      (stepped s e (inside l b s) (inside l b e) hs (hr .0) refl refl) (walked e r (hr .0) (hr .1))
 
   went-around : (r : List Coord) → Every P r → Every Q (around l b r)
   unfolding around

@@ -1,4 +1,5 @@
--- Sutherland and Hodgman's rule for a ring and four lines (document 01, "Cut rings"): the step, the pass, leaving off, the ring. Definitions only.
+-- Sutherland and Hodgman's rule for a ring and four lines (document 01, "Cut rings"): the step, the pass, leaving off, the ring.
+-- Definitions only.
 use mathlib.Core.Bool.{Bool, true, false, cond}
 use mathlib.Core.List.{List, [], _∷_, _++_}
 use Prim.Native.Nat.{_-_}
@@ -9,7 +10,7 @@ use Rattle.tile.specs.declared.TileBounds.{TileBounds}
 use Rattle.tile.specs.declared.Edge.{Edge}
 use Rattle.tile.specs.declared.Edge.the-variants.{Left, Right, Bottom, Top}
 use Rattle.tile.specs.Ring.{last, closed, close}
-use Rattle.sutherland_hodgman.specs.Lines.{inside, crossing}
+use Rattle.sutherland_hodgman.specs.CuttingLines.{inside, crossing}
 
 -- "In to in: the end. In to out: the crossing. Out to in: the crossing, then the end. Out to out: none."
 abbrev pub step : Bool → Bool → Coord → Coord → List Coord

@@ -1,12 +1,61 @@
--- What the functions of this crate say to each other; a reader of the entry contracts need not read it. Definitions only.
+-- What the passes and the ring cutter say to each other and to the crates above: no contract of an entry point reaches it, so a reader of
+-- those can skip this file. Definitions only.
+use mathlib.Core.Path.{_≡_}
+use mathlib.Core.Bool.{Bool}
 use mathlib.Core.List.{List}
-use Prim.Native.Nat.{ℕ, _*_}
-use lib.Ieee.{Float}
-use lib.ListN.{take}
+use Prim.Native.Nat.{_-_, ℕ, zero, suc, _+_, _≤_, _*_}
+use lib.Ieee.{Float, nan}
+use lib.ListN.{length, take, getD, drop}
+use lib.Seq.{sets}
+use Rattle.tile.specs.declared.Coord.{Coord}
 use Rattle.tile.specs.declared.TileBounds.{TileBounds}
-use Rattle.tile.specs.Ring.{coords, Written}
-use Rattle.sutherland_hodgman.specs.Clip.{clipRing}
+use Rattle.tile.specs.declared.Edge.{Edge}
+use Rattle.tile.specs.declared.Edge.the-variants.{Left, Right, Bottom, Top}
+use Rattle.tile.specs.Ring.{coords, flat}
+use Rattle.tile.specs.Contracts.{Stands, Written}
+use Rattle.sutherland_hodgman.specs.Clip.{steps, pass, finish, clipRing}
+use Rattle.sutherland_hodgman.specs.Growth.{B}
 use Rattle.sutherland_hodgman.specs.Promise.{Promise}
+
+abbrev pub noVertex : Coord
+noVertex = record { x = nan; y = nan }
+
+-- the vertex before the i-th, around the ring
+abbrev pub vertexBefore : List Coord → ℕ → Coord
+vertexBefore r zero = getD r (length r - 1) noVertex
+vertexBefore r (suc i) = getD r i noVertex
+
+-- what the steps to the i-th vertex and on give, where the verdict on the vertex before it is v
+unfoldable pub stepsLeft : Edge → TileBounds → List Coord → Bool → ℕ → List Coord
+stepsLeft l b r v i = steps l b v (vertexBefore r i) (drop i r)
+
+-- A stand is before the i-th vertex, with the verdict v on the one before it and k vertices written in d. Finishing the pass from one stand
+-- and from the other gives the same count and the same slice.
+pub record SameRest (l : Edge) (b : TileBounds) (r : List Coord) (v : Bool) (i k : ℕ) (d : List Float) (v′ : Bool) (i′ k′ : ℕ)
+    (d′ : List Float) : Type 0 where
+  pub count : k + length (stepsLeft l b r v i) ≡ k′ + length (stepsLeft l b r v′ i′)
+  pub numbers : sets d (2 * k) (flat (stepsLeft l b r v i)) ≡ sets d′ (2 * k′) (flat (stepsLeft l b r v′ i′))
+
+-- the passes but the last
+unfoldable pub threePasses : TileBounds → List Coord → List Coord
+threePasses b r = pass Bottom b (pass Right b (pass Left b r))
+
+-- What the last pass and the closing make of the ring r stands at the front of the slice, k vertices long. Past it the slice is as it was,
+-- if r has four vertices or more.
+pub record LastPassDone (b : TileBounds) (r : List Coord) (d : List Float) (k : ℕ) (d′ : List Float) : Type 0 where
+  pub stands : Stands (finish (pass Top b r)) k d′
+  pub rest : 4 ≤ length r → Written (finish (pass Top b r)) d k d′
+
+-- a ring of n vertices at the front of a slice can be cut in two others: the lengths of the three
+pub record CutterRoom (n ring a b : ℕ) : Type 0 where
+  pub vertices : 2 * n ≤ ring
+  pub first : 2 * B n ≤ a
+  pub second : 2 * B n ≤ b
+
+-- the cut ring stands at the front of the slice, r vertices long; demand 3 holds of what stands there; what lies past it is left open
+pub record RingCut (bounds : TileBounds) (ring : List Coord) (r : ℕ) (after : List Float) : Type 0 where
+  pub stands : Stands (clipRing bounds ring) r after
+  pub promise : Promise bounds ring (coords (take (2 * r) after))
 
 -- the cut of a lent ring stands at the front of the output, r coordinates long; demand 3 holds of what stands there
 pub record ClippedTo (ring : List Float) (bounds : TileBounds) (out : List Float) (r : ℕ) (out′ : List Float) : Type 0 where

@@ -1,8 +1,6 @@
-pub mod Lines
+pub mod CuttingLines
 pub mod Clip
-pub mod Walk
 pub mod Growth
 pub mod Promise
-pub mod Cutter
-pub mod Call
+pub mod RingCall
 pub mod Contracts

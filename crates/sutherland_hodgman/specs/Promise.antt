@@ -24,7 +24,8 @@ abbrev pub atMost256 : Float → Bool
 atMost256 x = le (fin true 1 (pos 8)) x && le x (fin false 1 (pos 8))
 
 abbrev pub BoundsAtMost256 : TileBounds → Type 0
-BoundsAtMost256 b = T (atMost256 (b .«lng_min»)) × T (atMost256 (b .«lat_min»)) × T (atMost256 (b .«lng_max»)) × T (atMost256 (b .«lat_max»))
+BoundsAtMost256 b =
+    T (atMost256 (b .«lng_min»)) × T (atMost256 (b .«lat_min»)) × T (atMost256 (b .«lng_max»)) × T (atMost256 (b .«lat_max»))
 
 abbrev pub CoordAtMost256 : Coord → Type 0
 CoordAtMost256 p = T (atMost256 (p .x)) × T (atMost256 (p .y))
@@ -35,10 +36,12 @@ overrun = 2 ^ 1032
 
 -- the longitude is finite, and at most that much below west or above east
 abbrev pub LongitudeNearBounds : TileBounds → Coord → Type 0
-LongitudeNearBounds b p = T (finite (p .x)) × LessAtMost binary64 (b .«lng_min») (p .x) overrun × LessAtMost binary64 (p .x) (b .«lng_max») overrun
+LongitudeNearBounds b p =
+    T (finite (p .x)) × LessAtMost binary64 (b .«lng_min») (p .x) overrun × LessAtMost binary64 (p .x) (b .«lng_max») overrun
 
 pub record Promise (b : TileBounds) (ring answer : List Coord) : Type 0 where
   pub latitudes : T (le (b .«lat_min») (b .«lat_max»)) → Every (LatitudeInBounds b) answer
   pub vertices : (length answer ≡ 0) ⊎ (3 ≤ length answer)
   pub growth : length answer ≤ suc (fourHalfGrowths (length ring))
-  pub longitudes : T (le (b .«lat_min») (b .«lat_max»)) → T (le (b .«lng_min») (b .«lng_max»)) → BoundsAtMost256 b → Every CoordAtMost256 ring → Every (LongitudeNearBounds b) answer
+  pub longitudes : T (le (b .«lat_min») (b .«lat_max»)) → T (le (b .«lng_min») (b .«lng_max»)) → BoundsAtMost256 b
+      → Every CoordAtMost256 ring → Every (LongitudeNearBounds b) answer

@@ -3,8 +3,8 @@
 ghost use mathlib.Core.Path.{_≡_};
 ghost use Prim.Native.Nat.{_*_, _≤_};
 ghost use Rattle.sutherland_hodgman.specs.Growth.{halfGrowth, B, mostCoordinates};
-ghost use Rattle.sutherland_hodgman.specs.Call.{checkRing, ringSlices, ringCallCheck, ringCallAnswer, ringCallSlices};
-ghost use Rattle.sutherland_hodgman.specs.Call.{RingCallPromise};
+ghost use Rattle.sutherland_hodgman.specs.RingCall.{checkRing, ringSlices, ringCallCheck, ringCallAnswer, ringCallSlices};
+ghost use Rattle.sutherland_hodgman.specs.RingCall.{RingCallPromise};
 ghost use Rattle.sutherland_hodgman.specs.Contracts.{ClippedTo};
 use super::clip_three_edges;
 use super::clip_top;

@@ -3,12 +3,13 @@ ghost use mathlib.Core.Path.{_≡_};
 ghost use mathlib.Core.Bool.{true, false, not};
 ghost use Prim.Native.Nat.{_+_, _*_, _≤_, _<_};
 ghost use lib.ListN.{length, take};
-ghost use Rattle.tile.specs.Ring.{coords, coordAt, Stands, Written};
-ghost use Rattle.sutherland_hodgman.specs.Lines as L;
-ghost use Rattle.sutherland_hodgman.specs.Clip as S;
-ghost use Rattle.sutherland_hodgman.specs.Walk as W;
+ghost use Rattle.tile.specs.Ring.{coords};
+ghost use Rattle.tile.specs.Contracts.{coordAt, Stands, Written};
+ghost use Rattle.sutherland_hodgman.specs.CuttingLines as CuttingLines;
+ghost use Rattle.sutherland_hodgman.specs.Clip as Clip;
+ghost use Rattle.sutherland_hodgman.specs.Contracts as Contracts;
 ghost use Rattle.sutherland_hodgman.specs.Growth.{halfGrowth};
-ghost use Rattle.sutherland_hodgman.specs.Cutter.{Room, Cut};
+ghost use Rattle.sutherland_hodgman.specs.Contracts.{CutterRoom, RingCut};
 use binary64::interpolate;
 use tile::Coord;
 use tile::Edge;
@@ -22,7 +23,7 @@ pub mod call;
 
 // Whether a vertex is in by one edge: on the edge counts as in, and NaN is out.
 fn is_inside(coord: Coord, edge: Edge, bounds: TileBounds) -> bool
-    ensures { λ r. ⌜ r ≡ L.inside edge bounds coord ⌝ }
+    ensures { λ r. ⌜ r ≡ CuttingLines.inside edge bounds coord ⌝ }
 {
     match edge {
         Edge::Left => coord.x >= bounds.lng_min,
@@ -32,9 +33,10 @@ fn is_inside(coord: Coord, edge: Edge, bounds: TileBounds) -> bool
     }
 }
 
-// Where the line of an edge crosses the segment from a to b, one end of which is in and the other out; between other ends a coordinate that means nothing.
+// Where the line of an edge crosses the segment from a to b, one end of which is in and the other out; between other ends a coordinate that
+// means nothing.
 fn intersect(a: Coord, b: Coord, edge: Edge, bounds: TileBounds) -> Coord
-    ensures { λ r. ⌜ r ≡ L.crossing edge bounds a b ⌝ }
+    ensures { λ r. ⌜ r ≡ CuttingLines.crossing edge bounds a b ⌝ }
 {
     match edge {
         Edge::Left => {
@@ -76,7 +78,7 @@ struct Pass {
 // How many of the n vertices are left when the closing one is left off.
 fn left_off(ring: &[f64], n: usize) -> usize
     requires { ⌜ 2 * n ≤ length (now ring) ⌝ }
-    ensures { λ r. ⌜ (r ≤ n) × (coords (take (2 * r) (now (ring .entry))) ≡ S.leaveOff (coords (take (2 * n) (now (ring .entry))))) ⌝ }
+    ensures { λ r. ⌜ (r ≤ n) × (coords (take (2 * r) (now (ring .entry))) ≡ Clip.leaveOff (coords (take (2 * n) (now (ring .entry))))) ⌝ }
 {
     if n < 2 {
         return n;
@@ -96,7 +98,7 @@ struct Walk {
 // The vertex before the i-th, around the ring of m vertices.
 fn previous(ring: &[f64], m: usize, i: usize) -> Coord
     requires { ⌜ (2 * m ≤ length (now ring)) × (0 < m) × (i ≤ m) ⌝ }
-    ensures { λ r. ⌜ r ≡ W.before (coords (take (2 * m) (now (ring .entry)))) i ⌝ }
+    ensures { λ r. ⌜ r ≡ Contracts.vertexBefore (coords (take (2 * m) (now (ring .entry)))) i ⌝ }
 {
     if i == 0 {
         return coord_at(ring, m - 1);
@@ -114,9 +116,10 @@ fn copy_inside(
     at: Walk,
 ) -> Walk
     requires { ⌜ (2 * m ≤ length (now ring)) × (at .i ≤ m)
-        × (2 * (at .len + length (W.left edge bounds (coords (take (2 * m) (now ring))) true (at .i))) ≤ length (now out)) ⌝ }
-    ensures { λ r. ⌜ (at .i ≤ r .i) × (r .i ≤ m) × (r .i < m → L.inside edge bounds (coordAt (now (ring .entry)) (r .i)) ≡ false)
-        × W.Onward edge bounds (coords (take (2 * m) (now (ring .entry)))) true (at .i) (at .len) (now (out .entry)) true (r .i) (r .len) (now (out .exit)) ⌝ }
+        × (2 * (at .len + length (Contracts.stepsLeft edge bounds (coords (take (2 * m) (now ring))) true (at .i))) ≤ length (now out)) ⌝ }
+    ensures { λ r. ⌜ (at .i ≤ r .i) × (r .i ≤ m) × (r .i < m → CuttingLines.inside edge bounds (coordAt (now (ring .entry)) (r .i)) ≡ false)
+        × Contracts.SameRest edge bounds (coords (take (2 * m) (now (ring .entry)))) true (at .i) (at .len) (now (out .entry)) true
+        (r .i) (r .len) (now (out .exit)) ⌝ }
 {
     let mut i = at.i;
     let mut len = at.len;
@@ -135,8 +138,9 @@ fn copy_inside(
 // From a vertex that is out: the index of the first vertex from i on that is in, or m.
 fn skip_outside(ring: &[f64], m: usize, edge: Edge, bounds: TileBounds, i: usize) -> usize
     requires { ⌜ (2 * m ≤ length (now ring)) × (i ≤ m) ⌝ }
-    ensures { λ r. ⌜ (i ≤ r) × (r ≤ m) × (r < m → L.inside edge bounds (coordAt (now (ring .entry)) r) ≡ true)
-        × (W.left edge bounds (coords (take (2 * m) (now (ring .entry)))) false i ≡ W.left edge bounds (coords (take (2 * m) (now (ring .entry)))) false r) ⌝ }
+    ensures { λ r. ⌜ (i ≤ r) × (r ≤ m) × (r < m → CuttingLines.inside edge bounds (coordAt (now (ring .entry)) r) ≡ true)
+        × (Contracts.stepsLeft edge bounds (coords (take (2 * m) (now (ring .entry)))) false i ≡ Contracts.stepsLeft edge bounds
+        (coords (take (2 * m) (now (ring .entry)))) false r) ⌝ }
 {
     let mut j = i;
     while j < m {
@@ -152,9 +156,10 @@ fn skip_outside(ring: &[f64], m: usize, edge: Edge, bounds: TileBounds, i: usize
 // From a vertex that is in to one that is out, or to the end.
 fn leave(ring: &[f64], m: usize, edge: Edge, bounds: TileBounds, out: &mut [f64], at: Walk) -> Walk
     requires { ⌜ (2 * m ≤ length (now ring)) × (at .i < m)
-        × (2 * (at .len + length (W.left edge bounds (coords (take (2 * m) (now ring))) true (at .i))) ≤ length (now out)) ⌝ }
+        × (2 * (at .len + length (Contracts.stepsLeft edge bounds (coords (take (2 * m) (now ring))) true (at .i))) ≤ length (now out)) ⌝ }
     ensures { λ r. ⌜ (at .i < r .i) × (r .i ≤ m)
-        × W.Onward edge bounds (coords (take (2 * m) (now (ring .entry)))) true (at .i) (at .len) (now (out .entry)) false (r .i) (r .len) (now (out .exit)) ⌝ }
+        × Contracts.SameRest edge bounds (coords (take (2 * m) (now (ring .entry)))) true (at .i) (at .len) (now (out .entry)) false
+        (r .i) (r .len) (now (out .exit)) ⌝ }
 {
     let to = copy_inside(ring, m, edge, bounds, out, at);
     if m <= to.i {
@@ -172,9 +177,10 @@ fn leave(ring: &[f64], m: usize, edge: Edge, bounds: TileBounds, out: &mut [f64]
 // From a vertex that is out to one that is in, or to the end.
 fn enter(ring: &[f64], m: usize, edge: Edge, bounds: TileBounds, out: &mut [f64], at: Walk) -> Walk
     requires { ⌜ (2 * m ≤ length (now ring)) × (at .i < m)
-        × (2 * (at .len + length (W.left edge bounds (coords (take (2 * m) (now ring))) false (at .i))) ≤ length (now out)) ⌝ }
+        × (2 * (at .len + length (Contracts.stepsLeft edge bounds (coords (take (2 * m) (now ring))) false (at .i))) ≤ length (now out)) ⌝ }
     ensures { λ r. ⌜ (at .i < r .i) × (r .i ≤ m)
-        × W.Onward edge bounds (coords (take (2 * m) (now (ring .entry)))) false (at .i) (at .len) (now (out .entry)) true (r .i) (r .len) (now (out .exit)) ⌝ }
+        × Contracts.SameRest edge bounds (coords (take (2 * m) (now (ring .entry)))) false (at .i) (at .len) (now (out .entry)) true
+        (r .i) (r .len) (now (out .exit)) ⌝ }
 {
     let j = skip_outside(ring, m, edge, bounds, at.i);
     if m <= j {
@@ -201,9 +207,11 @@ fn turn(
     inside: bool,
 ) -> Walk
     requires { ⌜ (2 * m ≤ length (now ring)) × (at .i < m)
-        × (2 * (at .len + length (W.left edge bounds (coords (take (2 * m) (now ring))) inside (at .i))) ≤ length (now out)) ⌝ }
+        × (2 * (at .len + length (Contracts.stepsLeft edge bounds (coords (take (2 * m) (now ring))) inside (at .i))) ≤ length
+        (now out)) ⌝ }
     ensures { λ r. ⌜ (at .i < r .i) × (r .i ≤ m)
-        × W.Onward edge bounds (coords (take (2 * m) (now (ring .entry)))) inside (at .i) (at .len) (now (out .entry)) (not inside) (r .i) (r .len) (now (out .exit)) ⌝ }
+        × Contracts.SameRest edge bounds (coords (take (2 * m) (now (ring .entry)))) inside (at .i) (at .len) (now (out .entry))
+        (not inside) (r .i) (r .len) (now (out .exit)) ⌝ }
 {
     if inside {
         return leave(ring, m, edge, bounds, out, at);
@@ -221,7 +229,8 @@ fn clip_ring_against_edge(
     out: &mut [f64],
 ) -> Pass
     requires { ⌜ (2 * n ≤ length (now ring)) × (2 * halfGrowth n ≤ length (now out)) ⌝ }
-    ensures { λ r. ⌜ Written (S.pass edge bounds (coords (take (2 * n) (now (ring .entry))))) (now (out .entry)) (r .len) (now (out .exit)) ⌝ }
+    ensures { λ r. ⌜ Written (Clip.pass edge bounds (coords (take (2 * n) (now (ring .entry))))) (now (out .entry)) (r .len)
+        (now (out .exit)) ⌝ }
 {
     let m = left_off(ring, n);
     if m == 0 {
@@ -239,7 +248,7 @@ fn clip_ring_against_edge(
 // Fewer than three vertices are none; else the ring is closed.
 fn finish(ring: &mut [f64], n: usize) -> usize
     requires { ⌜ (2 * n ≤ length (now ring)) × (3 ≤ n → 2 * n + 2 ≤ length (now ring)) ⌝ }
-    ensures { λ r. ⌜ Written (S.finish (coords (take (2 * n) (now (ring .entry))))) (now (ring .entry)) r (now (ring .exit)) ⌝ }
+    ensures { λ r. ⌜ Written (Clip.finish (coords (take (2 * n) (now (ring .entry))))) (now (ring .entry)) r (now (ring .exit)) ⌝ }
 {
     if n < 3 {
         return 0;
@@ -255,28 +264,30 @@ fn clip_three_edges(
     a: &mut [f64],
     b: &mut [f64],
 ) -> Pass
-    requires { ⌜ Room n (length (now ring)) (length (now a)) (length (now b)) ⌝ }
-    ensures { λ r. ⌜ Stands (W.threePasses bounds (coords (take (2 * n) (now (ring .entry))))) (r .len) (now (a .exit)) ⌝ }
+    requires { ⌜ CutterRoom n (length (now ring)) (length (now a)) (length (now b)) ⌝ }
+    ensures { λ r. ⌜ Stands (Contracts.threePasses bounds (coords (take (2 * n) (now (ring .entry))))) (r .len) (now (a .exit)) ⌝ }
 {
     let left = clip_ring_against_edge(ring, n, Edge::Left, bounds, a);
     let right = clip_ring_against_edge(a, left.len, Edge::Right, bounds, b);
     clip_ring_against_edge(b, right.len, Edge::Bottom, bounds, a)
 }
 
-// The last pass, and the closing. From a ring of four vertices or more it writes no number past its answer; of fewer it may, as it then gives up a pass of one or two.
+// The last pass, and the closing. From a ring of four vertices or more it writes no number past its answer; of fewer it may, as it then
+// gives up a pass of one or two.
 fn clip_top(ring: &[f64], n: usize, bounds: TileBounds, out: &mut [f64]) -> usize
     requires { ⌜ (2 * n ≤ length (now ring)) × (2 * halfGrowth n ≤ length (now out)) × (0 < n → 2 * halfGrowth n + 2 ≤ length (now out)) ⌝ }
-    ensures { λ r. ⌜ W.Topped bounds (coords (take (2 * n) (now (ring .entry)))) (now (out .entry)) r (now (out .exit)) ⌝ }
+    ensures { λ r. ⌜ Contracts.LastPassDone bounds (coords (take (2 * n) (now (ring .entry)))) (now (out .entry)) r (now (out .exit)) ⌝ }
 {
     let top = clip_ring_against_edge(ring, n, Edge::Top, bounds, out);
     finish(out, top.len)
 }
 
-// Cuts the ring of n vertices at the front of a slice at all four edges; the result stands at the front of b, and the answer is its length. Demand 3 holds of it.
+// Cuts the ring of n vertices at the front of a slice at all four edges; the result stands at the front of b, and the answer is its length.
+// Demand 3 holds of it.
 // What lies past it in b, and all of a, is left open.
 pub fn clip_ring(ring: &[f64], n: usize, bounds: TileBounds, a: &mut [f64], b: &mut [f64]) -> usize
-    requires { ⌜ Room n (length (now ring)) (length (now a)) (length (now b)) ⌝ }
-    ensures { λ r. ⌜ Cut bounds (coords (take (2 * n) (now (ring .entry)))) r (now (b .exit)) ⌝ }
+    requires { ⌜ CutterRoom n (length (now ring)) (length (now a)) (length (now b)) ⌝ }
+    ensures { λ r. ⌜ RingCut bounds (coords (take (2 * n) (now (ring .entry)))) r (now (b .exit)) ⌝ }
 {
     let bottom = clip_three_edges(ring, n, bounds, a, b);
     clip_top(a, bottom.len, bounds, b)

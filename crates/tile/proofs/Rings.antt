@@ -9,7 +9,8 @@ use lib.ListN.{length, getD, take, drop, length-append, take-append-drop}
 use lib.Seq.{sets, sets-eq, take-take, getD-take, length-take-le, take-at}
 use lib.Ieee.{Float, nan}
 use Rattle.tile.specs.declared.Coord.{Coord}
-use Rattle.tile.specs.Ring.{coords, flat, coordAt, same, last, closed, close, Stands, Written}
+use Rattle.tile.specs.Ring.{coords, flat, same, last, closed, close}
+use Rattle.tile.specs.Contracts.{coordAt, Stands, Written}
 
 -- ---- flat lists
 
@@ -74,13 +75,15 @@ coords-front l rest s n hn hs = rw (hs, take-at (flat l) rest (2 * n) (length-fl
 pub stands-front : {ring : List Coord} {r : ℕ} {after : List Float} → Stands ring r after → coords (take (2 * r) after) ≡ ring
 stands-front {ring} s = rw (s .numbers) (coords-flat ring)
 
-pub written-stands : {ring : List Coord} {before : List Float} {r : ℕ} {after : List Float} → Written ring before r after → Stands ring r after
+pub written-stands : {ring : List Coord} {before : List Float} {r : ℕ} {after : List Float} → Written ring before r after
+    → Stands ring r after
 written-stands {ring} {before} {r} w = record {
   count = w .count;
   numbers = rw (w .numbers) (take-at (flat ring) (drop (2 * r) before) (2 * r) (length-flat ring ∙ rw (w .count)));
 }
 
-pub written-front : {ring : List Coord} {before : List Float} {r : ℕ} {after : List Float} → Written ring before r after → coords (take (2 * r) after) ≡ ring
+pub written-front : {ring : List Coord} {before : List Float} {r : ℕ} {after : List Float} → Written ring before r after
+    → coords (take (2 * r) after) ≡ ring
 written-front w = stands-front (written-stands w)
 
 -- ---- a coordinate by its place
@@ -111,7 +114,8 @@ unfolding closed
 closed-at [] n z e = absurd (omega arith)
 closed-at (p ∷ r) n z e = let h : length r ≡ n = omega arith in rw (last-at p r z, h)
 
-pub closed-front : (s : List Float) (n : ℕ) → 2 * n ≤ length s → 0 < n → closed (coords (take (2 * n) s)) ≡ same (coordAt s 0) (coordAt s (n - 1))
+pub closed-front : (s : List Float) (n : ℕ) → 2 * n ≤ length s → 0 < n → closed (coords (take (2 * n) s)) ≡ same (coordAt s 0)
+    (coordAt s (n - 1))
 closed-front s n h l =
     let z : Coord = record { x = nan; y = nan } in
     let e : length (coords (take (2 * n) s)) ≡ suc (n - 1) = length-front s n h ∙ omega arith in
@@ -188,5 +192,7 @@ module _ (s : List Float) (n : ℕ) where
       let two : 2 * (n + 1) ≡ 2 * n + 2 = omega arith in
       record {
         count = sym (count-open l e ∙ rw m);
-        numbers = rw (k, flat-append l (coordAt s 0 ∷ []), flat-front s n (omega arith), two) (sets-eq (coordAt s 0 .x ∷ coordAt s 0 .y ∷ []) s (2 * n) h);
+        numbers =
+            rw (k, flat-append l (coordAt s 0 ∷ []), flat-front s n (omega arith), two)
+            (sets-eq (coordAt s 0 .x ∷ coordAt s 0 .y ∷ []) s (2 * n) h);
       }

@@ -1,6 +1,6 @@
 // Coordinates, the bounds of a tile and its four edges, by value. Rings are in `ring`.
 ghost use mathlib.Core.Path.{_≡_};
-ghost use Rattle.tile.specs.Bounds as S;
+ghost use Rattle.tile.specs.Bounds as Bounds;
 ghost use Rattle.tile.specs.Ring.{same};
 use binary64::compare::maximum;
 use binary64::compare::minimum;
@@ -41,7 +41,7 @@ impl Coord {
 impl TileBounds {
     // Takes any four numbers.
     pub fn new(lng_min: f64, lat_min: f64, lng_max: f64, lat_max: f64) -> Self
-        ensures { λ r. ⌜ r ≡ S.newOf «lng_min» «lat_min» «lng_max» «lat_max» ⌝ }
+        ensures { λ r. ⌜ r ≡ Bounds.newOf «lng_min» «lat_min» «lng_max» «lat_max» ⌝ }
     {
         Self {
             lng_min,
@@ -53,7 +53,7 @@ impl TileBounds {
 
     // Bounds that hold nothing: expanding them by any others without a NaN gives the others.
     pub fn empty() -> Self
-        ensures { λ r. ⌜ r ≡ S.empty ⌝ }
+        ensures { λ r. ⌜ r ≡ Bounds.empty ⌝ }
     {
         let infinity = 1.0 / 0.0;
         Self {
@@ -65,13 +65,13 @@ impl TileBounds {
     }
 
     pub fn is_valid(self) -> bool
-        ensures { λ r. ⌜ r ≡ S.isValid self ⌝ }
+        ensures { λ r. ⌜ r ≡ Bounds.isValid self ⌝ }
     {
         self.lng_min <= self.lng_max && self.lat_min <= self.lat_max
     }
 
     pub fn expand(self, other: TileBounds) -> Self
-        ensures { λ r. ⌜ r ≡ S.expand self other ⌝ }
+        ensures { λ r. ⌜ r ≡ Bounds.expand self other ⌝ }
     {
         Self {
             lng_min: minimum(self.lng_min, other.lng_min),
@@ -82,7 +82,7 @@ impl TileBounds {
     }
 
     pub fn intersect(self, other: TileBounds) -> Self
-        ensures { λ r. ⌜ r ≡ S.intersect self other ⌝ }
+        ensures { λ r. ⌜ r ≡ Bounds.intersect self other ⌝ }
     {
         Self {
             lng_min: maximum(self.lng_min, other.lng_min),
@@ -93,20 +93,20 @@ impl TileBounds {
     }
 
     pub fn width(self) -> f64
-        ensures { λ r. ⌜ r ≡ S.width self ⌝ }
+        ensures { λ r. ⌜ r ≡ Bounds.width self ⌝ }
     {
         self.lng_max - self.lng_min
     }
 
     pub fn height(self) -> f64
-        ensures { λ r. ⌜ r ≡ S.height self ⌝ }
+        ensures { λ r. ⌜ r ≡ Bounds.height self ⌝ }
     {
         self.lat_max - self.lat_min
     }
 
     // Wider by the buffer on every side; a negative buffer narrows.
     pub fn buffered(self, buffer: f64) -> Self
-        ensures { λ r. ⌜ r ≡ S.buffered self buffer ⌝ }
+        ensures { λ r. ⌜ r ≡ Bounds.buffered self buffer ⌝ }
     {
         Self {
             lng_min: self.lng_min - buffer,

@@ -1,11 +1,11 @@
 -- `binary64::interpolate` is the definition, by computation. Assumes nothing.
 use mathlib.Core.Path.{refl}
-use Rattle.binary64.specs.Interpolation as S
+use Rattle.binary64.specs.Interpolation as Interpolation
 use Rattle.binary64.proofs.interpolate.Statement.{statement}
 use Rattle.binary64.proofs.interpolate.Tie as tie
 
 returns : tie.Need-returns
-unfolding S.interpolate
+unfolding Interpolation.interpolate
 returns c = refl
 
 pub interpolate-spec : {M : Type 1} → statement M

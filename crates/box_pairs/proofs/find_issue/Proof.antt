@@ -25,7 +25,8 @@ returns-2 c =
 returns-3 : tie.Need-returns-3
 returns-3 c =
     let s = c .before .before .before .before .before .before .before in (
-      sym (issue-simple (s .args .ring .now) (s .args .n) (s .pre .ring-room) (s .args .assume-simple) (c .before .before .before .if1 .left)
+      sym (issue-simple (s .args .ring .now) (s .args .n) (s .pre .ring-room) (s .args .assume-simple)
+          (c .before .before .before .if1 .left)
           (sym (c .before .before .has-repeated .ensures) ∙ c .before .if2 .left) (c .if3 .taken)),
       (record { past-work = refl; past-order = refl }, λ t. (refl, refl)),
     )
@@ -45,7 +46,9 @@ returns-4 c =
     let e = c .before .before .before .before .before .has-self-intersecting-edges .ensures in (
       sym (issue-crossing (s .args .ring .now) (s .args .n) (s .pre .ring-room) (s .args .assume-simple)
           (c .before .before .before .before .before .before .before .before .before .before .before .if1 .left)
-          (sym (c .before .before .before .before .before .before .before .before .before .before .has-repeated .ensures) ∙ c .before .before .before .before .before .before .before .before .before .if2 .left) (c .before .before .before .before .before .before .before .before .if3 .left) (sym (e .0) ∙ c .if4 .taken)),
+          (sym (c .before .before .before .before .before .before .before .before .before .before .has-repeated .ensures)
+          ∙ c .before .before .before .before .before .before .before .before .before .if2 .left)
+          (c .before .before .before .before .before .before .before .before .if3 .left) (sym (e .0) ∙ c .if4 .taken)),
       (e .1 .0, e .1 .1 .scanned),
     )
 
@@ -61,7 +64,9 @@ returns-5 c =
     let e = c .before .before .before .before .before .has-self-intersecting-edges .ensures in (
       sym (issue-sound (s .args .ring .now) (s .args .n) (s .pre .ring-room) (s .args .assume-simple)
           (c .before .before .before .before .before .before .before .before .before .before .before .if1 .left)
-          (sym (c .before .before .before .before .before .before .before .before .before .before .has-repeated .ensures) ∙ c .before .before .before .before .before .before .before .before .before .if2 .left) (c .before .before .before .before .before .before .before .before .if3 .left) (sym (e .0) ∙ c .if4 .left)),
+          (sym (c .before .before .before .before .before .before .before .before .before .before .has-repeated .ensures)
+          ∙ c .before .before .before .before .before .before .before .before .before .if2 .left)
+          (c .before .before .before .before .before .before .before .before .if3 .left) (sym (e .0) ∙ c .if4 .left)),
       (e .1 .0, e .1 .1 .scanned),
     )
 

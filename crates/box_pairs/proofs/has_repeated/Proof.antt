@@ -4,9 +4,9 @@ use Prim.Native.Nat.{_+_, _-_, _≤_}
 use native.Mathlib.Omega.{arith}
 use lib.ListN.{drop}
 use borrow.Author.Needs.{needs}
-use Rattle.tile.specs.Ring.{coordAt}
+use Rattle.tile.specs.Contracts.{coordAt}
 use Rattle.box_pairs.specs.Cross.{short}
-use Rattle.box_pairs.specs.Pairs.{front}
+use Rattle.box_pairs.specs.Contracts.{front}
 use Rattle.box_pairs.specs.Issue.{repeated}
 use Rattle.box_pairs.proofs.Issues.{repeated-next, repeated-end}
 use Rattle.box_pairs.proofs.has_repeated.Statement.{statement}
@@ -20,7 +20,8 @@ abbrev μ-loop : tie.MeasureT-loop
 
 -- the verdict on the neighbours k and k + 1
 verdict : (c : tie.After-is-short Inv-loop μ-loop)
-    → c .is-short .result ≡ short (coordAt (c .before .before .before .before .before .before .args .ring .now) (c .before .before .before .before .loop .k))
+    → c .is-short .result ≡ short (coordAt (c .before .before .before .before .before .before .args .ring .now)
+    (c .before .before .before .before .loop .k))
     (coordAt (c .before .before .before .before .before .before .args .ring .now) (c .before .before .before .before .loop .k + 1))
 verdict c = c .is-short .ensures ∙ rw (c .before .before .coord-at .ensures, c .before .coord-at2 .ensures)
 
@@ -46,7 +47,8 @@ returns : tie.Need-returns Inv-loop μ-loop
 returns c =
     let l = c .before .before .before .before .before .loop in
     let s = c .before .before .before .before .before .before .before in
-    sym (l .inv .1 ∙ repeated-next (s .args .ring .now) (s .args .n) (s .pre) (l .k) (c .before .before .before .before .loop-test .taken) ∙ rw (← verdict (c .before), c .if1 .taken))
+    sym (l .inv .1 ∙ repeated-next (s .args .ring .now) (s .args .n) (s .pre) (l .k)
+    (c .before .before .before .before .loop-test .taken) ∙ rw (← verdict (c .before), c .if1 .taken))
 
 add-k : tie.Need-add-k Inv-loop μ-loop
 add-k c = search needs

@@ -23,7 +23,8 @@ same-length c = search needs
 returns : tie.Need-returns
 returns c =
     let a = c .before .before .before .before .before .before .before .before .args in
-    c .before .before .store .ensures ∙ ap (λ (r : TileBounds). stored (now (a .out)) r) (c .before .before .before .buffered .ensures ∙ ap (λ (r : TileBounds). buffered r (a .buffer)) (c .before .before .before .before .bounds-at .ensures))
+    c .before .before .store .ensures ∙ ap (λ (r : TileBounds). stored (now (a .out)) r) (c .before .before .before .buffered .ensures
+    ∙ ap (λ (r : TileBounds). buffered r (a .buffer)) (c .before .before .before .before .bounds-at .ensures))
 
 pub probe-buffered-spec : {M : Type 1} → statement M
 probe-buffered-spec =

@@ -19,10 +19,13 @@ bounds-at-requires : tie.Need-bounds-at-requires
 bounds-at-requires c κs = search needs
 
 clip-lent-requires : tie.Need-clip-lent-requires
-clip-lent-requires c κs = sym (c .before .before .before .before .before .before .check-ring .ensures) ∙ c .before .before .before .before .enum-told2 .given .1
+clip-lent-requires c κs =
+    sym (c .before .before .before .before .before .before .check-ring .ensures) ∙ c .before .before .before .before .enum-told2 .given .1
 
 returns : tie.Need-returns
-returns c = λ p. absurd (let e = c .enum-told .given .1 in let q = c .before .before .check-ring .ensures in let z : _≡_ {A = ℕ} 0 1 = cc in omega arith)
+returns c =
+    λ p. absurd (let e = c .enum-told .given .1 in let q = c .before .before .check-ring .ensures in let z : _≡_ {A = ℕ} 0 1 =
+    cc in omega arith)
 
 same-length : tie.Need-same-length
 same-length c = search needs
@@ -34,7 +37,9 @@ same-length-3 : tie.Need-same-length-3
 same-length-3 c = search needs
 
 returns-2 : tie.Need-returns-2
-returns-2 c = λ p. rw (← c .before .before .before .before .before .before .before .before .before .before .bounds-at .ensures) (c .before .before .before .before .before .before .clip-lent .ensures)
+returns-2 c =
+    λ p. rw (← c .before .before .before .before .before .before .before .before .before .before .bounds-at .ensures)
+    (c .before .before .before .before .before .before .clip-lent .ensures)
 
 pub probe-clip-lent-spec : {M : Type 1} → statement M
 probe-clip-lent-spec =

@@ -8,13 +8,15 @@ use lib.ListN.{length, take, drop, length-drop}
 use lib.Seq.{take-all}
 use borrow.Author.Needs.{needs}
 use Rattle.binary64.proofs.Fill.{tail-part}
-use Rattle.lines.specs.State.{State, stateOf, stateAfter, FeedsLines}
+use Rattle.lines.specs.State.{State, stateOf, stateAfter}
+use Rattle.lines.specs.Contracts.{FeedsLines}
 use Rattle.lines.proofs.Parts.{state-then}
 use Rattle.ringcut.proofs.feed_all.Statement.{statement}
 use Rattle.ringcut.proofs.feed_all.Tie as tie
 
 -- what is left of the block, as it is lent
-module _ (block : List ℕ) (at : ℕ) {st₁ st₂ : State} {kept kept′ out out′ : List ℕ} {taken written : ℕ} (h : at ≤ length block) (f : FeedsLines (take (length block - at) (drop at block)) st₁ kept out taken written st₂ kept′ out′) where
+module _ (block : List ℕ) (at : ℕ) {st₁ st₂ : State} {kept kept′ out out′ : List ℕ} {taken written : ℕ} (h : at ≤ length block)
+    (f : FeedsLines (take (length block - at) (drop at block)) st₁ kept out taken written st₂ kept′ out′) where
   part-within : at + taken ≤ length block
   part-within = omega (arith, f .within, ap length (tail-part block at), length-drop at block)
 
@@ -23,7 +25,8 @@ module _ (block : List ℕ) (at : ℕ) {st₁ st₂ : State} {kept kept′ out o
 
 abbrev Inv-loop : tie.InvT-loop
 Inv-loop block kept₀ out₀ known₀ from₀ kept out known from =
-    (length kept ≡ length kept₀) × (length out ≡ length out₀) × (from ≤ length block) × (stateOf known kept ≡ stateAfter (stateOf known₀ kept₀) (take from block))
+    (length kept ≡ length kept₀) × (length out ≡ length out₀) × (from ≤ length block)
+    × (stateOf known kept ≡ stateAfter (stateOf known₀ kept₀) (take from block))
 
 abbrev μ-loop : tie.MeasureT-loop
 μ-loop block kept₀ out₀ known₀ from₀ kept out known from = length block - from
@@ -50,13 +53,15 @@ write-out-requires c κs = search (needs, c .before .before .before .before .bef
 
 add-from : tie.Need-add-from Inv-loop μ-loop
 add-from c =
-    let block = now (c .before .before .before .before .before .before .before .before .before .before .before .before .before .before .before .before .args .block) in
+    let block = now (c .before .before .before .before .before .before .before .before .before .before .before .before .before .before
+    .before .before .args .block) in
     let l = c .before .before .before .before .before .before .before .before .before .before .before .before .loop in
     search (needs, part-within block (l .from) (l .inv .2) (c .before .before .before .before .before .before .before .feed-lines .ensures))
 
 loop-less : tie.Need-loop-less Inv-loop μ-loop
 loop-less c =
-    let block = now (c .before .before .before .before .before .before .before .before .before .before .before .before .before .before .before .before .args .block) in
+    let block = now (c .before .before .before .before .before .before .before .before .before .before .before .before .before .before
+    .before .before .args .block) in
     let l = c .before .before .before .before .before .before .before .before .before .before .before .before .loop in
     let f = c .before .before .before .before .before .before .before .feed-lines .ensures in
     let some : 0 < c .before .before .before .before .before .before .before .feed-lines .result .taken = f .some (search needs) in
@@ -64,7 +69,8 @@ loop-less c =
 
 loop-again : tie.Need-loop-again Inv-loop μ-loop
 loop-again c =
-    let block = now (c .before .before .before .before .before .before .before .before .before .before .before .before .before .before .before .before .args .block) in
+    let block = now (c .before .before .before .before .before .before .before .before .before .before .before .before .before .before
+    .before .before .args .block) in
     let l = c .before .before .before .before .before .before .before .before .before .before .before .before .loop in
     let f = c .before .before .before .before .before .before .before .feed-lines .ensures in
     (search needs, search needs, part-within block (l .from) (l .inv .2) f, part-state block (l .from) (l .inv .2) f _ (l .inv .3))

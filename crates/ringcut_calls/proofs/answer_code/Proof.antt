@@ -47,10 +47,14 @@ cast-result-6 : tie.Need-cast-result-6
 cast-result-6 c = search needs
 
 mul-result-2 : tie.Need-mul-result-2
-mul-result-2 c = let b = rw (c .before .before .answer2 .given .1) at (c .before .before .before .before .pre) in omega (arith, c .reason-number .ensures)
+mul-result-2 c =
+    let b = rw (c .before .before .answer2 .given .1) at (c .before .before .before .before .pre)
+    in omega (arith, c .reason-number .ensures)
 
 add-result-2 : tie.Need-add-result-2
-add-result-2 c = let b = rw (c .before .before .answer2 .given .1) at (c .before .before .before .before .pre) in omega (arith, c .reason-number .ensures)
+add-result-2 c =
+    let b = rw (c .before .before .answer2 .given .1) at (c .before .before .before .before .pre)
+    in omega (arith, c .reason-number .ensures)
 
 returns : tie.Need-returns
 returns c = rw (c .enum-told .given .1)

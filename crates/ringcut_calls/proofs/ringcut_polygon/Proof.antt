@@ -6,7 +6,7 @@ use mir.Syntax.{w64}
 use mir.Val.{SFits}
 use mir.Facts.{toZ-ofZ}
 use borrow.Author.Needs.{needs, sfits-of}
-use Rattle.slices.specs.Slice.{sliceCallCode}
+use Rattle.slices.specs.SliceCall.{sliceCallCode}
 use Rattle.slices.proofs.Answers.{answer-below, guards-told}
 use Rattle.ringcut_calls.proofs.Codes.{refusal-fits}
 use Rattle.ringcut_calls.proofs.ringcut_polygon.Statement.{statement}
@@ -34,11 +34,14 @@ enum-known-answer : tie.Need-enum-known-answer
 enum-known-answer c = search needs
 
 answer-code-requires : tie.Need-answer-code-requires
-answer-code-requires c κs = answer-below _ _ _ _ _ _ _ _ (sym (c .before .before .before .before .before .before .before .before .before .before .before .before .before .polygon .ensures .0) ∙ c .before .answer .given .1)
+answer-code-requires c κs =
+    answer-below _ _ _ _ _ _ _ _ (sym (c .before .before .before .before .before .before .before .before .before .before .before .before
+    .before .polygon .ensures .0) ∙ c .before .answer .given .1)
 
 cast-result : tie.Need-cast-result
 cast-result c =
-    let b = answer-below _ _ _ _ _ _ _ _ (sym (c .before .before .before .before .before .before .before .before .before .before .before .before .before .before .polygon .ensures .0) ∙ c .before .before .answer .given .1) in
+    let b = answer-below _ _ _ _ _ _ _ _ (sym (c .before .before .before .before .before .before .before .before .before .before .before
+    .before .before .before .polygon .ensures .0) ∙ c .before .before .answer .given .1) in
     sfits-of (omega (arith, c .answer-code .ensures))
 
 same-length : tie.Need-same-length
@@ -58,14 +61,18 @@ same-length-5 c = search needs
 
 returns : tie.Need-returns
 returns c =
-    let e = c .before .before .before .before .before .before .before .before .before .before .before .before .before .before .polygon .ensures in
+    let e = c .before .before .before .before .before .before .before .before .before .before .before .before .before .before
+    .polygon .ensures in
     let q = c .before .before .r .given .1 in
     let f : SFits w64 (c .refusal-code .result) = rw (c .refusal-code .ensures) (refusal-fits (c .before .before .r .given .0 .0)) in
     let h = toZ-ofZ f ∙ c .refusal-code .ensures ∙ ap sliceCallCode (sym q) in
     rw (
-      ← c .before .before .before .before .before .before .before .before .before .before .before .before .before .before .before .before .before .before .before .before .before .before .is-set .ensures,
-      ← c .before .before .before .before .before .before .before .before .before .before .before .before .before .before .before .before .before .before .before .before .before .is-set2 .ensures,
-      ← c .before .before .before .before .before .before .before .before .before .before .before .before .before .before .before .before .before .before .before .before .new .ensures,
+      ← c .before .before .before .before .before .before .before .before .before .before .before .before .before .before .before
+          .before .before .before .before .before .before .before .is-set .ensures,
+      ← c .before .before .before .before .before .before .before .before .before .before .before .before .before .before .before
+          .before .before .before .before .before .before .is-set2 .ensures,
+      ← c .before .before .before .before .before .before .before .before .before .before .before .before .before .before .before
+          .before .before .before .before .before .new .ensures,
       ← e .0,
     )
     (h, (guards-told _ _ _ _ _ _ _ _ (e .0) h, e .1))
@@ -87,15 +94,19 @@ same-length-10 c = search needs
 
 returns-2 : tie.Need-returns-2
 returns-2 c =
-    let e = c .before .before .before .before .before .before .before .before .before .before .before .before .before .before .polygon .ensures in
+    let e = c .before .before .before .before .before .before .before .before .before .before .before .before .before .before
+    .polygon .ensures in
     let q = c .before .before .answer .given .1 in
     let b = answer-below _ _ _ _ _ _ _ _ (sym (e .0) ∙ q) in
     let f : SFits w64 (pos (c .answer-code .result)) = sfits-of (omega (arith, c .answer-code .ensures)) in
     let h = toZ-ofZ f ∙ ap pos (c .answer-code .ensures) ∙ ap sliceCallCode (sym q) in
     rw (
-      ← c .before .before .before .before .before .before .before .before .before .before .before .before .before .before .before .before .before .before .before .before .before .before .is-set .ensures,
-      ← c .before .before .before .before .before .before .before .before .before .before .before .before .before .before .before .before .before .before .before .before .before .is-set2 .ensures,
-      ← c .before .before .before .before .before .before .before .before .before .before .before .before .before .before .before .before .before .before .before .before .new .ensures,
+      ← c .before .before .before .before .before .before .before .before .before .before .before .before .before .before .before
+          .before .before .before .before .before .before .before .is-set .ensures,
+      ← c .before .before .before .before .before .before .before .before .before .before .before .before .before .before .before
+          .before .before .before .before .before .before .is-set2 .ensures,
+      ← c .before .before .before .before .before .before .before .before .before .before .before .before .before .before .before
+          .before .before .before .before .before .new .ensures,
       ← e .0,
     )
     (h, (guards-told _ _ _ _ _ _ _ _ (e .0) h, e .1))

@@ -4,7 +4,7 @@ use mir.Syntax.{w64}
 use mir.Val.{SFits}
 use mir.Facts.{toZ-ofZ}
 use borrow.Author.Needs.{needs}
-use Rattle.sutherland_hodgman.specs.Call.{ringCallCode}
+use Rattle.sutherland_hodgman.specs.RingCall.{ringCallCode}
 use Rattle.sutherland_hodgman.proofs.Calls.{answer-few}
 use Rattle.ringcut_calls.proofs.Codes.{count-fits, refusal-fits}
 use Rattle.ringcut_calls.proofs.ringcut_ring.Statement.{statement}
@@ -26,7 +26,9 @@ enum-known-n : tie.Need-enum-known-n
 enum-known-n c = search needs
 
 cast-result : tie.Need-cast-result
-cast-result c = count-fits _ (answer-few _ _ _ _ (sym (c .before .before .before .before .before .before .before .before .before .ring .ensures .0) ∙ c .before .n .given .1))
+cast-result c =
+    count-fits _ (answer-few _ _ _ _ (sym (c .before .before .before .before .before .before .before .before .before .ring .ensures .0)
+    ∙ c .before .n .given .1))
 
 same-length : tie.Need-same-length
 same-length c = search needs
@@ -42,7 +44,11 @@ returns c =
     let e = c .before .before .before .before .before .before .before .before .before .before .ring .ensures in
     let q = c .before .before .r .given .1 in
     let f : SFits w64 (c .refusal-code .result) = rw (c .refusal-code .ensures) (refusal-fits (c .before .before .r .given .0 .0)) in
-    rw (← c .before .before .before .before .before .before .before .before .before .before .before .before .before .before .new .ensures, ← e .0) (toZ-ofZ f ∙ c .refusal-code .ensures ∙ ap ringCallCode (sym q), e .1)
+    rw (
+      ← c .before .before .before .before .before .before .before .before .before .before .before .before .before .before .new
+          .ensures,
+      ← e .0,
+    ) (toZ-ofZ f ∙ c .refusal-code .ensures ∙ ap ringCallCode (sym q), e .1)
 
 same-length-4 : tie.Need-same-length-4
 same-length-4 c = search needs
@@ -57,7 +63,11 @@ returns-2 : tie.Need-returns-2
 returns-2 c =
     let e = c .before .before .before .before .before .before .before .before .before .ring .ensures in
     let q = c .before .n .given .1 in
-    rw (← c .before .before .before .before .before .before .before .before .before .before .before .before .before .new .ensures, ← e .0) (toZ-ofZ (count-fits _ (answer-few _ _ _ _ (sym (e .0) ∙ q))) ∙ ap ringCallCode (sym q), e .1)
+    rw (
+      ← c .before .before .before .before .before .before .before .before .before .before .before .before .before .new .ensures,
+      ←
+          e .0,
+    ) (toZ-ofZ (count-fits _ (answer-few _ _ _ _ (sym (e .0) ∙ q))) ∙ ap ringCallCode (sym q), e .1)
 
 pub ringcut-ring-spec : {M : Type 1} → statement M
 ringcut-ring-spec =

@@ -20,7 +20,8 @@ clip-top-requires c κs =
     let a = c .before .before .before .before .before .before .before .before .before .before .before .before in
     let p = a .pre in
     let s = now (a .args .ring) in
-    let t = stage-three (a .args .bounds) (coords (take (2 * a .args .n) s)) (a .args .n) _ _ (length-front s (a .args .n) (a .pre .vertices)) (c .before .before .before .before .before .before .clip-three-edges .ensures) in
+    let t = stage-three (a .args .bounds) (coords (take (2 * a .args .n) s)) (a .args .n) _ _
+    (length-front s (a .args .n) (a .pre .vertices)) (c .before .before .before .before .before .before .clip-three-edges .ensures) in
     stage-last _ _ (omega arith) (omega arith) t
 
 same-length : tie.Need-same-length
@@ -34,7 +35,11 @@ returns c =
     let a = c .before .before .before .before .before .before .before .before .before .before .before .before .before .before .before in
     let s = now (a .args .ring) in
     let h : HeldBounds (a .args .bounds) = (search needs, search needs, search needs, search needs) in
-    topped-cut (a .args .bounds) (coords (take (2 * a .args .n) s)) _ _ _ _ _ h (held-front s (a .args .n) (c .before .before .before .before .before .before .before .before .before .before .before .before .before .before .shared-slice-known .given)) (c .before .before .before .before .before .before .before .before .before .clip-three-edges .ensures) (c .before .before .clip-top .ensures)
+    topped-cut (a .args .bounds) (coords (take (2 * a .args .n) s)) _ _ _ _ _ h
+    (held-front s (a .args .n) (c .before .before .before .before .before .before .before .before .before .before .before .before
+    .before .before .shared-slice-known .given))
+    (c .before .before .before .before .before .before .before .before .before .clip-three-edges .ensures)
+    (c .before .before .clip-top .ensures)
 
 pub clip-ring-spec : {M : Type 1} → statement M
 clip-ring-spec =

@@ -3,15 +3,18 @@ use native.Mathlib.Omega.{arith}
 use denote.Ref.{now}
 use borrow.Author.Needs.{needs}
 use Rattle.tile.specs.declared.Edge.the-variants.{Left, Right, Bottom}
-use Rattle.sutherland_hodgman.specs.Walk.{threePasses}
+use Rattle.sutherland_hodgman.specs.Contracts.{threePasses}
 use Rattle.sutherland_hodgman.proofs.Stages.{stage-start, stage-next, stage-room}
 use Rattle.sutherland_hodgman.proofs.clip_three_edges.Statement.{statement}
 use Rattle.sutherland_hodgman.proofs.clip_three_edges.Tie as tie
 
 clip-ring-against-edge-requires : tie.Need-clip-ring-against-edge-requires
 clip-ring-against-edge-requires c κs =
-    let a = c .before .before .before .before in
-    (a .pre .vertices, stage-room _ _ (omega arith) (a .pre .first) (a .pre .first) (stage-start (a .args .n) (now (a .args .ring)) (a .pre .vertices)) .1)
+    let a = c .before .before .before .before in (
+      a .pre .vertices,
+      stage-room _ _ (omega arith) (a .pre .first) (a .pre .first)
+          (stage-start (a .args .n) (now (a .args .ring)) (a .pre .vertices)) .1,
+    )
 
 clip-ring-against-edge-requires-2 : tie.Need-clip-ring-against-edge-requires-2
 clip-ring-against-edge-requires-2 c κs =
@@ -26,7 +29,8 @@ clip-ring-against-edge-requires-3 c κs =
     let a = c .before .before .before .before .before .before .before .before .before .before .before .before .before .before in
     let p = a .pre in
     let s0 = stage-start (a .args .n) (now (a .args .ring)) (a .pre .vertices) in
-    let s1 = stage-next Left (a .args .bounds) _ _ _ s0 (c .before .before .before .before .before .before .before .before .before .clip-ring-against-edge .ensures) in
+    let s1 = stage-next Left (a .args .bounds) _ _ _ s0
+    (c .before .before .before .before .before .before .before .before .before .clip-ring-against-edge .ensures) in
     let s2 = stage-next Right (a .args .bounds) _ _ _ s1 (c .before .before .before .before .clip-ring-against-edge2 .ensures) in
     stage-room _ _ (omega arith) (omega arith) (omega arith) s2
 
@@ -39,10 +43,14 @@ same-length-2 c = search needs
 returns : tie.Need-returns
 unfolding threePasses
 returns c =
-    let a = c .before .before .before .before .before .before .before .before .before .before .before .before .before .before .before .before .before in
+    let a = c .before .before .before .before .before .before .before .before .before .before .before .before .before .before .before
+    .before .before in
     let s0 = stage-start (a .args .n) (now (a .args .ring)) (a .pre .vertices) in
-    let s1 = stage-next Left (a .args .bounds) _ _ _ s0 (c .before .before .before .before .before .before .before .before .before .before .before .before .clip-ring-against-edge .ensures) in
-    let s2 = stage-next Right (a .args .bounds) _ _ _ s1 (c .before .before .before .before .before .before .before .clip-ring-against-edge2 .ensures) in
+    let s1 = stage-next Left (a .args .bounds) _ _ _ s0
+    (c .before .before .before .before .before .before .before .before .before .before .before .before
+    .clip-ring-against-edge .ensures) in
+    let s2 = stage-next Right (a .args .bounds) _ _ _ s1
+    (c .before .before .before .before .before .before .before .clip-ring-against-edge2 .ensures) in
     let s3 = stage-next Bottom (a .args .bounds) _ _ _ s2 (c .before .before .clip-ring-against-edge3 .ensures) in
     s3 .stands
 

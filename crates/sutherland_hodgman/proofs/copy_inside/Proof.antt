@@ -8,21 +8,27 @@ use borrow.Author.Tests.{not-true, not-false}
 use denote.Ref.{now}
 use lib.ListN.{length, take}
 use Rattle.tile.specs.Ring.{coords}
-use Rattle.sutherland_hodgman.specs.Walk.{left, Onward}
+use Rattle.sutherland_hodgman.specs.Contracts.{stepsLeft, SameRest}
 use Rattle.sutherland_hodgman.proofs.Walking.{onward-here, onward-then, in-in, in-in-room, judged, wrote}
 use Rattle.sutherland_hodgman.proofs.copy_inside.Statement.{statement}
 use Rattle.sutherland_hodgman.proofs.copy_inside.Tie as tie
 
 abbrev Inv-loop : tie.InvT-loop
-Inv-loop ring m edge bounds out₀ i₀ len₀ out i len = (i₀ ≤ i) × (i ≤ m) × (length out ≡ length out₀) × Onward edge bounds (coords (take (2 * m) ring)) true i₀ len₀ out₀ true i len out
+Inv-loop ring m edge bounds out₀ i₀ len₀ out i len =
+    (i₀ ≤ i) × (i ≤ m) × (length out ≡ length out₀) × SameRest edge bounds (coords (take (2 * m) ring)) true i₀ len₀ out₀ true i len out
 
 abbrev μ-loop : tie.MeasureT-loop
 μ-loop ring m edge bounds out₀ i₀ len₀ out i len = m - i
 
 loop-holds : tie.Need-loop-holds Inv-loop μ-loop
 loop-holds c =
-    let a = c .before .before in
-    (search needs, search needs, refl, onward-here (a .args .edge) (a .args .bounds) (coords (take (2 * a .args .m) (now (a .args .ring)))) true _ _ _)
+    let a = c .before .before in (
+      search needs,
+      search needs,
+      refl,
+      onward-here (a .args .edge) (a .args .bounds)
+          (coords (take (2 * a .args .m) (now (a .args .ring)))) true _ _ _,
+    )
 
 coord-at-requires : tie.Need-coord-at-requires Inv-loop μ-loop
 coord-at-requires c κs = search needs
@@ -36,8 +42,13 @@ same-length c = search needs
 returns : tie.Need-returns Inv-loop μ-loop
 returns c =
     let a = c .before .before .before .before .before .before .before in
-    let l = c .before .before .before .before .loop in
-    (search needs, search needs, λ _. judged (a .args .edge) (a .args .bounds) _ _ _ false (c .before .before .coord-at .ensures) (c .before .is-inside .ensures) (not-true _ (c .if1 .taken)), l .inv .3)
+    let l = c .before .before .before .before .loop in (
+      search needs,
+      search needs,
+      λ _. judged (a .args .edge) (a .args .bounds) _ _ _ false (c .before .before .coord-at .ensures)
+          (c .before .is-inside .ensures) (not-true _ (c .if1 .taken)),
+      l .inv .3,
+    )
 
 put-requires : tie.Need-put-requires Inv-loop μ-loop
 put-requires c κs =
@@ -47,9 +58,15 @@ put-requires c κs =
     let m = a .args .m in
     let o = l .inv .3 .count in
     let u : length (l .out) ≡ length (now (a .args .out)) = l .inv .2 in
-    let r : 2 * (l .len + length (left (a .args .edge) (a .args .bounds) (coords (take (2 * m) s)) true (l .i))) ≤ length (l .out) = omega (arith, a .pre .2) in
-    let f = judged (a .args .edge) (a .args .bounds) _ _ _ true (c .before .before .before .coord-at .ensures) (c .before .before .is-inside .ensures) (not-false _ (c .before .if1 .left)) in
-    omega (arith, in-in-room (a .args .edge) (a .args .bounds) s m (a .pre .0) (l .i) (c .before .before .before .before .loop-test .taken) f (l .len) _ r)
+    let r : 2 * (l .len + length (stepsLeft (a .args .edge) (a .args .bounds) (coords (take (2 * m) s)) true (l .i))) ≤ length (l .out)
+    = omega (arith, a .pre .2) in
+    let f = judged (a .args .edge) (a .args .bounds) _ _ _ true (c .before .before .before .coord-at .ensures)
+    (c .before .before .is-inside .ensures) (not-false _ (c .before .if1 .left)) in
+    omega (
+      arith,
+      in-in-room (a .args .edge) (a .args .bounds) s m (a .pre .0) (l .i)
+          (c .before .before .before .before .loop-test .taken) f (l .len) _ r,
+    )
 
 add-len : tie.Need-add-len Inv-loop μ-loop
 add-len c = search needs
@@ -66,13 +83,16 @@ loop-again c =
     let l = c .before .before .before .before .before .before .before .before .loop in
     let s = now (a .args .ring) in
     let m = a .args .m in
-    let f = judged (a .args .edge) (a .args .bounds) _ _ _ true (c .before .before .before .before .before .before .coord-at .ensures) (c .before .before .before .before .before .is-inside .ensures) (not-false _ (c .before .before .before .before .if1 .left)) in
+    let f = judged (a .args .edge) (a .args .bounds) _ _ _ true (c .before .before .before .before .before .before .coord-at .ensures)
+    (c .before .before .before .before .before .is-inside .ensures) (not-false _ (c .before .before .before .before .if1 .left)) in
     let p = c .before .before .put .ensures in (
       search needs,
       search needs,
       wrote (l .out) _ (l .len) _ (c .before .before .before .before .before .before .coord-at .result) p (l .inv .2),
       onward-then (a .args .edge) (a .args .bounds) (coords (take (2 * m) s)) (l .inv .3)
-          (in-in (a .args .edge) (a .args .bounds) s m (a .pre .0) (l .i) (c .before .before .before .before .before .before .before .loop-test .taken) f _ (l .len) (l .out) _ (c .before .before .before .before .before .before .coord-at .ensures) p),
+          (in-in (a .args .edge) (a .args .bounds) s m (a .pre .0) (l .i)
+          (c .before .before .before .before .before .before .before .loop-test .taken) f _ (l .len) (l .out) _
+          (c .before .before .before .before .before .before .coord-at .ensures) p),
     )
 
 same-length-2 : tie.Need-same-length-2 Inv-loop μ-loop

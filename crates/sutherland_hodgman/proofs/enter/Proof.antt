@@ -7,7 +7,7 @@ use borrow.Author.Needs.{needs}
 use denote.Ref.{now}
 use lib.ListN.{length, take}
 use Rattle.tile.specs.Ring.{coords}
-use Rattle.sutherland_hodgman.specs.Walk.{left}
+use Rattle.sutherland_hodgman.specs.Contracts.{stepsLeft}
 use Rattle.sutherland_hodgman.proofs.Walking.{onward-then, onward-end, onward-skip, out-in, out-in-room, past-end}
 use Rattle.sutherland_hodgman.proofs.enter.Statement.{statement}
 use Rattle.sutherland_hodgman.proofs.enter.Tie as tie
@@ -23,8 +23,10 @@ returns c =
     let e = c .before .skip-outside .ensures in (
       search needs,
       search needs,
-      onward-then (a .args .edge) (a .args .bounds) (coords (take (2 * m) s)) (onward-skip (a .args .edge) (a .args .bounds) (coords (take (2 * m) s)) _ _ _ _ (e .3))
-          (onward-end (a .args .edge) (a .args .bounds) (coords (take (2 * m) s)) false true _ _ _ (past-end s m (a .pre .0) _ (c .if1 .taken))),
+      onward-then (a .args .edge) (a .args .bounds) (coords (take (2 * m) s))
+          (onward-skip (a .args .edge) (a .args .bounds) (coords (take (2 * m) s)) _ _ _ _ (e .3))
+          (onward-end (a .args .edge) (a .args .bounds) (coords (take (2 * m) s)) false true _ _ _
+          (past-end s m (a .pre .0) _ (c .if1 .taken))),
     )
 
 previous-requires : tie.Need-previous-requires
@@ -44,8 +46,13 @@ put-requires c κs =
     let j = c .before .before .before .before .before .skip-outside .result in
     let e = c .before .before .before .before .before .skip-outside .ensures in
     let o = ap length (e .3) in
-    let r : 2 * (a .args .at .len + length (left (a .args .edge) (a .args .bounds) (coords (take (2 * m) s)) false j)) ≤ length (now (a .args .out)) = omega (arith, a .pre .2) in
-    omega (arith, out-in-room (a .args .edge) (a .args .bounds) s m (a .pre .0) j (c .before .before .before .before .if1 .left) (e .2 (c .before .before .before .before .if1 .left)) (a .args .at .len) _ r)
+    let r : 2 * (a .args .at .len + length (stepsLeft (a .args .edge) (a .args .bounds) (coords (take (2 * m) s)) false j)) ≤ length
+    (now (a .args .out)) = omega (arith, a .pre .2) in
+    omega (
+      arith,
+      out-in-room (a .args .edge) (a .args .bounds) s m (a .pre .0) j (c .before .before .before .before .if1 .left)
+          (e .2 (c .before .before .before .before .if1 .left)) (a .args .at .len) _ r,
+    )
 
 add-put : tie.Need-add-put
 add-put c =
@@ -55,8 +62,11 @@ add-put c =
     let j = c .before .before .before .before .before .before .before .before .before .before .skip-outside .result in
     let e = c .before .before .before .before .before .before .before .before .before .before .skip-outside .ensures in
     let o = ap length (e .3) in
-    let r : 2 * (a .args .at .len + length (left (a .args .edge) (a .args .bounds) (coords (take (2 * m) s)) false j)) ≤ length (now (a .args .out)) = omega (arith, a .pre .2) in
-    let q = out-in-room (a .args .edge) (a .args .bounds) s m (a .pre .0) j (c .before .before .before .before .before .before .before .before .before .if1 .left) (e .2 (c .before .before .before .before .before .before .before .before .before .if1 .left)) (a .args .at .len) _ r in
+    let r : 2 * (a .args .at .len + length (stepsLeft (a .args .edge) (a .args .bounds) (coords (take (2 * m) s)) false j)) ≤ length
+    (now (a .args .out)) = omega (arith, a .pre .2) in
+    let q = out-in-room (a .args .edge) (a .args .bounds) s m (a .pre .0) j
+    (c .before .before .before .before .before .before .before .before .before .if1 .left)
+    (e .2 (c .before .before .before .before .before .before .before .before .before .if1 .left)) (a .args .at .len) _ r in
     search needs
 
 put-requires-2 : tie.Need-put-requires-2
@@ -67,22 +77,35 @@ put-requires-2 c κs =
     let j = c .before .before .before .before .before .before .before .before .before .before .skip-outside .result in
     let e = c .before .before .before .before .before .before .before .before .before .before .skip-outside .ensures in
     let o = ap length (e .3) in
-    let r : 2 * (a .args .at .len + length (left (a .args .edge) (a .args .bounds) (coords (take (2 * m) s)) false j)) ≤ length (now (a .args .out)) = omega (arith, a .pre .2) in
-    omega (arith, out-in-room (a .args .edge) (a .args .bounds) s m (a .pre .0) j (c .before .before .before .before .before .before .before .before .before .if1 .left) (e .2 (c .before .before .before .before .before .before .before .before .before .if1 .left)) (a .args .at .len) _ r)
+    let r : 2 * (a .args .at .len + length (stepsLeft (a .args .edge) (a .args .bounds) (coords (take (2 * m) s)) false j)) ≤ length
+    (now (a .args .out)) = omega (arith, a .pre .2) in
+    omega (
+      arith,
+      out-in-room (a .args .edge) (a .args .bounds) s m (a .pre .0) j
+          (c .before .before .before .before .before .before .before .before .before .if1 .left)
+          (e .2 (c .before .before .before .before .before .before .before .before .before .if1 .left)) (a .args .at .len) _ r,
+    )
 
 add-t17 : tie.Need-add-t17
 add-t17 c = search needs
 
 add-t18 : tie.Need-add-t18
 add-t18 c =
-    let a = c .before .before .before .before .before .before .before .before .before .before .before .before .before .before .before .before .before in
+    let a = c .before .before .before .before .before .before .before .before .before .before .before .before .before .before .before
+    .before .before in
     let s = now (a .args .ring) in
     let m = a .args .m in
-    let j = c .before .before .before .before .before .before .before .before .before .before .before .before .before .before .skip-outside .result in
-    let e = c .before .before .before .before .before .before .before .before .before .before .before .before .before .before .skip-outside .ensures in
+    let j = c .before .before .before .before .before .before .before .before .before .before .before .before .before .before
+    .skip-outside .result in
+    let e = c .before .before .before .before .before .before .before .before .before .before .before .before .before .before
+    .skip-outside .ensures in
     let o = ap length (e .3) in
-    let r : 2 * (a .args .at .len + length (left (a .args .edge) (a .args .bounds) (coords (take (2 * m) s)) false j)) ≤ length (now (a .args .out)) = omega (arith, a .pre .2) in
-    let q = out-in-room (a .args .edge) (a .args .bounds) s m (a .pre .0) j (c .before .before .before .before .before .before .before .before .before .before .before .before .before .if1 .left) (e .2 (c .before .before .before .before .before .before .before .before .before .before .before .before .before .if1 .left)) (a .args .at .len) _ r in
+    let r : 2 * (a .args .at .len + length (stepsLeft (a .args .edge) (a .args .bounds) (coords (take (2 * m) s)) false j)) ≤ length
+    (now (a .args .out)) = omega (arith, a .pre .2) in
+    let q = out-in-room (a .args .edge) (a .args .bounds) s m (a .pre .0) j
+    (c .before .before .before .before .before .before .before .before .before .before .before .before .before .if1 .left)
+    (e .2 (c .before .before .before .before .before .before .before .before .before .before .before .before .before .if1 .left))
+    (a .args .at .len) _ r in
     search needs
 
 same-length : tie.Need-same-length
@@ -90,16 +113,26 @@ same-length c = search needs
 
 returns-2 : tie.Need-returns-2
 returns-2 c =
-    let a = c .before .before .before .before .before .before .before .before .before .before .before .before .before .before .before .before .before in
+    let a = c .before .before .before .before .before .before .before .before .before .before .before .before .before .before .before
+    .before .before in
     let s = now (a .args .ring) in
     let m = a .args .m in
-    let j = c .before .before .before .before .before .before .before .before .before .before .before .before .before .before .skip-outside .result in
-    let e = c .before .before .before .before .before .before .before .before .before .before .before .before .before .before .skip-outside .ensures in (
+    let j = c .before .before .before .before .before .before .before .before .before .before .before .before .before .before
+    .skip-outside .result in
+    let e = c .before .before .before .before .before .before .before .before .before .before .before .before .before .before
+    .skip-outside .ensures in (
       search needs,
       search needs,
-      onward-then (a .args .edge) (a .args .bounds) (coords (take (2 * m) s)) (onward-skip (a .args .edge) (a .args .bounds) (coords (take (2 * m) s)) _ _ _ _ (e .3))
-          (out-in (a .args .edge) (a .args .bounds) s m (a .pre .0) j (c .before .before .before .before .before .before .before .before .before .before .before .before .before .if1 .left) _ _ _ (c .before .before .before .before .before .before .before .before .before .before .before .before .previous .ensures) (c .before .before .before .before .before .before .before .before .before .before .before .coord-at .ensures) (c .before .before .before .before .before .before .before .before .before .intersect .ensures)
-          (e .2 (c .before .before .before .before .before .before .before .before .before .before .before .before .before .if1 .left)) (a .args .at .len) (now (a .args .out)) _ _ (c .before .before .before .before .before .before .before .before .put .ensures) (c .before .before .before .put2 .ensures)),
+      onward-then (a .args .edge) (a .args .bounds) (coords (take (2 * m) s))
+          (onward-skip (a .args .edge) (a .args .bounds) (coords (take (2 * m) s)) _ _ _ _ (e .3))
+          (out-in (a .args .edge) (a .args .bounds) s m (a .pre .0) j
+          (c .before .before .before .before .before .before .before .before .before .before .before .before .before .if1 .left) _ _
+          _ (c .before .before .before .before .before .before .before .before .before .before .before .before .previous .ensures)
+          (c .before .before .before .before .before .before .before .before .before .before .before .coord-at .ensures)
+          (c .before .before .before .before .before .before .before .before .before .intersect .ensures)
+          (e .2 (c .before .before .before .before .before .before .before .before .before .before .before .before .before .if1 .left))
+          (a .args .at .len) (now (a .args .out)) _ _
+          (c .before .before .before .before .before .before .before .before .put .ensures) (c .before .before .before .put2 .ensures)),
     )
 
 pub enter-spec : {M : Type 1} → statement M

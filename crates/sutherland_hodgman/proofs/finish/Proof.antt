@@ -15,7 +15,9 @@ same-length : tie.Need-same-length
 same-length c = search needs
 
 returns-2 : tie.Need-returns-2
-returns-2 c = let a = c .before .before .before .before .before .before in rw (finish-close (now (a .args .ring)) (a .args .n) (a .pre .0) (c .before .before .before .before .if1 .left)) (c .before .before .close .ensures)
+returns-2 c =
+    let a = c .before .before .before .before .before .before in rw (finish-close (now (a .args .ring)) (a .args .n) (a .pre .0)
+    (c .before .before .before .before .if1 .left)) (c .before .before .close .ensures)
 
 pub finish-spec : {M : Type 1} → statement M
 finish-spec = tie.close (tie.spec returns close-requires same-length returns-2)

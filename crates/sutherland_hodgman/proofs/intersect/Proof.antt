@@ -1,6 +1,6 @@
 -- `intersect` meets its contract: each arm knows its edge. Assumes nothing.
 use borrow.Author.Needs.{needs}
-use Rattle.sutherland_hodgman.specs.Lines.{crossing}
+use Rattle.sutherland_hodgman.specs.CuttingLines.{crossing}
 use Rattle.sutherland_hodgman.proofs.intersect.Statement.{statement}
 use Rattle.sutherland_hodgman.proofs.intersect.Tie as tie
 

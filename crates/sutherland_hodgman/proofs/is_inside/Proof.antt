@@ -1,6 +1,6 @@
 -- `is_inside` meets its contract: each arm knows its edge. Assumes nothing.
 use borrow.Author.Needs.{needs}
-use Rattle.sutherland_hodgman.specs.Lines.{inside}
+use Rattle.sutherland_hodgman.specs.CuttingLines.{inside}
 use Rattle.sutherland_hodgman.proofs.is_inside.Statement.{statement}
 use Rattle.sutherland_hodgman.proofs.is_inside.Tie as tie
 

@@ -6,7 +6,7 @@ use borrow.Author.Needs.{needs}
 use denote.Ref.{now}
 use lib.ListN.{length, take}
 use Rattle.tile.specs.Ring.{coords}
-use Rattle.sutherland_hodgman.specs.Walk.{left}
+use Rattle.sutherland_hodgman.specs.Contracts.{stepsLeft}
 use Rattle.sutherland_hodgman.proofs.Walking.{onward-then, onward-end, in-out, in-out-room, past-end}
 use Rattle.sutherland_hodgman.proofs.leave.Statement.{statement}
 use Rattle.sutherland_hodgman.proofs.leave.Tie as tie
@@ -26,7 +26,8 @@ returns c =
       search needs,
       search needs,
       onward-then (a .args .edge) (a .args .bounds) (coords (take (2 * m) s)) (e .3)
-          (onward-end (a .args .edge) (a .args .bounds) (coords (take (2 * m) s)) true false _ _ _ (past-end s m (a .pre .0) _ (c .if1 .taken))),
+          (onward-end (a .args .edge) (a .args .bounds) (coords (take (2 * m) s)) true false _ _ _
+          (past-end s m (a .pre .0) _ (c .if1 .taken))),
     )
 
 previous-requires : tie.Need-previous-requires
@@ -46,22 +47,33 @@ put-requires c κs =
     let to = c .before .before .before .before .before .before .before .before .copy-inside .result in
     let e = c .before .before .before .before .before .before .before .before .copy-inside .ensures in
     let o = e .3 .count in
-    let r : 2 * (to .len + length (left (a .args .edge) (a .args .bounds) (coords (take (2 * m) s)) true (to .i))) ≤ length (now (a .args .out)) = omega (arith, a .pre .2) in
-    omega (arith, in-out-room (a .args .edge) (a .args .bounds) s m (a .pre .0) (to .i) (c .before .before .before .before .if1 .left) (e .2 (c .before .before .before .before .if1 .left)) (to .len) _ r)
+    let r : 2 * (to .len + length (stepsLeft (a .args .edge) (a .args .bounds) (coords (take (2 * m) s)) true (to .i))) ≤ length
+    (now (a .args .out)) = omega (arith, a .pre .2) in
+    omega (
+      arith,
+      in-out-room (a .args .edge) (a .args .bounds) s m (a .pre .0) (to .i) (c .before .before .before .before .if1 .left)
+          (e .2 (c .before .before .before .before .if1 .left)) (to .len) _ r,
+    )
 
 add-t17 : tie.Need-add-t17
 add-t17 c = search needs
 
 add-t18 : tie.Need-add-t18
 add-t18 c =
-    let a = c .before .before .before .before .before .before .before .before .before .before .before .before .before .before .before .before .before in
+    let a = c .before .before .before .before .before .before .before .before .before .before .before .before .before .before .before
+    .before .before in
     let s = now (a .args .ring) in
     let m = a .args .m in
-    let to = c .before .before .before .before .before .before .before .before .before .before .before .before .before .copy-inside .result in
-    let e = c .before .before .before .before .before .before .before .before .before .before .before .before .before .copy-inside .ensures in
+    let to = c .before .before .before .before .before .before .before .before .before .before .before .before .before
+    .copy-inside .result in
+    let e = c .before .before .before .before .before .before .before .before .before .before .before .before .before
+    .copy-inside .ensures in
     let o = e .3 .count in
-    let r : 2 * (to .len + length (left (a .args .edge) (a .args .bounds) (coords (take (2 * m) s)) true (to .i))) ≤ length (now (a .args .out)) = omega (arith, a .pre .2) in
-    let q = in-out-room (a .args .edge) (a .args .bounds) s m (a .pre .0) (to .i) (c .before .before .before .before .before .before .before .before .before .if1 .left) (e .2 (c .before .before .before .before .before .before .before .before .before .if1 .left)) (to .len) _ r in
+    let r : 2 * (to .len + length (stepsLeft (a .args .edge) (a .args .bounds) (coords (take (2 * m) s)) true (to .i))) ≤ length
+    (now (a .args .out)) = omega (arith, a .pre .2) in
+    let q = in-out-room (a .args .edge) (a .args .bounds) s m (a .pre .0) (to .i)
+    (c .before .before .before .before .before .before .before .before .before .if1 .left)
+    (e .2 (c .before .before .before .before .before .before .before .before .before .if1 .left)) (to .len) _ r in
     search needs
 
 same-length-2 : tie.Need-same-length-2
@@ -69,16 +81,24 @@ same-length-2 c = search needs
 
 returns-2 : tie.Need-returns-2
 returns-2 c =
-    let a = c .before .before .before .before .before .before .before .before .before .before .before .before .before .before .before .before .before in
+    let a = c .before .before .before .before .before .before .before .before .before .before .before .before .before .before .before
+    .before .before in
     let s = now (a .args .ring) in
     let m = a .args .m in
-    let to = c .before .before .before .before .before .before .before .before .before .before .before .before .before .copy-inside .result in
-    let e = c .before .before .before .before .before .before .before .before .before .before .before .before .before .copy-inside .ensures in (
+    let to = c .before .before .before .before .before .before .before .before .before .before .before .before .before
+    .copy-inside .result in
+    let e = c .before .before .before .before .before .before .before .before .before .before .before .before .before
+    .copy-inside .ensures in (
       search needs,
       search needs,
       onward-then (a .args .edge) (a .args .bounds) (coords (take (2 * m) s)) (e .3)
-          (in-out (a .args .edge) (a .args .bounds) s m (a .pre .0) (to .i) (c .before .before .before .before .before .before .before .before .before .if1 .left) _ _ _ (c .before .before .before .before .before .before .before .before .previous .ensures) (c .before .before .before .before .before .before .before .coord-at .ensures) (c .before .before .before .before .before .intersect .ensures)
-          (e .2 (c .before .before .before .before .before .before .before .before .before .if1 .left)) (to .len) _ _ (c .before .before .before .before .put .ensures)),
+          (in-out (a .args .edge) (a .args .bounds) s m (a .pre .0) (to .i)
+          (c .before .before .before .before .before .before .before .before .before .if1 .left) _ _ _
+          (c .before .before .before .before .before .before .before .before .previous .ensures)
+          (c .before .before .before .before .before .before .before .coord-at .ensures)
+          (c .before .before .before .before .before .intersect .ensures)
+          (e .2 (c .before .before .before .before .before .before .before .before .before .if1 .left)) (to .len) _ _
+          (c .before .before .before .before .put .ensures)),
     )
 
 pub leave-spec : {M : Type 1} → statement M

@@ -18,8 +18,11 @@ sub-result c = search needs
 
 returns-2 : tie.Need-returns-2
 returns-2 c =
-    let a = c .before .before .before .before in
-    (search needs, left-closed (now (a .args .ring)) (a .args .n) (a .pre) (c .before .before .if1 .left) (sym (c .before .is-closed .ensures) ∙ c .if2 .taken))
+    let a = c .before .before .before .before in (
+      search needs,
+      left-closed (now (a .args .ring)) (a .args .n) (a .pre) (c .before .before .if1 .left)
+          (sym (c .before .is-closed .ensures) ∙ c .if2 .taken),
+    )
 
 returns-3 : tie.Need-returns-3
 returns-3 c =

@@ -7,13 +7,15 @@ use borrow.Author.Needs.{needs}
 use denote.Ref.{now}
 use lib.ListN.{take}
 use Rattle.tile.specs.Ring.{coords}
-use Rattle.sutherland_hodgman.specs.Walk.{left}
+use Rattle.sutherland_hodgman.specs.Contracts.{stepsLeft}
 use Rattle.sutherland_hodgman.proofs.Walking.{out-out, judged}
 use Rattle.sutherland_hodgman.proofs.skip_outside.Statement.{statement}
 use Rattle.sutherland_hodgman.proofs.skip_outside.Tie as tie
 
 abbrev Inv-loop : tie.InvT-loop
-Inv-loop ring m edge bounds i j₀ j = (i ≤ j) × (j ≤ m) × (left edge bounds (coords (take (2 * m) ring)) false i ≡ left edge bounds (coords (take (2 * m) ring)) false j)
+Inv-loop ring m edge bounds i j₀ j =
+    (i ≤ j) × (j ≤ m) × (stepsLeft edge bounds (coords (take (2 * m) ring)) false i ≡ stepsLeft edge bounds
+    (coords (take (2 * m) ring)) false j)
 
 abbrev μ-loop : tie.MeasureT-loop
 μ-loop ring m edge bounds i j₀ j = m - j
@@ -30,8 +32,13 @@ is-inside-requires c κs = search needs
 returns : tie.Need-returns Inv-loop μ-loop
 returns c =
     let a = c .before .before .before .before .before .before in
-    let l = c .before .before .before .before .loop in
-    (search needs, search needs, λ _. judged (a .args .edge) (a .args .bounds) _ _ _ true (c .before .before .coord-at .ensures) (c .before .is-inside .ensures) (c .if1 .taken), l .inv .2)
+    let l = c .before .before .before .before .loop in (
+      search needs,
+      search needs,
+      λ _. judged (a .args .edge) (a .args .bounds) _ _ _ true (c .before .before .coord-at .ensures)
+          (c .before .is-inside .ensures) (c .if1 .taken),
+      l .inv .2,
+    )
 
 add-j : tie.Need-add-j Inv-loop μ-loop
 add-j c = search needs
@@ -45,8 +52,10 @@ loop-again c =
     let l = c .before .before .before .before .loop in (
       search needs,
       search needs,
-      l .inv .2 ∙ out-out (a .args .edge) (a .args .bounds) (now (a .args .ring)) (a .args .m) (a .pre .0) (l .j) (c .before .before .before .loop-test .taken)
-          (judged (a .args .edge) (a .args .bounds) _ _ _ false (c .before .before .coord-at .ensures) (c .before .is-inside .ensures) (c .if1 .left)),
+      l .inv .2 ∙ out-out (a .args .edge) (a .args .bounds) (now (a .args .ring)) (a .args .m) (a .pre .0) (l .j)
+          (c .before .before .before .loop-test .taken)
+          (judged (a .args .edge) (a .args .bounds) _ _ _ false (c .before .before .coord-at .ensures) (c .before .is-inside .ensures)
+          (c .if1 .left)),
     )
 
 returns-2 : tie.Need-returns-2 Inv-loop μ-loop

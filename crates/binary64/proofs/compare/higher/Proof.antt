@@ -1,5 +1,5 @@
 -- `compare::higher` meets its contract. Assumes nothing.
-use Rattle.binary64.specs.Compare.{higher}
+use Rattle.binary64.specs.Contracts.{higher}
 use Rattle.binary64.proofs.compare.higher.Statement.{statement}
 use Rattle.binary64.proofs.compare.higher.Tie as tie
 

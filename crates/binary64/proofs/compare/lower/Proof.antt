@@ -1,5 +1,5 @@
 -- `compare::lower` meets its contract. Assumes nothing.
-use Rattle.binary64.specs.Compare.{lower}
+use Rattle.binary64.specs.Contracts.{lower}
 use Rattle.binary64.proofs.compare.lower.Statement.{statement}
 use Rattle.binary64.proofs.compare.lower.Tie as tie
 

@@ -36,8 +36,11 @@ loop-again : tie.Need-loop-again Inv-loop μ-loop
 unfolding ofBits
 loop-again c =
     let n = length (now (c .before .before .args .s)) in
-    let z : length (zeros n) ≡ n = length-replicate n _ in
-    (search needs, upto-step nan _ (omega arith) (omega arith) (sym (getD-replicate n (c .before .loop .i) _ nan (omega arith))) (c .before .loop .inv .1))
+    let z : length (zeros n) ≡ n = length-replicate n _ in (
+      search needs,
+      upto-step nan _ (omega arith) (omega arith) (sym (getD-replicate n (c .before .loop .i) _ nan (omega arith)))
+          (c .before .loop .inv .1),
+    )
 
 same-length : tie.Need-same-length Inv-loop μ-loop
 same-length c = search needs

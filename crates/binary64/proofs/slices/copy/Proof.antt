@@ -42,8 +42,11 @@ loop-again : tie.Need-loop-again Inv-loop μ-loop
 loop-again c =
     let a = c .before .before .before in
     let l = c .before .before .loop in
-    let f = length-take-le (a .args .n) (now (a .args .from)) (a .pre .0) in
-    (search needs, upto-step nan _ (omega arith) (omega arith) (sym (getD-take (a .args .n) (now (a .args .from)) (l .i) nan (omega arith))) (l .inv .1))
+    let f = length-take-le (a .args .n) (now (a .args .from)) (a .pre .0) in (
+      search needs,
+      upto-step nan _ (omega arith) (omega arith)
+          (sym (getD-take (a .args .n) (now (a .args .from)) (l .i) nan (omega arith))) (l .inv .1),
+    )
 
 same-length : tie.Need-same-length Inv-loop μ-loop
 same-length c = search needs

@@ -32,9 +32,12 @@ is-short-requires c κs = search needs
 returns-3 : tie.Need-returns-3
 returns-3 c =
     let a = c .before .before .before .before .before .before .before .before .args in
-    let p : intersectProperly (a .a1) (a .a2) (a .b1) (a .b2) ≡ true = sym (c .before .before .before .edges-intersect-properly .ensures) ∙ c .before .before .if3 .taken in
-    sym (cross-properly (a .a1) (a .a2) (a .b1) (a .b2) p (sym (c .before .before .before .before .before .is-apart2 .ensures) ∙ c .before .before .before .before .if2 .left)
-    (sym (c .before .before .before .before .before .before .before .is-apart .ensures) ∙ c .before .before .before .before .before .before .if1 .left)
+    let p : intersectProperly (a .a1) (a .a2) (a .b1) (a .b2) ≡ true =
+    sym (c .before .before .before .edges-intersect-properly .ensures) ∙ c .before .before .if3 .taken in
+    sym (cross-properly (a .a1) (a .a2) (a .b1) (a .b2) p (sym (c .before .before .before .before .before .is-apart2 .ensures)
+    ∙ c .before .before .before .before .if2 .left)
+    (sym (c .before .before .before .before .before .before .before .is-apart .ensures)
+    ∙ c .before .before .before .before .before .before .if1 .left)
     ∙ rw (← c .before .is-short .ensures, c .if4 .taken))
 
 is-short-requires-2 : tie.Need-is-short-requires-2
@@ -43,10 +46,12 @@ is-short-requires-2 c κs = search needs
 returns-4 : tie.Need-returns-4
 returns-4 c =
     let a = c .before .before .before .before .before .before .before .before .before .args in
-    let p : intersectProperly (a .a1) (a .a2) (a .b1) (a .b2) ≡ true = sym (c .before .before .before .before .edges-intersect-properly .ensures) ∙ c .before .before .before .if3 .taken in
+    let p : intersectProperly (a .a1) (a .a2) (a .b1) (a .b2) ≡ true =
+    sym (c .before .before .before .before .edges-intersect-properly .ensures) ∙ c .before .before .before .if3 .taken in
     sym (cross-properly (a .a1) (a .a2) (a .b1) (a .b2) p
     (sym (c .before .before .before .before .before .before .is-apart2 .ensures) ∙ c .before .before .before .before .before .if2 .left)
-    (sym (c .before .before .before .before .before .before .before .before .is-apart .ensures) ∙ c .before .before .before .before .before .before .before .if1 .left)
+    (sym (c .before .before .before .before .before .before .before .before .is-apart .ensures)
+    ∙ c .before .before .before .before .before .before .before .if1 .left)
     ∙ rw (← c .before .before .is-short .ensures, c .before .if4 .left, ← c .is-short2 .ensures))
 
 returns-5 : tie.Need-returns-5

@@ -1,6 +1,6 @@
 -- `cross::is_apart` meets its contract. Assumes nothing.
 use borrow.Author.Needs.{needs}
-use Rattle.box_pairs.specs.Cross.{separate}
+use Rattle.box_pairs.specs.Contracts.{separate}
 use Rattle.box_pairs.proofs.cross.is_apart.Statement.{statement}
 use Rattle.box_pairs.proofs.cross.is_apart.Tie as tie
 

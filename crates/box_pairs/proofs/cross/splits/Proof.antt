@@ -18,12 +18,25 @@ above-below-requires-2 c κs = search needs
 
 returns : tie.Need-returns
 unfolding splits
-returns c = rw (← c .before .before .before .cross-product-sign .ensures, ← c .before .before .cross-product-sign2 .ensures, ← c .before .above-below .ensures, c .if1 .taken)
+returns c =
+    rw (
+      ← c .before .before .before .cross-product-sign .ensures,
+      ← c .before .before .cross-product-sign2 .ensures,
+      ←
+          c .before .above-below .ensures,
+      c .if1 .taken,
+    )
 
 returns-2 : tie.Need-returns-2
 unfolding splits
 returns-2 c =
-    rw (← c .before .before .before .before .cross-product-sign .ensures, ← c .before .before .before .cross-product-sign2 .ensures, ← c .before .before .above-below .ensures, c .before .if1 .left) (c .above-below2 .ensures)
+    rw (
+      ← c .before .before .before .before .cross-product-sign .ensures,
+      ← c .before .before .before .cross-product-sign2 .ensures,
+      ←
+          c .before .before .above-below .ensures,
+      c .before .if1 .left,
+    ) (c .above-below2 .ensures)
 
 pub splits-spec : {M : Type 1} → statement M
 splits-spec =

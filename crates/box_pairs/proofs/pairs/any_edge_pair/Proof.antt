@@ -2,7 +2,7 @@
 use mathlib.Core.Path.{refl}
 use Prim.Native.Nat.{_+_}
 use borrow.Author.Needs.{needs}
-use Rattle.box_pairs.specs.Pairs.{front}
+use Rattle.box_pairs.specs.Contracts.{front}
 use Rattle.box_pairs.proofs.Edges.{after-scan, after-sweep}
 use Rattle.box_pairs.proofs.pairs.any_edge_pair.Statement.{statement}
 use Rattle.box_pairs.proofs.pairs.any_edge_pair.Tie as tie

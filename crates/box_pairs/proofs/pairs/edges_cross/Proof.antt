@@ -27,8 +27,12 @@ crosses-requires c κs = search needs
 
 returns : tie.Need-returns
 returns c =
-    c .crosses .ensures ∙ rw
-    (c .before .before .before .before .coord-at .ensures, c .before .before .before .coord-at2 .ensures, c .before .before .coord-at3 .ensures, c .before .coord-at4 .ensures)
+    c .crosses .ensures ∙ rw (
+      c .before .before .before .before .coord-at .ensures,
+      c .before .before .before .coord-at2 .ensures,
+      c .before .before .coord-at3 .ensures,
+      c .before .coord-at4 .ensures,
+    )
 
 pub edges-cross-spec : {M : Type 1} → statement M
 edges-cross-spec =

@@ -2,7 +2,7 @@
 use mathlib.Core.Path.{ap, _∙_}
 use mathlib.Core.Bool.{not}
 use borrow.Author.Needs.{needs}
-use Rattle.box_pairs.specs.Pairs.{mayMeetInY}
+use Rattle.box_pairs.specs.Contracts.{mayMeetInY}
 use Rattle.box_pairs.proofs.pairs.may_meet_in_y.Statement.{statement}
 use Rattle.box_pairs.proofs.pairs.may_meet_in_y.Tie as tie
 
@@ -30,8 +30,12 @@ is-apart-requires c κs = search needs
 returns : tie.Need-returns
 unfolding mayMeetInY
 returns c =
-    ap not (c .is-apart .ensures) ∙ rw
-    (c .before .before .before .before .coord-at .ensures, c .before .before .before .coord-at2 .ensures, c .before .before .coord-at3 .ensures, c .before .coord-at4 .ensures)
+    ap not (c .is-apart .ensures) ∙ rw (
+      c .before .before .before .before .coord-at .ensures,
+      c .before .before .before .coord-at2 .ensures,
+      c .before .before .coord-at3 .ensures,
+      c .before .coord-at4 .ensures,
+    )
 
 pub may-meet-in-y-spec : {M : Type 1} → statement M
 may-meet-in-y-spec =

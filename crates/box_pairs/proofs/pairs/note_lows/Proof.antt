@@ -3,7 +3,7 @@ use mathlib.Core.Path.{_∙_}
 use Prim.Native.Nat.{_+_, _-_}
 use native.Mathlib.Omega.{arith}
 use borrow.Author.Needs.{needs}
-use Rattle.box_pairs.specs.Pairs.{front}
+use Rattle.box_pairs.specs.Contracts.{front}
 use Rattle.box_pairs.proofs.Edges.{Noting, note-start, note-step, note-end, low-front}
 use Rattle.box_pairs.proofs.pairs.note_lows.Statement.{statement}
 use Rattle.box_pairs.proofs.pairs.note_lows.Tie as tie
@@ -15,7 +15,8 @@ abbrev μ-loop : tie.MeasureT-loop
 μ-loop ring work₀ n i₀ work i = n - i
 
 loop-holds : tie.Need-loop-holds Inv-loop μ-loop
-loop-holds c = let s = c .before .before in note-start (s .args .edges) (front (s .args .ring .now) (s .args .edges + 1)) (s .args .work .now)
+loop-holds c =
+    let s = c .before .before in note-start (s .args .edges) (front (s .args .ring .now) (s .args .edges + 1)) (s .args .work .now)
 
 coord-at-requires : tie.Need-coord-at-requires Inv-loop μ-loop
 coord-at-requires c κs = search needs
@@ -45,7 +46,8 @@ loop-again : tie.Need-loop-again Inv-loop μ-loop
 loop-again c =
     let l = c .before .before .before .before .loop in
     let s = c .before .before .before .before .before .before .before in
-    note-step (s .args .edges) (l .i) (front (s .args .ring .now) (s .args .edges + 1)) (s .args .work .now) (l .work) (c .minimum .result) (c .before .before .before .loop-test .taken) (s .pre .1)
+    note-step (s .args .edges) (l .i) (front (s .args .ring .now) (s .args .edges + 1)) (s .args .work .now) (l .work)
+    (c .minimum .result) (c .before .before .before .loop-test .taken) (s .pre .1)
     (c .minimum .ensures ∙ rw (c .before .before .coord-at .ensures, c .before .coord-at2 .ensures)
     (low-front (s .args .ring .now) (s .args .edges) (s .pre .0) (l .i) (c .before .before .before .loop-test .taken))) (l .inv)
 
@@ -56,7 +58,8 @@ returns : tie.Need-returns Inv-loop μ-loop
 returns c =
     let l = c .before .loop in
     let s = c .before .before .before .before in
-    note-end (s .args .edges) (l .i) (front (s .args .ring .now) (s .args .edges + 1)) (s .args .work .now) (l .work) (c .loop-test .left) (l .inv)
+    note-end (s .args .edges) (l .i) (front (s .args .ring .now) (s .args .edges + 1)) (s .args .work .now) (l .work)
+    (c .loop-test .left) (l .inv)
 
 pub note-lows-spec : {M : Type 1} → statement M
 note-lows-spec =

@@ -5,7 +5,8 @@ use mathlib.Core.Bool.{false}
 use Prim.Native.Nat.{_+_, _-_}
 use native.Mathlib.Omega.{arith}
 use borrow.Author.Needs.{needs}
-use Rattle.box_pairs.specs.Pairs.{front, edgesCross}
+use Rattle.box_pairs.specs.Contracts.{front}
+use Rattle.box_pairs.specs.Pairs.{edgesCross}
 use Rattle.box_pairs.proofs.Sweep.{Inner, Outer, outer-start, inner-start, inner-next, outer-next, scan-done, pair-here}
 use Rattle.box_pairs.proofs.Edges.{crossing-front, edges-front, never-meet}
 use Rattle.box_pairs.proofs.pairs.scan_pairs.Statement.{statement}
@@ -33,7 +34,8 @@ loop-holds : tie.Need-loop-holds Inv-loop μ-loop Inv-pairs μ-pairs
 loop-holds c =
     let o = c .before in
     let s = c .before .before .before in
-    inner-start (edgesCross (front (s .args .ring .now) (s .args .edges + 1))) (s .args .edges) (o .pairs .i) (o .pairs .found) (c .pairs-test .taken) (o .pairs .inv)
+    inner-start (edgesCross (front (s .args .ring .now) (s .args .edges + 1))) (s .args .edges) (o .pairs .i) (o .pairs .found)
+    (c .pairs-test .taken) (o .pairs .inv)
 
 may-meet-in-y-requires : tie.Need-may-meet-in-y-requires Inv-loop μ-loop Inv-pairs μ-pairs
 may-meet-in-y-requires c κs = search needs
@@ -52,10 +54,13 @@ loop-again c =
     let l = c .before .before .before .loop in
     let o = c .before .before .before .before .before in
     let s = c .before .before .before .before .before .before .before in
-    let is = edges-front (s .args .ring .now) (s .args .edges) (s .pre) (o .pairs .i) (l .j) (c .before .before .before .before .pairs-test .taken) (c .before .before .loop-test .taken) in
+    let is = edges-front (s .args .ring .now) (s .args .edges) (s .pre) (o .pairs .i) (l .j)
+    (c .before .before .before .before .pairs-test .taken) (c .before .before .loop-test .taken) in
     let miss : edgesCross (front (s .args .ring .now) (s .args .edges + 1)) (o .pairs .i) (l .j) ≡ false =
-    ⊎-elim (λ w. sym is ∙ (sym (w .1 .ensures) ∙ w .2 .left)) (λ w. sym is ∙ never-meet _ _ _ (sym (c .before .may-meet-in-y .ensures) ∙ w .left)) (c .if1 .came) in
-    inner-next (edgesCross (front (s .args .ring .now) (s .args .edges + 1))) (s .args .edges) (o .pairs .i) (l .j) (l .found) (c .before .before .loop-test .taken) (l .inv) miss
+    ⊎-elim (λ w. sym is ∙ (sym (w .1 .ensures) ∙ w .2 .left))
+    (λ w. sym is ∙ never-meet _ _ _ (sym (c .before .may-meet-in-y .ensures) ∙ w .left)) (c .if1 .came) in
+    inner-next (edgesCross (front (s .args .ring .now) (s .args .edges + 1))) (s .args .edges) (o .pairs .i) (l .j) (l .found)
+    (c .before .before .loop-test .taken) (l .inv) miss
 
 add-i : tie.Need-add-i Inv-loop μ-loop Inv-pairs μ-pairs
 add-i c = search needs
@@ -68,7 +73,8 @@ pairs-again c =
     let l = c .before .loop in
     let o = c .before .before .before in
     let s = c .before .before .before .before .before in
-    outer-next (edgesCross (front (s .args .ring .now) (s .args .edges + 1))) (s .args .edges) (o .pairs .i) (l .j) (o .pairs .found) (l .found) (c .before .before .pairs-test .taken)
+    outer-next (edgesCross (front (s .args .ring .now) (s .args .edges + 1))) (s .args .edges) (o .pairs .i) (l .j) (o .pairs .found)
+    (l .found) (c .before .before .pairs-test .taken)
     (o .pairs .inv) (l .inv)
     (λ q a b. l .inv .clear q a (omega (arith, c .loop-test .left)))
 
@@ -76,7 +82,8 @@ returns : tie.Need-returns Inv-loop μ-loop Inv-pairs μ-pairs
 returns c =
     let o = c .before in
     let s = c .before .before .before in
-    scan-done (edgesCross (front (s .args .ring .now) (s .args .edges + 1))) (s .args .edges) (o .pairs .i) (o .pairs .found) (c .pairs-test .left) (o .pairs .inv) ∙ sym
+    scan-done (edgesCross (front (s .args .ring .now) (s .args .edges + 1))) (s .args .edges) (o .pairs .i) (o .pairs .found)
+    (c .pairs-test .left) (o .pairs .inv) ∙ sym
     (crossing-front (s .args .ring .now) (s .args .edges) (s .pre))
 
 returns-2 : tie.Need-returns-2 Inv-loop μ-loop Inv-pairs μ-pairs
@@ -84,10 +91,12 @@ returns-2 c =
     let l = c .before .before .before .before .before .loop in
     let o = c .before .before .before .before .before .before .before in
     let s = c .before .before .before .before .before .before .before .before .before in
-    let is = edges-front (s .args .ring .now) (s .args .edges) (s .pre) (o .pairs .i) (l .j) (c .before .before .before .before .before .before .pairs-test .taken)
+    let is = edges-front (s .args .ring .now) (s .args .edges) (s .pre) (o .pairs .i) (l .j)
+    (c .before .before .before .before .before .before .pairs-test .taken)
     (c .before .before .before .before .loop-test .taken) in
     sym (crossing-front (s .args .ring .now) (s .args .edges) (s .pre)
-    ∙ pair-here (edgesCross (front (s .args .ring .now) (s .args .edges + 1))) (s .args .edges) (o .pairs .i) (l .j) (l .inv .after) (c .before .before .before .before .loop-test .taken)
+    ∙ pair-here (edgesCross (front (s .args .ring .now) (s .args .edges + 1))) (s .args .edges) (o .pairs .i) (l .j) (l .inv .after)
+    (c .before .before .before .before .loop-test .taken)
     (sym is ∙ (sym (c .before .edges-cross .ensures) ∙ c .if2 .taken)))
 
 pub scan-pairs-spec : {M : Type 1} → statement M

@@ -2,7 +2,7 @@
 use native.Mathlib.Omega.{arith}
 use Prim.Native.Nat.{_+_}
 use borrow.Author.Needs.{needs}
-use Rattle.box_pairs.specs.Pairs.{front}
+use Rattle.box_pairs.specs.Contracts.{front}
 use Rattle.box_pairs.proofs.Edges.{noted-swept, noted-unused}
 use Rattle.box_pairs.proofs.pairs.sweep_pairs.Statement.{statement}
 use Rattle.box_pairs.proofs.pairs.sweep_pairs.Tie as tie
@@ -15,14 +15,21 @@ sort-requires c κs = search needs
 
 sweep-sorted-requires : tie.Need-sweep-sorted-requires
 sweep-sorted-requires c κs =
-    let s = c .before .before .before .before .before .before .before .before .before .before .before .before .before .before .before .before in (
+    let s = c .before .before .before .before .before .before .before .before .before .before .before .before .before .before
+    .before .before in (
       (
         omega (arith, s .pre .ring-room),
-        omega
-            (arith, s .pre .work-room, c .before .before .before .before .before .before .before .before .before .before .before .note-lows .kept .1 .0, c .before .before .before .before .before .before .sort .ensures .0 .same),
+        omega (
+          arith,
+          s .pre .work-room,
+          c .before .before .before .before .before .before .before .before .before .before .before
+              .note-lows .kept .1 .0,
+          c .before .before .before .before .before .before .sort .ensures .0 .same,
+        ),
       ),
       noted-swept (s .args .edges) (front (s .args .ring .now) (s .args .edges + 1)) (s .args .work .now) _ _ (s .args .order .now) _
-          (c .before .before .before .before .before .before .before .before .before .before .before .note-lows .ensures) (c .before .before .before .before .before .before .sort .ensures .0)
+          (c .before .before .before .before .before .before .before .before .before .before .before .note-lows .ensures)
+          (c .before .before .before .before .before .before .sort .ensures .0)
           (c .before .before .before .before .before .before .sort .ensures .1),
     )
 
@@ -34,7 +41,8 @@ same-length-2 c = search needs
 
 returns : tie.Need-returns
 returns c =
-    let s = c .before .before .before .before .before .before .before .before .before .before .before .before .before .before .before .before .before in
+    let s = c .before .before .before .before .before .before .before .before .before .before .before .before .before .before .before
+    .before .before in
     let r = front (s .args .ring .now) (s .args .edges + 1) in
     let noted = c .before .before .before .before .before .before .before .before .before .before .before .before .note-lows .ensures in
     let sorted = c .before .before .before .before .before .before .before .sort .ensures in (

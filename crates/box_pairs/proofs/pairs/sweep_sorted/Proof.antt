@@ -1,4 +1,5 @@
--- `pairs::sweep_sorted` meets its contract. Each loop says that no pair of slots passed is a crossing one; where the inner loop breaks off, none follows. Assumes nothing.
+-- `pairs::sweep_sorted` meets its contract. Each loop says that no pair of slots passed is a crossing one; where the inner loop breaks off,
+-- none follows. Assumes nothing.
 use mathlib.Core.Path.{_≡_, sym, ap₂, _∙_}
 use mathlib.Core.Logic.{⊎-elim}
 use mathlib.Core.Bool.{false}
@@ -8,10 +9,12 @@ use native.Mathlib.Omega.{arith}
 use lib.Ieee.{nan, lt}
 use lib.ListN.{getD}
 use borrow.Author.Needs.{needs}
-use Rattle.binary64.specs.TotalOrder.{key}
+use Rattle.binary64.specs.Contracts.{key}
 use Rattle.tile.specs.declared.Coord.{Coord}
-use Rattle.box_pairs.specs.Pairs.{front, edgesCross, edgesAt, lowX}
-use Rattle.box_pairs.proofs.Sweep.{Inner, Outer, Clear, atSlots, Sweeps, outer-start, inner-start, inner-next, outer-next, sweep-hit, sweep-stop, sweep-done}
+use Rattle.box_pairs.specs.Contracts.{front, edgesAt, lowX}
+use Rattle.box_pairs.specs.Pairs.{edgesCross}
+use Rattle.box_pairs.proofs.Sweep.{Inner, Outer, Clear, atSlots, Sweeps, outer-start, inner-start, inner-next, outer-next, sweep-hit}
+use Rattle.box_pairs.proofs.Sweep.{sweep-stop, sweep-done}
 use Rattle.box_pairs.proofs.Edges.{crossing-front, edges-front, never-meet, high-front, stops, edge-sweeps}
 use Rattle.box_pairs.proofs.pairs.sweep_sorted.Statement.{statement}
 use Rattle.box_pairs.proofs.pairs.sweep_sorted.Tie as tie
@@ -33,32 +36,39 @@ abbrev ring-of : tie.Start Inv-loop μ-loop Inv-pairs μ-pairs → List Coord
 ring-of s = front (s .args .ring .now) (s .args .edges + 1)
 
 sweeps : (o : tie.At-pairs Inv-loop μ-loop Inv-pairs μ-pairs)
-    → Sweeps (λ i. key (lowX (ring-of (o .before .before .before .before)) i)) (o .before .before .before .before .args .edges) (stops (ring-of (o .before .before .before .before)))
+    → Sweeps (λ i. key (lowX (ring-of (o .before .before .before .before)) i)) (o .before .before .before .before .args .edges)
+    (stops (ring-of (o .before .before .before .before)))
     (edgesCross (ring-of (o .before .before .before .before)))
 sweeps o =
     let s = o .before .before .before .before in
     edge-sweeps (s .args .ring .now) (s .args .edges) (s .pre .0 .0) (λ i. o .before .before .before .shared-slice-known .given i)
 
 -- the verdict on the positions in the slots p and q
-verdict : (c : tie.At-loop Inv-loop μ-loop Inv-pairs μ-pairs) (q : ℕ) → q < c .before .before .before .before .before .before .before .before .before .before .args .edges
+verdict : (c : tie.At-loop Inv-loop μ-loop Inv-pairs μ-pairs) (q : ℕ)
+    → q < c .before .before .before .before .before .before .before .before .before .before .args .edges
     → edgesAt (c .before .before .before .before .before .before .before .before .before .before .args .ring .now)
-    (getD (c .before .before .before .before .before .before .before .before .before .before .args .order .now) (c .before .before .before .before .before .before .pairs .p) 0)
+    (getD (c .before .before .before .before .before .before .before .before .before .before .args .order .now)
+    (c .before .before .before .before .before .before .pairs .p) 0)
     (getD (c .before .before .before .before .before .before .before .before .before .before .args .order .now) q 0)
     ≡ atSlots (edgesCross (ring-of (c .before .before .before .before .before .before .before .before .before .before)))
-    (c .before .before .before .before .before .before .before .before .before .before .args .order .now) (c .before .before .before .before .before .before .pairs .p) q
+    (c .before .before .before .before .before .before .before .before .before .before .args .order .now)
+    (c .before .before .before .before .before .before .pairs .p) q
 verdict c q l =
     let s = c .before .before .before .before .before .before .before .before .before .before in
     let below = s .pre .1 .positions .below in
     edges-front (s .args .ring .now) (s .args .edges) (s .pre .0 .0) _ _
-    (below (c .before .before .before .before .before .before .pairs .p) (c .before .before .before .before .before .pairs-test .taken)) (below q l)
+    (below (c .before .before .before .before .before .before .pairs .p)
+    (c .before .before .before .before .before .pairs-test .taken)) (below q l)
 
 -- the test that breaks the inner loop off
-stop-test : (c : tie.At-loop Inv-loop μ-loop Inv-pairs μ-pairs) (q : ℕ) → q < c .before .before .before .before .before .before .before .before .before .before .args .edges
+stop-test : (c : tie.At-loop Inv-loop μ-loop Inv-pairs μ-pairs) (q : ℕ)
+    → q < c .before .before .before .before .before .before .before .before .before .before .args .edges
     → lt (c .before .maximum .result)
     (getD (c .before .before .before .before .before .before .before .before .before .before .args .lows .now)
     (getD (c .before .before .before .before .before .before .before .before .before .before .args .order .now) q 0) nan)
     ≡ atSlots (stops (ring-of (c .before .before .before .before .before .before .before .before .before .before)))
-    (c .before .before .before .before .before .before .before .before .before .before .args .order .now) (c .before .before .before .before .before .before .pairs .p) q
+    (c .before .before .before .before .before .before .before .before .before .before .args .order .now)
+    (c .before .before .before .before .before .before .pairs .p) q
 stop-test c q l =
     let s = c .before .before .before .before .before .before .before .before .before .before in
     let below = s .pre .1 .positions .below in
@@ -75,7 +85,8 @@ mul-i : tie.Need-mul-i Inv-loop μ-loop Inv-pairs μ-pairs
 mul-i c = omega (arith, c .before .before .before .before .before .pre .1 .positions .long, c .pairs-test .taken)
 
 shared-slice-read-i : tie.Need-shared-slice-read-i Inv-loop μ-loop Inv-pairs μ-pairs
-shared-slice-read-i c = omega (arith, c .before .before .before .before .before .before .pre .1 .positions .long, c .before .pairs-test .taken)
+shared-slice-read-i c =
+    omega (arith, c .before .before .before .before .before .before .pre .1 .positions .long, c .before .pairs-test .taken)
 
 cast-i : tie.Need-cast-i Inv-loop μ-loop Inv-pairs μ-pairs
 cast-i c = omega (arith, c .shared-slice-known4 .given (c .before .before .pairs .p))
@@ -117,24 +128,46 @@ loop-holds : tie.Need-loop-holds Inv-loop μ-loop Inv-pairs μ-pairs
 loop-holds c =
     let o = c .before .before .before .before .before in
     let s = o .before .before .before .before in
-    inner-start (atSlots (edgesCross (ring-of s)) (s .args .order .now)) (s .args .edges) (o .pairs .p) (o .pairs .found) (c .before .before .before .before .pairs-test .taken) (o .pairs .inv)
+    inner-start (atSlots (edgesCross (ring-of s)) (s .args .order .now)) (s .args .edges) (o .pairs .p) (o .pairs .found)
+    (c .before .before .before .before .pairs-test .taken) (o .pairs .inv)
 
 mul-j : tie.Need-mul-j Inv-loop μ-loop Inv-pairs μ-pairs
-mul-j c = omega (arith, c .before .before .before .before .before .before .before .before .before .before .before .pre .1 .positions .long, c .loop-test .taken)
+mul-j c =
+    omega (
+      arith,
+      c .before .before .before .before .before .before .before .before .before .before .before .pre .1 .positions .long,
+      c .loop-test .taken,
+    )
 
 shared-slice-read-j : tie.Need-shared-slice-read-j Inv-loop μ-loop Inv-pairs μ-pairs
-shared-slice-read-j c = omega (arith, c .before .before .before .before .before .before .before .before .before .before .before .before .pre .1 .positions .long, c .before .loop-test .taken)
+shared-slice-read-j c =
+    omega (
+      arith,
+      c .before .before .before .before .before .before .before .before .before .before .before .before .pre .1 .positions
+          .long,
+      c .before .loop-test .taken,
+    )
 
 cast-j : tie.Need-cast-j Inv-loop μ-loop Inv-pairs μ-pairs
 cast-j c = omega (arith, c .shared-slice-known5 .given (c .before .before .loop .q))
 
 mul-if1 : tie.Need-mul-if1 Inv-loop μ-loop Inv-pairs μ-pairs
 mul-if1 c =
-    omega (arith, c .before .before .before .before .before .before .before .before .before .before .before .before .pre .0 .1, c .before .before .before .before .before .before .before .before .before .before .before .before .pre .1 .positions .below (c .before .before .loop .q) (c .before .loop-test .taken))
+    omega (
+      arith,
+      c .before .before .before .before .before .before .before .before .before .before .before .before .pre .0 .1,
+      c .before .before .before .before .before .before .before .before .before .before .before .before .pre .1 .positions .below
+          (c .before .before .loop .q) (c .before .loop-test .taken),
+    )
 
 shared-slice-read-if1 : tie.Need-shared-slice-read-if1 Inv-loop μ-loop Inv-pairs μ-pairs
 shared-slice-read-if1 c =
-    omega (arith, c .before .before .before .before .before .before .before .before .before .before .before .before .before .pre .0 .1, c .before .before .before .before .before .before .before .before .before .before .before .before .before .pre .1 .positions .below (c .before .before .before .loop .q) (c .before .before .loop-test .taken))
+    omega (
+      arith,
+      c .before .before .before .before .before .before .before .before .before .before .before .before .before .pre .0 .1,
+      c .before .before .before .before .before .before .before .before .before .before .before .before .before .pre .1 .positions
+          .below (c .before .before .before .loop .q) (c .before .before .loop-test .taken),
+    )
 
 may-meet-in-y-requires : tie.Need-may-meet-in-y-requires Inv-loop μ-loop Inv-pairs μ-pairs
 may-meet-in-y-requires c κs =
@@ -152,7 +185,8 @@ may-meet-in-y-requires c κs =
 
 edges-cross-requires : tie.Need-edges-cross-requires Inv-loop μ-loop Inv-pairs μ-pairs
 edges-cross-requires c κs =
-    let s = c .before .before .before .before .before .before .before .before .before .before .before .before .before .before .before .before in
+    let s = c .before .before .before .before .before .before .before .before .before .before .before .before .before .before
+    .before .before in
     let below = s .pre .1 .positions .below in (
       omega (
         arith,
@@ -160,8 +194,12 @@ edges-cross-requires c κs =
         below (c .before .before .before .before .before .before .before .before .before .before .before .before .pairs .p)
             (c .before .before .before .before .before .before .before .before .before .before .before .pairs-test .taken),
       ),
-      omega
-          (arith, s .pre .0 .0, below (c .before .before .before .before .before .before .loop .q) (c .before .before .before .before .before .loop-test .taken)),
+      omega (
+        arith,
+        s .pre .0 .0,
+        below (c .before .before .before .before .before .before .loop .q)
+            (c .before .before .before .before .before .loop-test .taken),
+      ),
     )
 
 add-q-2 : tie.Need-add-q-2 Inv-loop μ-loop Inv-pairs μ-pairs
@@ -174,11 +212,15 @@ loop-again : tie.Need-loop-again Inv-loop μ-loop Inv-pairs μ-pairs
 loop-again c =
     let l = c .before .before .before .before .before .before .loop in
     let o = c .before .before .before .before .before .before .before .before .before .before .before .before in
-    let s = c .before .before .before .before .before .before .before .before .before .before .before .before .before .before .before .before in
-    let is = verdict (c .before .before .before .before .before .before) (l .q) (c .before .before .before .before .before .loop-test .taken) in
+    let s = c .before .before .before .before .before .before .before .before .before .before .before .before .before .before
+    .before .before in
+    let is = verdict (c .before .before .before .before .before .before) (l .q)
+    (c .before .before .before .before .before .loop-test .taken) in
     let miss : atSlots (edgesCross (ring-of s)) (s .args .order .now) (o .pairs .p) (l .q) ≡ false =
-    ⊎-elim (λ w. sym is ∙ (sym (w .1 .ensures) ∙ w .2 .left)) (λ w. sym is ∙ never-meet _ _ _ (sym (c .before .may-meet-in-y .ensures) ∙ w .left)) (c .if2 .came) in
-    inner-next (atSlots (edgesCross (ring-of s)) (s .args .order .now)) (s .args .edges) (o .pairs .p) (l .q) (l .found) (c .before .before .before .before .before .loop-test .taken)
+    ⊎-elim (λ w. sym is ∙ (sym (w .1 .ensures) ∙ w .2 .left))
+    (λ w. sym is ∙ never-meet _ _ _ (sym (c .before .may-meet-in-y .ensures) ∙ w .left)) (c .if2 .came) in
+    inner-next (atSlots (edgesCross (ring-of s)) (s .args .order .now)) (s .args .edges) (o .pairs .p) (l .q) (l .found)
+    (c .before .before .before .before .before .loop-test .taken)
     (l .inv) miss
 
 add-p : tie.Need-add-p Inv-loop μ-loop Inv-pairs μ-pairs
@@ -194,7 +236,8 @@ pairs-again c =
     let s = c .before .before .before .before .before .before .before .before .before .before .before in
     let rest : Clear (atSlots (edgesCross (ring-of s)) (s .args .order .now)) (o .pairs .p) (s .args .edges) =
     ⊎-elim (λ w. λ q a b. l .inv .clear q a (omega (arith, w .left)))
-    (λ w. sweep-stop (λ i. key (lowX (ring-of s) i)) (s .args .edges) (stops (ring-of s)) (edgesCross (ring-of s)) (sweeps o) (s .args .order .now) (s .pre .1 .positions) (s .pre .1 .sorted)
+    (λ w. sweep-stop (λ i. key (lowX (ring-of s) i)) (s .args .edges) (stops (ring-of s)) (edgesCross (ring-of s)) (sweeps o)
+    (s .args .order .now) (s .pre .1 .positions) (s .pre .1 .sorted)
     (o .pairs .p) (l .q) (l .inv .after) (w .0 .taken) (l .inv .clear) (sym (stop-test (c .before) (l .q) (w .0 .taken)) ∙ w .3 .taken))
     (c .loop-test .came) in
     outer-next (atSlots (edgesCross (ring-of s)) (s .args .order .now)) (s .args .edges) (o .pairs .p) (l .q) (o .pairs .found) (l .found)
@@ -204,7 +247,8 @@ returns : tie.Need-returns Inv-loop μ-loop Inv-pairs μ-pairs
 returns c =
     let o = c .before in
     let s = c .before .before .before .before .before in
-    sweep-done (λ i. key (lowX (ring-of s) i)) (s .args .edges) (stops (ring-of s)) (edgesCross (ring-of s)) (sweeps o) (s .args .order .now) (s .pre .1 .positions) (s .pre .1 .sorted)
+    sweep-done (λ i. key (lowX (ring-of s) i)) (s .args .edges) (stops (ring-of s)) (edgesCross (ring-of s)) (sweeps o)
+    (s .args .order .now) (s .pre .1 .positions) (s .pre .1 .sorted)
     (o .pairs .p) (o .pairs .found) (c .pairs-test .left) (o .pairs .inv)
     ∙ sym (crossing-front (s .args .ring .now) (s .args .edges) (s .pre .0 .0))
 
@@ -212,11 +256,14 @@ returns-2 : tie.Need-returns-2 Inv-loop μ-loop Inv-pairs μ-pairs
 returns-2 c =
     let l = c .before .before .before .before .before .before .before .before .loop in
     let o = c .before .before .before .before .before .before .before .before .before .before .before .before .before .before in
-    let s = c .before .before .before .before .before .before .before .before .before .before .before .before .before .before .before .before .before .before in
+    let s = c .before .before .before .before .before .before .before .before .before .before .before .before .before .before .before
+    .before .before .before in
     sym (crossing-front (s .args .ring .now) (s .args .edges) (s .pre .0 .0)
-    ∙ sweep-hit (λ i. key (lowX (ring-of s) i)) (s .args .edges) (stops (ring-of s)) (edgesCross (ring-of s)) (sweeps o) (s .args .order .now) (s .pre .1 .positions) (s .pre .1 .sorted)
+    ∙ sweep-hit (λ i. key (lowX (ring-of s) i)) (s .args .edges) (stops (ring-of s)) (edgesCross (ring-of s)) (sweeps o)
+    (s .args .order .now) (s .pre .1 .positions) (s .pre .1 .sorted)
     (o .pairs .p) (l .q) (l .inv .after) (c .before .before .before .before .before .before .before .loop-test .taken)
-    (sym (verdict (c .before .before .before .before .before .before .before .before) (l .q) (c .before .before .before .before .before .before .before .loop-test .taken)) ∙
+    (sym (verdict (c .before .before .before .before .before .before .before .before) (l .q)
+    (c .before .before .before .before .before .before .before .loop-test .taken)) ∙
     (sym (c .before .edges-cross .ensures) ∙ c .if3 .taken)))
 
 pub sweep-sorted-spec : {M : Type 1} → statement M

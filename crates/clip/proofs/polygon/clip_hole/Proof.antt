@@ -24,14 +24,16 @@ returns : tie.Need-returns
 unfolding cutHole flat
 returns c =
     let a = c .before .before .before .before .before .before .before .before .before .before .before in
-    let e = cut-count (a .args .n) (now (a .args .ring)) _ _ (a .pre) (a .args .bounds) _ _ (c .before .before .before .before .before .clip-ring .ensures) in
+    let e = cut-count (a .args .n) (now (a .args .ring)) _ _ (a .pre) (a .args .bounds) _ _
+    (c .before .before .before .before .before .clip-ring .ensures) in
     let t = lt-ltb (c .before .before .before .before .before .clip-ring .result) 4 (omega (arith, c .if1 .taken)) in
     record { count = rw (← e, t); numbers = rw (← e, t) refl }
 
 close-requires : tie.Need-close-requires
 close-requires c κs =
     let a = c .before .before .before .before .before .before .before .before .before .before .before .before in
-    let f = cut-fits (a .args .n) (now (a .args .ring)) _ _ (a .pre) (a .args .bounds) _ _ (c .before .before .before .before .before .before .clip-ring .ensures) (omega (arith, c .before .if1 .left)) in
+    let f = cut-fits (a .args .n) (now (a .args .ring)) _ _ (a .pre) (a .args .bounds) _ _
+    (c .before .before .before .before .before .before .clip-ring .ensures) (omega (arith, c .before .if1 .left)) in
     omega (arith, a .pre .second)
 
 same-length-3 : tie.Need-same-length-3
@@ -44,8 +46,12 @@ returns-2 : tie.Need-returns-2
 unfolding cutHole
 returns-2 c =
     let a = c .before .before .before .before .before .before .before .before .before .before .before .before .before .before .before in
-    let e = cut-count (a .args .n) (now (a .args .ring)) _ _ (a .pre) (a .args .bounds) _ _ (c .before .before .before .before .before .before .before .before .before .clip-ring .ensures) in
-    rw (← e, le-ltb _ _ (c .before .before .before .before .if1 .left)) (written-stands (closed-written (a .args .n) (now (a .args .ring)) _ _ (a .pre) (a .args .bounds) _ _ (c .before .before .before .before .before .before .before .before .before .clip-ring .ensures) _ _ (c .before .before .close .ensures)))
+    let e = cut-count (a .args .n) (now (a .args .ring)) _ _ (a .pre) (a .args .bounds) _ _
+    (c .before .before .before .before .before .before .before .before .before .clip-ring .ensures) in
+    rw (← e, le-ltb _ _ (c .before .before .before .before .if1 .left))
+    (written-stands (closed-written (a .args .n) (now (a .args .ring)) _ _ (a .pre) (a .args .bounds) _ _
+    (c .before .before .before .before .before .before .before .before .before .clip-ring .ensures) _ _
+    (c .before .before .close .ensures)))
 
 pub clip-hole-spec : {M : Type 1} → statement M
 clip-hole-spec =

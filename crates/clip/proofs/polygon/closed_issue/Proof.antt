@@ -21,7 +21,13 @@ find-issue-requires c κs =
     let p = c .before .before .before .before .before .before .before .before .pre in
     let l = lent-count (a .n) (now (a .ring)) _ _ (p .room) in
     let g = le-B (length (close (coords (take (2 * a .n) (now (a .ring)))))) in
-    record { ring-room = p .room .lent; work-room = omega (arith, p .room .first); order-room = omega (arith, p .positions); small = omega (arith, p .room .few) }
+    record {
+      ring-room = p .room .lent;
+      work-room = omega (arith, p .room .first);
+      order-room = omega (arith, p .positions);
+      small =
+          omega (arith, p .room .few);
+    }
 
 same-length : tie.Need-same-length
 same-length c = search needs
@@ -32,7 +38,9 @@ same-length-2 c = search needs
 returns : tie.Need-returns
 returns c =
     let a = c .before .before .before .before .before .before .before .before .before .before .before .before .before .args in
-    let t = close-closed (coords (take (2 * a .n) (now (a .ring)))) (sym (c .before .before .before .before .before .before .before .before .is-closed .ensures) ∙ c .before .before .before .before .before .before .before .if1 .taken) in
+    let t = close-closed (coords (take (2 * a .n) (now (a .ring))))
+    (sym (c .before .before .before .before .before .before .before .before .is-closed .ensures)
+    ∙ c .before .before .before .before .before .before .before .if1 .taken) in
     c .before .before .before .before .find-issue .ensures .0 ∙ rw t
 
 mul-copy : tie.Need-mul-copy
@@ -52,20 +60,32 @@ close-requires c κs =
     let p = c .before .before .before .before .before .before .before .before .before .before .before .pre in
     let s = now (c .before .before .before .before .before .before .before .before .before .before .before .args .ring) in
     let n = c .before .before .before .before .before .before .before .before .before .before .before .args .n in
-    let m = count-open (coords (take (2 * n) s)) (sym (c .before .before .before .before .before .before .is-closed .ensures) ∙ c .before .before .before .before .before .if1 .left) in
+    let m = count-open (coords (take (2 * n) s)) (sym (c .before .before .before .before .before .before .is-closed .ensures)
+    ∙ c .before .before .before .before .before .if1 .left) in
     let g = le-B (length (close (coords (take (2 * n) s)))) in
     omega (arith, p .room .second, length-front s n (p .room .lent))
 
 find-issue-requires-2 : tie.Need-find-issue-requires-2
 find-issue-requires-2 c κs =
-    let p = c .before .before .before .before .before .before .before .before .before .before .before .before .before .before .before .before .before .pre in
-    let s = now (c .before .before .before .before .before .before .before .before .before .before .before .before .before .before .before .before .before .args .ring) in
-    let n = c .before .before .before .before .before .before .before .before .before .before .before .before .before .before .before .before .before .args .n in
-    let e = copied-front (2 * n) s (now (c .before .before .before .before .before .before .before .before .before .before .before .before .before .before .before .before .before .args .b)) _ (p .room .lent) (c .before .before .before .before .before .before .before .before .before .copy .ensures) in
+    let p = c .before .before .before .before .before .before .before .before .before .before .before .before .before .before .before
+    .before .before .pre in
+    let s = now (c .before .before .before .before .before .before .before .before .before .before .before .before .before .before
+    .before .before .before .args .ring) in
+    let n = c .before .before .before .before .before .before .before .before .before .before .before .before .before .before .before
+    .before .before .args .n in
+    let e = copied-front (2 * n) s (now (c .before .before .before .before .before .before .before .before .before .before .before
+    .before .before .before .before .before .before .args .b)) _ (p .room .lent)
+    (c .before .before .before .before .before .before .before .before .before .copy .ensures) in
     let w = c .before .before .before .before .before .close .ensures in
     let m : c .before .before .before .before .before .close .result ≡ length (close (coords (take (2 * n) s))) = w .count ∙ rw e in
     let g = le-B (length (close (coords (take (2 * n) s)))) in
-    record { ring-room = omega (arith, p .room .second); work-room = omega (arith, p .room .first); order-room = omega (arith, p .positions); small = omega (arith, p .room .few) }
+    record {
+      ring-room = omega (arith, p .room .second);
+      work-room = omega (arith, p .room .first);
+      order-room =
+          omega (arith, p .positions);
+      small = omega (arith, p .room .few);
+    }
 
 same-length-3 : tie.Need-same-length-3
 same-length-3 c = search needs
@@ -78,10 +98,16 @@ same-length-5 c = search needs
 
 returns-2 : tie.Need-returns-2
 returns-2 c =
-    let p = c .before .before .before .before .before .before .before .before .before .before .before .before .before .before .before .before .before .before .before .before .before .before .pre in
-    let s = now (c .before .before .before .before .before .before .before .before .before .before .before .before .before .before .before .before .before .before .before .before .before .before .args .ring) in
-    let n = c .before .before .before .before .before .before .before .before .before .before .before .before .before .before .before .before .before .before .before .before .before .before .args .n in
-    let e = copied-front (2 * n) s (now (c .before .before .before .before .before .before .before .before .before .before .before .before .before .before .before .before .before .before .before .before .before .before .args .b)) _ (p .room .lent) (c .before .before .before .before .before .before .before .before .before .before .before .before .before .before .copy .ensures) in
+    let p = c .before .before .before .before .before .before .before .before .before .before .before .before .before .before .before
+    .before .before .before .before .before .before .before .pre in
+    let s = now (c .before .before .before .before .before .before .before .before .before .before .before .before .before .before
+    .before .before .before .before .before .before .before .before .args .ring) in
+    let n = c .before .before .before .before .before .before .before .before .before .before .before .before .before .before .before
+    .before .before .before .before .before .before .before .args .n in
+    let e = copied-front (2 * n) s (now (c .before .before .before .before .before .before .before .before .before .before .before
+    .before .before .before .before .before .before .before .before .before .before .before .args .b)) _ (p .room .lent)
+    (c .before .before .before .before .before .before .before .before .before .before .before .before .before .before
+    .copy .ensures) in
     let f = written-front (c .before .before .before .before .before .before .before .before .before .before .close .ensures) in
     c .before .before .before .before .find-issue2 .ensures .0 ∙ rw (f, e)
 

@@ -30,7 +30,20 @@ same-length-3 c = search needs
 
 returns-2 : tie.Need-returns-2
 unfolding routeExterior
-returns-2 c = (rw (← c .before .before .before .before .before .before .before .before .before .before .before .before .before .intersects-bounds .ensures, not-false (c .before .before .before .before .before .before .before .before .before .before .before .before .before .intersects-bounds .result) (c .before .before .before .before .before .before .before .before .before .before .before .before .if1 .left), ← c .before .before .before .before .before .before .before .before .closed-issue .ensures, ← c .before .has-issue .ensures, c .if2 .taken), tt)
+returns-2 c = (
+  rw (
+    ← c .before .before .before .before .before .before .before .before .before .before .before .before .before
+        .intersects-bounds .ensures,
+    not-false (c .before .before .before .before .before .before .before .before .before .before .before
+        .before .before .intersects-bounds .result) (c .before .before .before .before .before .before .before .before .before .before
+        .before .before .if1 .left),
+    ← c .before .before .before .before .before .before .before .before .closed-issue .ensures,
+    ←
+        c .before .has-issue .ensures,
+    c .if2 .taken,
+  ),
+  tt,
+)
 
 is-fully-inside-requires : tie.Need-is-fully-inside-requires
 is-fully-inside-requires c κs = search needs
@@ -46,13 +59,40 @@ same-length-6 c = search needs
 
 returns-3 : tie.Need-returns-3
 unfolding routeExterior
-returns-3 c = (rw (← c .before .before .before .before .before .before .before .before .before .before .before .before .before .before .before .intersects-bounds .ensures, not-false (c .before .before .before .before .before .before .before .before .before .before .before .before .before .before .before .intersects-bounds .result) (c .before .before .before .before .before .before .before .before .before .before .before .before .before .before .if1 .left), ← c .before .before .before .before .before .before .before .before .before .before .closed-issue .ensures, ← c .before .before .before .has-issue .ensures, c .before .before .if2 .left, ← c .before .is-fully-inside .ensures, c .if3 .taken), tt)
+returns-3 c = (
+  rw (
+    ← c .before .before .before .before .before .before .before .before .before .before .before .before .before .before
+        .before .intersects-bounds .ensures,
+    not-false
+        (c .before .before .before .before .before .before .before .before .before .before .before .before .before .before .before
+        .intersects-bounds .result) (c .before .before .before .before .before .before .before .before .before .before .before .before
+        .before .before .if1 .left),
+    ← c .before .before .before .before .before .before .before .before .before .before .closed-issue
+        .ensures,
+    ← c .before .before .before .has-issue .ensures,
+    c .before .before .if2 .left,
+    ← c .before .is-fully-inside .ensures,
+    c .if3 .taken,
+  ),
+  tt,
+)
 
 route-cut-requires : tie.Need-route-cut-requires
 route-cut-requires c κs =
-    let p = c .before .before .before .before .before .before .before .before .before .before .before .before .before .before .before .before .before .before .before .before .before .before .before .pre in
+    let p = c .before .before .before .before .before .before .before .before .before .before .before .before .before .before .before
+    .before .before .before .before .before .before .before .before .pre in
     let r = p .room in
-    record { room = record { lent = r .lent; few = r .few; closes = r .closes; first = omega (arith, r .first); second = omega (arith, r .second) }; positions = omega (arith, p .positions) }
+    record {
+      room = record {
+        lent = r .lent;
+        few = r .few;
+        closes = r .closes;
+        first = omega (arith, r .first);
+        second =
+            omega (arith, r .second);
+      };
+      positions = omega (arith, p .positions);
+    }
 
 same-length-7 : tie.Need-same-length-7
 same-length-7 c = search needs
@@ -65,7 +105,28 @@ same-length-9 c = search needs
 
 returns-4 : tie.Need-returns-4
 unfolding routeExterior
-returns-4 c = (rw (← c .before .before .before .before .before .before .before .before .before .before .before .before .before .before .before .before .before .before .before .before .before .before .before .before .before .intersects-bounds .ensures, not-false (c .before .before .before .before .before .before .before .before .before .before .before .before .before .before .before .before .before .before .before .before .before .before .before .before .before .intersects-bounds .result) (c .before .before .before .before .before .before .before .before .before .before .before .before .before .before .before .before .before .before .before .before .before .before .before .before .if1 .left), ← c .before .before .before .before .before .before .before .before .before .before .before .before .before .before .before .before .before .before .before .before .closed-issue .ensures, ← c .before .before .before .before .before .before .before .before .before .before .before .before .before .has-issue .ensures, c .before .before .before .before .before .before .before .before .before .before .before .before .if2 .left, ← c .before .before .before .before .before .before .before .before .before .before .before .is-fully-inside .ensures, c .before .before .before .before .before .before .before .before .before .before .if3 .left) (c .before .before .before .before .before .before .route-cut .ensures .0), c .before .before .before .before .before .before .route-cut .ensures .1)
+returns-4 c = (
+  rw (
+    ← c .before .before .before .before .before .before .before .before .before .before .before .before .before .before
+        .before .before .before .before .before .before .before .before .before .before .before .intersects-bounds .ensures,
+    not-false
+        (c .before .before .before .before .before .before .before .before .before .before .before .before .before .before .before .before
+        .before .before .before .before .before .before .before .before .before .intersects-bounds .result)
+        (c .before .before .before .before .before .before .before .before .before .before .before .before .before .before .before .before
+        .before .before .before .before .before .before .before .before .if1 .left),
+    ←
+        c .before .before .before .before .before .before .before .before .before .before .before .before .before .before .before .before
+        .before .before .before .before .closed-issue .ensures,
+    ←
+        c .before .before .before .before .before .before .before .before .before .before .before .before .before .has-issue .ensures,
+    c .before .before .before .before .before .before .before .before .before .before .before .before .if2 .left,
+    ←
+        c .before .before .before .before .before .before .before .before .before .before .before .is-fully-inside .ensures,
+    c .before .before .before .before .before .before .before .before .before .before .if3 .left,
+  )
+      (c .before .before .before .before .before .before .route-cut .ensures .0),
+  c .before .before .before .before .before .before .route-cut .ensures .1,
+)
 
 pub route-exterior-spec : {M : Type 1} → statement M
 route-exterior-spec =

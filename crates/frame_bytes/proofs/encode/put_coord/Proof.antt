@@ -20,7 +20,8 @@ same-length c = search needs
 returns : tie.Need-returns
 returns c =
     let a = c .before .before .before .before .before .before .before .before .before .args in
-    coord-put (now (a .out)) _ _ (a .at) (a .p) (c .before .before .before .before .before .before .write-f64 .ensures) (c .before .before .write-f642 .ensures)
+    coord-put (now (a .out)) _ _ (a .at) (a .p) (c .before .before .before .before .before .before .write-f64 .ensures)
+    (c .before .before .write-f642 .ensures)
 
 pub put-coord-spec : {M : Type 1} → statement M
 put-coord-spec =

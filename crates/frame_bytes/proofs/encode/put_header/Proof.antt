@@ -21,12 +21,18 @@ put-count-requires-2 c κs =
 same-length : tie.Need-same-length
 same-length c =
     let a = c .before .before .before .before .before .before .before .before .before .args in
-    omega (arith, c .before .before .before .before .before .before .put-count .kept .0, c .before .before .put-count2 .kept .0, length-set (now (a .out)) 0 (a .number))
+    omega (
+      arith,
+      c .before .before .before .before .before .before .put-count .kept .0,
+      c .before .before .put-count2 .kept .0,
+      length-set (now (a .out)) 0 (a .number),
+    )
 
 returns : tie.Need-returns
 returns c =
     let a = c .before .before .before .before .before .before .before .before .before .args in
-    header-put (now (a .out)) _ _ (a .number) (a .guard) (a .parts) (c .before .before .before .before .before .before .put-count .ensures) (c .before .before .put-count2 .ensures)
+    header-put (now (a .out)) _ _ (a .number) (a .guard) (a .parts)
+    (c .before .before .before .before .before .before .put-count .ensures) (c .before .before .put-count2 .ensures)
 
 pub put-header-spec : {M : Type 1} → statement M
 put-header-spec =

@@ -1,4 +1,5 @@
--- `put_ring` meets its contract. The invariant: what is left, written over what stands there, is all coordinates written behind the count. Assumes nothing.
+-- `put_ring` meets its contract. The invariant: what is left, written over what stands there, is all coordinates written behind the count.
+-- Assumes nothing.
 use mathlib.Core.Path.{_≡_, refl, sym, _∙_}
 use Prim.Native.Nat.{_+_, _*_, _-_, _≤_}
 use native.Mathlib.Omega.{arith}
@@ -19,7 +20,9 @@ none : Coord
 none = record { x = nan; y = nan }
 
 abbrev Inv-loop : tie.InvT-loop
-Inv-loop ring n out₀ at first i₀ out i = (i ≤ n) × (length out ≡ length out₀) × (sets out₀ first (each coordBytes (coords (take (2 * n) ring))) ≡ sets out (first + 16 * i) (each coordBytes (drop i (coords (take (2 * n) ring)))))
+Inv-loop ring n out₀ at first i₀ out i =
+    (i ≤ n) × (length out ≡ length out₀) × (sets out₀ first (each coordBytes (coords (take (2 * n) ring))) ≡ sets out (first + 16 * i)
+    (each coordBytes (drop i (coords (take (2 * n) ring)))))
 
 abbrev μ-loop : tie.MeasureT-loop
 μ-loop ring n out₀ at first i₀ out i = n - i
@@ -60,8 +63,15 @@ loop-again c =
     let n = a .args .n in
     let l = c .before .before .before .before .before .before .loop in
     let m = length-front s n (a .pre .0) in
-    let e = l .inv .2 ∙ one-put (l .out) (a .args .at + 2) (l .i) (coords (take (2 * n) s)) none (omega arith) in
-    (search needs, search needs, e ∙ rw (c .before .before .put-coord .ensures, c .before .before .before .before .coord-at .ensures, front-at s n (l .i) none (a .pre .0) (c .before .before .before .before .before .loop-test .taken)))
+    let e = l .inv .2 ∙ one-put (l .out) (a .args .at + 2) (l .i) (coords (take (2 * n) s)) none (omega arith) in (
+      search needs,
+      search needs,
+      e ∙ rw (
+        c .before .before .put-coord .ensures,
+        c .before .before .before .before .coord-at .ensures,
+        front-at s n (l .i) none (a .pre .0) (c .before .before .before .before .before .loop-test .taken),
+      ),
+    )
 
 mul-result : tie.Need-mul-result Inv-loop μ-loop
 mul-result c = search needs
@@ -79,8 +89,11 @@ returns c =
     let n = a .args .n in
     let l = c .before .loop in
     let m = length-front s n (a .pre .0) in
-    let e = l .inv .2 ∙ all-put (l .out) (a .args .at + 2 + 16 * l .i) (l .i) (coords (take (2 * n) s)) (omega arith) in
-    (refl, sym (count-put (now (a .args .out)) (a .args .at) (coords (take (2 * n) s)) ∙ rw (m, ← c .before .before .before .before .put-count .ensures) e))
+    let e = l .inv .2 ∙ all-put (l .out) (a .args .at + 2 + 16 * l .i) (l .i) (coords (take (2 * n) s)) (omega arith) in (
+      refl,
+      sym (count-put (now (a .args .out)) (a .args .at) (coords (take (2 * n) s))
+          ∙ rw (m, ← c .before .before .before .before .put-count .ensures) e),
+    )
 
 pub put-ring-spec : {M : Type 1} → statement M
 put-ring-spec =

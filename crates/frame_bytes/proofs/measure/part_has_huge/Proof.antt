@@ -53,7 +53,8 @@ returns c =
     let a = c .before .before .before .before .before .before .before .args in
     let f = now (a .frame) in
     let l = c .before .before .before .before .loop in
-    let e : anyHuge (coordsOf (countOf (drop (l .next) f)) (drop (l .next + 2) f)) ≡ true = sym (rw (c .before .before .count-at2 .ensures .0) at (c .before .has-huge .ensures)) ∙ c .if1 .taken in
+    let e : anyHuge (coordsOf (countOf (drop (l .next) f)) (drop (l .next + 2) f)) ≡ true =
+    sym (rw (c .before .before .count-at2 .ensures .0) at (c .before .has-huge .ensures)) ∙ c .if1 .taken in
     sym (huge-next f (a .at) (l .next) (l .left) (c .before .before .before .loop-test .taken) (l .inv) .ahead .sum ∙ rw e)
 
 mul-next : tie.Need-mul-next Inv-loop μ-loop
@@ -73,8 +74,10 @@ loop-again c =
     let a = c .before .before .before .before .before .before .before .args in
     let f = now (a .frame) in
     let l = c .before .before .before .before .loop in
-    let e : anyHuge (coordsOf (countOf (drop (l .next) f)) (drop (l .next + 2) f)) ≡ false = sym (rw (c .before .before .count-at2 .ensures .0) at (c .before .has-huge .ensures)) ∙ c .if1 .left in
-    rw (c .before .before .count-at2 .ensures .0) (rw e at (huge-next f (a .at) (l .next) (l .left) (c .before .before .before .loop-test .taken) (l .inv) .ahead))
+    let e : anyHuge (coordsOf (countOf (drop (l .next) f)) (drop (l .next + 2) f)) ≡ false =
+    sym (rw (c .before .before .count-at2 .ensures .0) at (c .before .has-huge .ensures)) ∙ c .if1 .left in
+    rw (c .before .before .count-at2 .ensures .0) (rw e
+    at (huge-next f (a .at) (l .next) (l .left) (c .before .before .before .loop-test .taken) (l .inv) .ahead))
 
 returns-2 : tie.Need-returns-2 Inv-loop μ-loop
 returns-2 c =

@@ -58,7 +58,8 @@ loop-again : tie.Need-loop-again Inv-loop μ-loop
 loop-again c =
     let a = c .before .before .before .before .before .before .args in
     let l = c .before .before .before .loop in
-    rw (c .with-coords .ensures, c .before .count-at2 .ensures .0) (rect-next (now (a .frame)) (a .at) (a .rect) (l .whole) (l .next) (l .left) (c .before .before .loop-test .taken) (l .inv) .ahead)
+    rw (c .with-coords .ensures, c .before .count-at2 .ensures .0) (rect-next (now (a .frame)) (a .at) (a .rect) (l .whole) (l .next)
+    (l .left) (c .before .before .loop-test .taken) (l .inv) .ahead)
 
 returns : tie.Need-returns Inv-loop μ-loop
 returns c =

@@ -1,4 +1,5 @@
--- `whole_rect` meets its contract. The invariant: the rectangle so far, with the parts that are left, is that of the frame. Assumes nothing.
+-- `whole_rect` meets its contract. The invariant: the rectangle so far, with the parts that are left, is that of the frame. Assumes
+-- nothing.
 use native.Mathlib.Omega.{arith}
 use denote.Ref.{now}
 use borrow.Author.Needs.{needs}
@@ -21,8 +22,11 @@ loop-holds c = rw (c .count-at .ensures .0) (parts-start (now (c .before .before
 
 part-rect-requires : tie.Need-part-rect-requires Inv-loop μ-loop
 part-rect-requires c κs =
-    let l = c .before .loop in
-    (l .inv .within, parts-here (now (c .before .before .before .before .args .frame)) (l .rect) (l .at) (l .left) (c .loop-test .taken) (l .inv))
+    let l = c .before .loop in (
+      l .inv .within,
+      parts-here (now (c .before .before .before .before .args .frame)) (l .rect) (l .at) (l .left)
+          (c .loop-test .taken) (l .inv),
+    )
 
 sub-left : tie.Need-sub-left Inv-loop μ-loop
 sub-left c = search needs
@@ -33,7 +37,8 @@ loop-less c = search needs
 loop-again : tie.Need-loop-again Inv-loop μ-loop
 loop-again c =
     let l = c .before .before .loop in
-    parts-next (now (c .before .before .before .before .before .args .frame)) (l .rect) (l .at) (l .left) (c .part-rect .result) (c .before .loop-test .taken) (c .part-rect .ensures) (l .inv)
+    parts-next (now (c .before .before .before .before .before .args .frame)) (l .rect) (l .at) (l .left) (c .part-rect .result)
+    (c .before .loop-test .taken) (c .part-rect .ensures) (l .inv)
 
 returns : tie.Need-returns Inv-loop μ-loop
 returns c =

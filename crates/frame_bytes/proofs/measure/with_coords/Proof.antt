@@ -1,4 +1,5 @@
--- `with_coords` meets its contract: the first coordinate leaves a rectangle of four numbers that are no NaN, or one that is not finite. Assumes nothing.
+-- `with_coords` meets its contract: the first coordinate leaves a rectangle of four numbers that are no NaN, or one that is not finite.
+-- Assumes nothing.
 use mathlib.Core.Path.{sym, _∙_, ap, subst}
 use Prim.Native.Nat.{_+_, _-_}
 use native.Mathlib.Omega.{arith}
@@ -43,27 +44,40 @@ sub-box-with-coords c = search needs
 box-with-coords-requires : tie.Need-box-with-coords-requires
 box-with-coords-requires c κs =
     let a = c .before .before .before .before .before .before .before .args in
-    let p = c .before .before .before .before .coord-at .result in
-    (corners-numbers p _ _ _ _ (subst (Holds p) (sym (c .before .before .before .with-coord .ensures) ∙ c .before .west .given .1) (holds-new p (a .rect))), omega (arith, c .before .before .before .before .before .if1 .left, c .before .before .before .before .before .before .before .pre))
+    let p = c .before .before .before .before .coord-at .result in (
+      corners-numbers p _ _ _ _ (subst (Holds p) (sym (c .before .before .before .with-coord .ensures) ∙ c .before .west .given .1)
+          (holds-new p (a .rect))),
+      omega (
+        arith,
+        c .before .before .before .before .before .if1 .left,
+        c .before .before .before .before .before .before .before .pre,
+      ),
+    )
 
 returns-2 : tie.Need-returns-2
 returns-2 c =
     let p = c .before .before .before .coord-at .result in
-    absurd (subst (Holds p) (sym (c .before .before .with-coord .ensures) ∙ c .enum-told .given .1) (holds-new p (c .before .before .before .before .before .before .args .rect)))
+    absurd (subst (Holds p) (sym (c .before .before .with-coord .ensures) ∙ c .enum-told .given .1)
+    (holds-new p (c .before .before .before .before .before .before .args .rect)))
 
 returns-3 : tie.Need-returns-3
 returns-3 c =
     let a = c .before .before .before .before .before .before .args in
     let rest = coordsOf (a .n - 1) (drop (a .at + 16) (now (a .frame))) in
-    let first = ap (withCoord (a .rect)) (sym (c .before .before .before .coord-at .ensures)) ∙ sym (c .before .before .with-coord .ensures) in
-    sym (rect-first (now (a .frame)) (a .at) (a .n) (a .rect) (omega (arith, c .before .before .before .before .if1 .left)) ∙ ap (λ (r : Rect). withRing r rest) (first ∙ c .enum-told2 .given .1) ∙ stays-ring rest)
+    let first = ap (withCoord (a .rect)) (sym (c .before .before .before .coord-at .ensures))
+    ∙ sym (c .before .before .with-coord .ensures) in
+    sym (rect-first (now (a .frame)) (a .at) (a .n) (a .rect) (omega (arith, c .before .before .before .before .if1 .left))
+    ∙ ap (λ (r : Rect). withRing r rest) (first ∙ c .enum-told2 .given .1) ∙ stays-ring rest)
 
 returns-4 : tie.Need-returns-4
 returns-4 c =
     let a = c .before .before .before .before .before .before .before .before .args in
     let rest = coordsOf (a .n - 1) (drop (a .at + 16) (now (a .frame))) in
-    let first = ap (withCoord (a .rect)) (sym (c .before .before .before .before .before .coord-at .ensures)) ∙ sym (c .before .before .before .before .with-coord .ensures) in
-    sym (rect-first (now (a .frame)) (a .at) (a .n) (a .rect) (omega (arith, c .before .before .before .before .before .before .if1 .left)) ∙ ap (λ (r : Rect). withRing r rest) (first ∙ c .before .before .west .given .1) ∙ sym (c .box-with-coords .ensures))
+    let first = ap (withCoord (a .rect)) (sym (c .before .before .before .before .before .coord-at .ensures))
+    ∙ sym (c .before .before .before .before .with-coord .ensures) in
+    sym (rect-first (now (a .frame)) (a .at) (a .n) (a .rect)
+    (omega (arith, c .before .before .before .before .before .before .if1 .left)) ∙ ap (λ (r : Rect). withRing r rest)
+    (first ∙ c .before .before .west .given .1) ∙ sym (c .box-with-coords .ensures))
 
 pub with-coords-spec : {M : Type 1} → statement M
 with-coords-spec =

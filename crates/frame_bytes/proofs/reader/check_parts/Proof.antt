@@ -22,19 +22,33 @@ returns : tie.Need-returns
 returns c =
     let a = c .before .before .before .before .before .before .args in
     let f = now (a .frame) in
-    rw (parts-ended (length f) (a .parts) (drop headBytes f) (omega arith), ← c .before .before .before .before .pass-parts .ensures, c .before .before .end .given .1, lt-ltb _ _ (c .if1 .taken))
+    rw (
+      parts-ended (length f) (a .parts) (drop headBytes f) (omega arith),
+      ← c .before .before .before .before .pass-parts .ensures,
+      c .before .before .end .given .1,
+      lt-ltb _ _ (c .if1 .taken),
+    )
 
 returns-2 : tie.Need-returns-2
 returns-2 c =
     let a = c .before .before .before .before .before .args in
     let f = now (a .frame) in
-    rw (parts-ended (length f) (a .parts) (drop headBytes f) (omega arith), ← c .before .before .before .pass-parts .ensures, c .before .refusal .given .1)
+    rw (
+      parts-ended (length f) (a .parts) (drop headBytes f) (omega arith),
+      ← c .before .before .before .pass-parts .ensures,
+      c .before .refusal .given .1,
+    )
 
 returns-3 : tie.Need-returns-3
 returns-3 c =
     let a = c .before .before .before .before .before .before .args in
     let f = now (a .frame) in
-    rw (parts-ended (length f) (a .parts) (drop headBytes f) (omega arith), ← c .before .before .before .before .pass-parts .ensures, c .before .before .end .given .1, le-ltb _ _ (c .if1 .left))
+    rw (
+      parts-ended (length f) (a .parts) (drop headBytes f) (omega arith),
+      ← c .before .before .before .before .pass-parts .ensures,
+      c .before .before .end .given .1,
+      le-ltb _ _ (c .if1 .left),
+    )
 
 pub check-parts-spec : {M : Type 1} → statement M
 check-parts-spec =

@@ -40,7 +40,8 @@ returns-2 c =
     let l = drop (a .at) (now (a .frame)) in
     let n = c .before .before .before .count-at .ensures .0 in
     let w : wrongRingCount (countOf l) ≡ false = rw (← n) (sym (c .before .before .is-wrong-ring-count .ensures) ∙ c .before .if2 .left) in
-    rw (part-whole l (omega (arith, length-drop (a .at) (now (a .frame)))) w, drop-drop 2 (a .at) (now (a .frame)), ← n) (c .pass-rings .ensures)
+    rw (part-whole l (omega (arith, length-drop (a .at) (now (a .frame)))) w, drop-drop 2 (a .at) (now (a .frame)), ← n)
+    (c .pass-rings .ensures)
 
 returns-3 : tie.Need-returns-3
 returns-3 c =

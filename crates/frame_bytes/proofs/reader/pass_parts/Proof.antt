@@ -4,14 +4,17 @@ use Prim.Native.Nat.{_≤_}
 use denote.Ref.{now}
 use borrow.Author.Needs.{needs}
 use lib.ListN.{length, drop}
-use Rattle.frame_bytes.specs.Frame.{readMany, readPart, walkOf}
+use Rattle.frame_bytes.specs.Frame.{readMany, readPart}
+use Rattle.frame_bytes.specs.Contracts.{walked}
 use Rattle.frame_bytes.proofs.Readings.{part-reads}
 use Rattle.frame_bytes.proofs.Walks.{many-stops, many-next, many-end}
 use Rattle.frame_bytes.proofs.reader.pass_parts.Statement.{statement}
 use Rattle.frame_bytes.proofs.reader.pass_parts.Tie as tie
 
 abbrev Inv-loop : tie.InvT-loop
-Inv-loop frame start parts at₀ left₀ at left = (at ≤ length frame) × (walkOf (length frame) (readMany readPart parts (drop start frame)) ≡ walkOf (length frame) (readMany readPart left (drop at frame)))
+Inv-loop frame start parts at₀ left₀ at left =
+    (at ≤ length frame) × (walked (length frame) (readMany readPart parts (drop start frame)) ≡ walked (length frame)
+    (readMany readPart left (drop at frame)))
 
 abbrev μ-loop : tie.MeasureT-loop
 μ-loop frame start parts at₀ left₀ at left = left

@@ -5,7 +5,7 @@ use native.Mathlib.Omega.{arith}
 use denote.Ref.{now}
 use lib.ListN.{length, drop, length-drop}
 use borrow.Author.Needs.{needs}
-use Rattle.frame_bytes.specs.declared.reader.Walk.the-variants.{Reaches}
+use Rattle.frame_bytes.specs.declared.reader.FrameWalk.the-variants.{Reaches}
 use Rattle.frame_bytes.specs.Frame.{countOf}
 use Rattle.frame_bytes.proofs.Walks.{ring-without-count, ring-too-long, ring-truncated, ring-whole}
 use Rattle.frame_bytes.proofs.reader.pass_ring.Statement.{statement}

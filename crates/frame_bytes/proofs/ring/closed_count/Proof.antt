@@ -26,7 +26,8 @@ returns-2 : tie.Need-returns-2
 returns-2 c =
     let a = c .before .before .before .args in
     let l = drop (a .at) (now (a .frame)) in
-    sym (count-open (coordsOf (a .n) l) (sym (c .before .is-closed .ensures) ∙ c .if1 .left) ∙ ap (λ (k : ℕ). k + 1) (length-coordsOf (a .n) l))
+    sym (count-open (coordsOf (a .n) l) (sym (c .before .is-closed .ensures) ∙ c .if1 .left)
+    ∙ ap (λ (k : ℕ). k + 1) (length-coordsOf (a .n) l))
 
 pub closed-count-spec : {M : Type 1} → statement M
 closed-count-spec = tie.close (tie.spec is-closed-requires returns add-result returns-2)

@@ -1,4 +1,5 @@
--- `decode_ring` meets its contract. The invariant: what is left, written over what stands there, is the whole written over what stood there. Assumes nothing.
+-- `decode_ring` meets its contract. The invariant: what is left, written over what stands there, is the whole written over what stood
+-- there. Assumes nothing.
 use mathlib.Core.Path.{_≡_, refl, sym, _∙_}
 use Prim.Native.Nat.{_*_, _-_, _≤_}
 use denote.Ref.{now}
@@ -12,7 +13,9 @@ use Rattle.frame_bytes.proofs.ring.decode_ring.Statement.{statement}
 use Rattle.frame_bytes.proofs.ring.decode_ring.Tie as tie
 
 abbrev Inv-loop : tie.InvT-loop
-Inv-loop frame at n ring₀ i₀ ring i = (i ≤ n) × (length ring ≡ length ring₀) × (sets ring₀ 0 (flat (coordsOf n (drop at frame))) ≡ sets ring (2 * i) (flat (left frame at n i)))
+Inv-loop frame at n ring₀ i₀ ring i =
+    (i ≤ n) × (length ring ≡ length ring₀) × (sets ring₀ 0 (flat (coordsOf n (drop at frame))) ≡ sets ring (2 * i)
+    (flat (left frame at n i)))
 
 abbrev μ-loop : tie.MeasureT-loop
 μ-loop frame at n ring₀ i₀ ring i = n - i
@@ -44,7 +47,8 @@ loop-again : tie.Need-loop-again Inv-loop μ-loop
 loop-again c =
     let a = c .before .before .before .before .before .before .before .before .before .args in
     let l = c .before .before .before .before .before .before .loop in
-    let e = l .inv .2 ∙ one-written (now (a .frame)) (a .at) (a .n) (l .ring) (l .i) (c .before .before .before .before .before .loop-test .taken) in
+    let e = l .inv .2 ∙ one-written (now (a .frame)) (a .at) (a .n) (l .ring) (l .i)
+    (c .before .before .before .before .before .loop-test .taken) in
     (search needs, search needs, e ∙ rw (c .before .before .put .ensures, c .before .before .before .before .coord-at .ensures))
 
 mul-result : tie.Need-mul-result Inv-loop μ-loop

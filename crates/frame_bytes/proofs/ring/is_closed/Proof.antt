@@ -34,7 +34,8 @@ equals-requires c κs = search needs
 returns-2 : tie.Need-returns-2
 returns-2 c =
     let a = c .before .before .before .before .before .args in
-    rw (closed-coordsOf (now (a .frame)) (a .at) (a .n) (omega arith)) (c .equals .ensures ∙ ap₂ same (c .before .before .coord-at .ensures) (c .before .coord-at2 .ensures))
+    rw (closed-coordsOf (now (a .frame)) (a .at) (a .n) (omega arith))
+    (c .equals .ensures ∙ ap₂ same (c .before .before .coord-at .ensures) (c .before .coord-at2 .ensures))
 
 pub is-closed-spec : {M : Type 1} → statement M
 is-closed-spec =

@@ -4,7 +4,8 @@ use native.Mathlib.Omega.{arith}
 use denote.Ref.{now}
 use borrow.Author.Tests.{lt-ltb, le-ltb}
 use borrow.Author.Needs.{needs}
-use Rattle.frame_bytes.specs.Frame.{Accepted, readFrame}
+use Rattle.frame_bytes.specs.Contracts.{Accepted}
+use Rattle.frame_bytes.specs.Frame.{readFrame}
 use Rattle.frame_bytes.proofs.Rooms.{call-refused, call-room}
 use Rattle.frame_bytes.proofs.room.check_call.Statement.{statement}
 use Rattle.frame_bytes.proofs.room.check_call.Tie as tie
@@ -24,8 +25,14 @@ frame-room-requires c κs = sym (c .before .before .check-frame .ensures) ∙ c 
 returns : tie.Need-returns
 returns c =
     let a = c .before .before .before .before .before .before .args in
-    let p : Accepted (readFrame (now (a .frame))) = sym (c .before .before .before .before .check-frame .ensures) ∙ c .before .before .enum-told .given .1 in
-    rw (call-room (now (a .frame)) (a .out) p, ← c .before .frame-room .ensures, lt-ltb (a .out) (c .before .frame-room .result) (omega arith))
+    let p : Accepted (readFrame (now (a .frame))) = sym (c .before .before .before .before .check-frame .ensures)
+    ∙ c .before .before .enum-told .given .1 in
+    rw (
+      call-room (now (a .frame)) (a .out) p,
+      ← c .before .frame-room .ensures,
+      lt-ltb (a .out) (c .before .frame-room .result)
+          (omega arith),
+    )
 
 returns-2 : tie.Need-returns-2
 returns-2 c =
@@ -35,8 +42,14 @@ returns-2 c =
 returns-3 : tie.Need-returns-3
 returns-3 c =
     let a = c .before .before .before .before .before .before .args in
-    let p : Accepted (readFrame (now (a .frame))) = sym (c .before .before .before .before .check-frame .ensures) ∙ c .before .before .enum-told .given .1 in
-    rw (call-room (now (a .frame)) (a .out) p, ← c .before .frame-room .ensures, le-ltb (a .out) (c .before .frame-room .result) (omega arith)) (sym p)
+    let p : Accepted (readFrame (now (a .frame))) = sym (c .before .before .before .before .check-frame .ensures)
+    ∙ c .before .before .enum-told .given .1 in
+    rw (
+      call-room (now (a .frame)) (a .out) p,
+      ← c .before .frame-room .ensures,
+      le-ltb (a .out) (c .before .frame-room .result)
+          (omega arith),
+    ) (sym p)
 
 pub check-call-spec : {M : Type 1} → statement M
 check-call-spec =

@@ -4,7 +4,7 @@ use native.Mathlib.Omega.{arith}
 use denote.Ref.{now}
 use lib.ListN.{length, drop}
 use borrow.Author.Needs.{needs}
-use Rattle.rings.specs.Rings.{mostRings}
+use Rattle.rings.specs.LentRings.{mostRings}
 use Rattle.frame_bytes.specs.Frame.{countOf}
 use Rattle.frame_bytes.proofs.PartRings.{part-rings}
 use Rattle.frame_bytes.proofs.Rooms.{part-passed, mostRing, rings-le}
@@ -39,7 +39,12 @@ few-rings c =
     let n = c .before .before .count-at .ensures .0 in
     let f = now (a .args .frame) in
     let p = part-rings f (a .args .at) (a .pre .0) (a .pre .1) in
-    rw (c .before .rings-room .ensures, n) (omega (arith, p .few, rings-le (length f) (countOf (drop (a .args .at) f)) (drop (a .args .at + 2) f) (p .accepted)))
+    rw (c .before .rings-room .ensures, n) (omega (
+      arith,
+      p .few,
+      rings-le (length f) (countOf (drop (a .args .at) f))
+          (drop (a .args .at + 2) f) (p .accepted),
+    ))
 
 mul-t7 : tie.Need-mul-t7
 mul-t7 c = omega (arith, few-rings c)

@@ -25,7 +25,8 @@ closed-count-requires c κs =
 room-for-requires : tie.Need-room-for-requires
 room-for-requires c κs =
     let a = c .before .before .before in
-    rw (c .closed-count .ensures) (closed-few _ _ (rw (c .before .count-at .ensures .0) (ring-few (now (a .args .frame)) (a .args .at) (a .pre .0) (a .pre .1))))
+    rw (c .closed-count .ensures) (closed-few _ _ (rw (c .before .count-at .ensures .0)
+    (ring-few (now (a .args .frame)) (a .args .at) (a .pre .0) (a .pre .1))))
 
 mul-t7 : tie.Need-mul-t7
 mul-t7 c = search needs

@@ -5,16 +5,18 @@ use native.Mathlib.Omega.{arith}
 use denote.Ref.{now}
 use borrow.Author.Needs.{needs}
 use lib.ListN.{length, drop}
-use Rattle.rings.specs.Rings.{total, ringRoom}
+use Rattle.rings.specs.LentRings.{total, ringRoom}
 use Rattle.frame_bytes.specs.Frame.{readMany, readRing}
-use Rattle.frame_bytes.specs.Room.{passedOf}
+use Rattle.frame_bytes.specs.Contracts.{passedOf}
 use Rattle.frame_bytes.proofs.Readings.{ring-reads}
 use Rattle.frame_bytes.proofs.Rooms.{left, Summed, sum-here, sum-step, sum-end, rings-le}
 use Rattle.frame_bytes.proofs.room.rings_room.Statement.{statement}
 use Rattle.frame_bytes.proofs.room.rings_room.Tie as tie
 
 abbrev Inv-loop : tie.InvT-loop
-Inv-loop frame start rings room₀ at₀ left₀ room at left = (left ≤ rings) × Summed readRing ringRoom frame (passedOf (length frame) (total ringRoom) (readMany readRing rings (drop start frame))) room at left
+Inv-loop frame start rings room₀ at₀ left₀ room at left =
+    (left ≤ rings) × Summed readRing ringRoom frame
+    (passedOf (length frame) (total ringRoom) (readMany readRing rings (drop start frame))) room at left
 
 abbrev μ-loop : tie.MeasureT-loop
 μ-loop frame start rings room₀ at₀ left₀ room at left = left
@@ -26,15 +28,19 @@ loop-holds c =
 
 ring-room-requires : tie.Need-ring-room-requires Inv-loop μ-loop
 ring-room-requires c κs =
-    let l = c .before .loop in
-    (l .inv .1 .within, sum-here readRing ringRoom (now (c .before .before .before .args .frame)) (l .at) (l .left) (c .loop-test .taken) (l .inv .1 .accepted))
+    let l = c .before .loop in (
+      l .inv .1 .within,
+      sum-here readRing ringRoom (now (c .before .before .before .args .frame)) (l .at) (l .left)
+          (c .loop-test .taken) (l .inv .1 .accepted),
+    )
 
 add-room : tie.Need-add-room Inv-loop μ-loop
 add-room c =
     let a = c .before .before .before .before .before in
     let f = now (a .args .frame) in
     let l = c .before .before .before .loop in
-    let s = sum-step readRing ringRoom f ring-reads _ (l .room) (l .at) (l .left) (c .before .ring-room .result) (c .before .before .loop-test .taken) (c .before .ring-room .ensures) (l .inv .1) in
+    let s = sum-step readRing ringRoom f ring-reads _ (l .room) (l .at) (l .left) (c .before .ring-room .result)
+    (c .before .before .loop-test .taken) (c .before .ring-room .ensures) (l .inv .1) in
     let e = s .sum in
     omega (arith, rings-le (length f) (a .args .rings) (drop (a .args .start) f) (a .pre .2))
 
@@ -47,13 +53,17 @@ loop-less c = search needs
 loop-again : tie.Need-loop-again Inv-loop μ-loop
 loop-again c =
     let f = now (c .before .before .before .before .before .args .frame) in
-    let l = c .before .before .before .loop in
-    (search needs, sum-step readRing ringRoom f ring-reads _ (l .room) (l .at) (l .left) (c .before .ring-room .result) (c .before .before .loop-test .taken) (c .before .ring-room .ensures) (l .inv .1))
+    let l = c .before .before .before .loop in (
+      search needs,
+      sum-step readRing ringRoom f ring-reads _ (l .room) (l .at) (l .left) (c .before .ring-room .result)
+          (c .before .before .loop-test .taken) (c .before .ring-room .ensures) (l .inv .1),
+    )
 
 returns : tie.Need-returns Inv-loop μ-loop
 returns c =
     let l = c .before .loop in
-    sym (sum-end readRing ringRoom (now (c .before .before .before .args .frame)) _ (l .room) (l .at) (l .left) (c .loop-test .left) (l .inv .1))
+    sym (sum-end readRing ringRoom (now (c .before .before .before .args .frame)) _ (l .room) (l .at) (l .left)
+    (c .loop-test .left) (l .inv .1))
 
 pub rings-room-spec : {M : Type 1} → statement M
 rings-room-spec =

@@ -32,17 +32,25 @@ closed-count-requires c κs =
 returns : tie.Need-returns
 returns c =
     let a = c .before .before .before .before .args in
-    sym (sound-short (now (a .frame)) (a .at) (c .before .before .before .before .pre .1) (c .before .before .before .before .pre .0) (rw (← c .before .before .count-at .ensures .0, ← c .before .closed-count .ensures) (c .if1 .taken)))
+    sym (sound-short (now (a .frame)) (a .at) (c .before .before .before .before .pre .1) (c .before .before .before .before .pre .0)
+    (rw (← c .before .before .count-at .ensures .0, ← c .before .closed-count .ensures) (c .if1 .taken)))
 
 has-repeated-requires : tie.Need-has-repeated-requires
 has-repeated-requires c κs =
-    let a = c .before .before .before .before .args in
-    (rw (c .before .before .count-at .ensures .0) (first-ring (now (a .frame)) (a .at) (c .before .before .before .before .pre .0) (c .before .before .before .before .pre .1) .whole), c .before .closed-count .ensures, omega (arith, c .if1 .left))
+    let a = c .before .before .before .before .args in (
+      rw (c .before .before .count-at .ensures .0) (first-ring (now (a .frame)) (a .at) (c .before .before .before .before .pre .0)
+          (c .before .before .before .before .pre .1) .whole),
+      c .before .closed-count .ensures,
+      omega (arith, c .if1 .left),
+    )
 
 returns-2 : tie.Need-returns-2
 returns-2 c =
     let a = c .before .before .before .before .before .args in
-    sym (sound-long (now (a .frame)) (a .at) (c .before .before .before .before .before .pre .1) (c .before .before .before .before .before .pre .0) (rw (← c .before .before .before .count-at .ensures .0, ← c .before .before .closed-count .ensures) (c .before .if1 .left)) ∙ rw (← c .before .before .before .count-at .ensures .0) (ap not (sym (c .has-repeated .ensures))))
+    sym (sound-long (now (a .frame)) (a .at) (c .before .before .before .before .before .pre .1)
+    (c .before .before .before .before .before .pre .0)
+    (rw (← c .before .before .before .count-at .ensures .0, ← c .before .before .closed-count .ensures) (c .before .if1 .left))
+    ∙ rw (← c .before .before .before .count-at .ensures .0) (ap not (sym (c .has-repeated .ensures))))
 
 pub is-sound-if-simple-spec : {M : Type 1} → statement M
 is-sound-if-simple-spec =

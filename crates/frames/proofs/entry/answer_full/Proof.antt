@@ -4,7 +4,7 @@ use native.Mathlib.Omega.{arith}
 use denote.Ref.{now}
 use borrow.Author.Needs.{needs}
 use Rattle.sutherland_hodgman.proofs.Offered.{B-318}
-use Rattle.frames.specs.Entry.{answerMeasured}
+use Rattle.frames.specs.Contracts.{answerMeasured}
 use Rattle.frames.proofs.Entries.{holds, ready, parts-read, as-answer}
 use Rattle.frames.proofs.entry.answer_full.Statement.{statement}
 use Rattle.frames.proofs.entry.answer_full.Tie as tie
@@ -35,7 +35,10 @@ same-length c = search needs
 returns : tie.Need-returns
 returns c =
     let a = c .before .before .before .before .before .before .before .before .before .before .before .before .before .before .args in
-    as-answer (ap (answerMeasured (a .head) (a .rect) (a .bounds)) (sym (parts-read (now (a .frame)) (a .head) _ (c .before .before .before .before .before .before .before .before .before .before .before .before .before .before .pre .answerable)))) (c .before .before .before .before .before .before .answer-in .ensures)
+    as-answer (ap (answerMeasured (a .head) (a .rect) (a .bounds))
+    (sym (parts-read (now (a .frame)) (a .head) _
+    (c .before .before .before .before .before .before .before .before .before .before .before .before .before .before .pre
+    .answerable)))) (c .before .before .before .before .before .before .answer-in .ensures)
 
 pub answer-full-spec : {M : Type 1} → statement M
 answer-full-spec =

@@ -17,19 +17,26 @@ enum-known-refusal c = search needs
 returns : tie.Need-returns
 returns c =
     let a = c .before .before .before .before .before .before .args in
-    call-refuses (readCall (now (a .frame)) (length (now (a .out)))) _ (now (a .out)) (sym (c .before .before .before .check-call .ensures) ∙ c .before .refusal .given .1)
+    call-refuses (readCall (now (a .frame)) (length (now (a .out)))) _ (now (a .out))
+    (sym (c .before .before .before .check-call .ensures) ∙ c .before .refusal .given .1)
 
 enum-told : tie.Need-enum-told
 enum-told c = search needs
 
 answer-requires : tie.Need-answer-requires
-answer-requires c κs = call-accepts (now (c .before .before .before .before .before .before .args .frame)) (length (now (c .before .before .before .before .before .before .args .out))) (sym (c .before .before .before .check-call .ensures) ∙ c .before .enum-told .given .1)
+answer-requires c κs =
+    call-accepts (now (c .before .before .before .before .before .before .args .frame))
+    (length (now (c .before .before .before .before .before .before .args .out))) (sym (c .before .before .before .check-call .ensures)
+    ∙ c .before .enum-told .given .1)
 
 same-length : tie.Need-same-length
 same-length c = search needs
 
 returns-2 : tie.Need-returns-2
-returns-2 c = call-answers (now (c .before .before .before .before .before .before .before .before .before .args .frame)) (now (c .before .before .before .before .before .before .before .before .before .args .out)) _ _ (sym (c .before .before .before .before .before .before .check-call .ensures) ∙ c .before .before .before .before .enum-told .given .1) (c .before .before .answer .ensures)
+returns-2 c = call-answers (now (c .before .before .before .before .before .before .before .before .before .args .frame))
+    (now (c .before .before .before .before .before .before .before .before .before .args .out)) _ _
+    (sym (c .before .before .before .before .before .before .check-call .ensures)
+    ∙ c .before .before .before .before .enum-told .given .1) (c .before .before .answer .ensures)
 
 pub frame-spec : {M : Type 1} → statement M
 frame-spec =

@@ -15,21 +15,49 @@ returns : tie.Need-returns
 returns c = rw (← c .before .is-fully-inside .ensures, not-true (c .before .is-fully-inside .result) (c .if1 .taken))
 
 returns-2 : tie.Need-returns-2
-returns-2 c = rw (← c .before .before .before .is-fully-inside .ensures, not-false (c .before .before .before .is-fully-inside .result) (c .before .before .if1 .left), eq-eqb _ _ (c .if2 .taken))
+returns-2 c =
+    rw (
+      ← c .before .before .before .is-fully-inside .ensures,
+      not-false (c .before .before .before .is-fully-inside .result)
+          (c .before .before .if1 .left),
+      eq-eqb _ _ (c .if2 .taken),
+    )
 
 is-sound-if-simple-requires : tie.Need-is-sound-if-simple-requires
 is-sound-if-simple-requires c κs =
-    let a = c .before .before .before .before .before .before .args in
-    (frame-head (now (a .frame)) (c .before .before .before .before .before .before .pre .0), only-accepted (now (a .frame)) (c .before .before .before .before .before .before .pre .0) (polygon-else (now (a .frame)) (a .head) (c .before .before .before .before .before .before .pre .0) (c .before .before .before .before .before .before .pre .1) (c .before .if2 .left)))
+    let a = c .before .before .before .before .before .before .args in (
+      frame-head (now (a .frame)) (c .before .before .before .before .before .before .pre .0),
+      only-accepted (now (a .frame))
+          (c .before .before .before .before .before .before .pre .0)
+          (polygon-else (now (a .frame)) (a .head) (c .before .before .before .before .before .before .pre .0)
+          (c .before .before .before .before .before .before .pre .1) (c .before .if2 .left)),
+    )
 
 returns-3 : tie.Need-returns-3
 returns-3 c =
     let a = c .before .before .before .before .before .before .before .args in
-    let k = polygon-else (now (a .frame)) (a .head) (c .before .before .before .before .before .before .before .pre .0) (c .before .before .before .before .before .before .before .pre .1) (c .before .before .if2 .left) in
-    rw (← c .before .before .before .before .before .is-fully-inside .ensures, not-false (c .before .before .before .before .before .is-fully-inside .result) (c .before .before .before .before .if1 .left), ne-eqb _ _ (c .before .before .if2 .left), c .before .if3 .taken) (c .is-sound-if-simple .ensures ∙ only-sound (now (a .frame)) (c .before .before .before .before .before .before .before .pre .0) k)
+    let k = polygon-else (now (a .frame)) (a .head) (c .before .before .before .before .before .before .before .pre .0)
+    (c .before .before .before .before .before .before .before .pre .1) (c .before .before .if2 .left) in
+    rw (
+      ← c .before .before .before .before .before .is-fully-inside .ensures,
+      not-false
+          (c .before .before .before .before .before .is-fully-inside .result) (c .before .before .before .before .if1 .left),
+      ne-eqb _ _
+          (c .before .before .if2 .left),
+      c .before .if3 .taken,
+    ) (c .is-sound-if-simple .ensures
+    ∙ only-sound (now (a .frame)) (c .before .before .before .before .before .before .before .pre .0) k)
 
 returns-4 : tie.Need-returns-4
-returns-4 c = rw (← c .before .before .before .before .is-fully-inside .ensures, not-false (c .before .before .before .before .is-fully-inside .result) (c .before .before .before .if1 .left), ne-eqb _ _ (c .before .if2 .left), c .if3 .left)
+returns-4 c =
+    rw (
+      ← c .before .before .before .before .is-fully-inside .ensures,
+      not-false
+          (c .before .before .before .before .is-fully-inside .result) (c .before .before .before .if1 .left),
+      ne-eqb _ _
+          (c .before .if2 .left),
+      c .if3 .left,
+    )
 
 pub is-unchanged-at-once-spec : {M : Type 1} → statement M
 is-unchanged-at-once-spec =

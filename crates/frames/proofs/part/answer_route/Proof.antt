@@ -2,7 +2,7 @@
 use mathlib.Core.Path.{ap}
 use denote.Ref.{now}
 use borrow.Author.Needs.{needs}
-use Rattle.frame_bytes.specs.Frame.{partAt}
+use Rattle.frame_bytes.specs.Contracts.{partAt}
 use Rattle.frames.specs.declared.part.PartAnswer.the-variants.{Listed}
 use Rattle.frames.proofs.CutParts.{overlay-room}
 use Rattle.frames.proofs.part.answer_route.Statement.{statement}
@@ -42,7 +42,10 @@ same-length : tie.Need-same-length
 same-length c = search needs
 
 returns-3 : tie.Need-returns-3
-returns-3 c = (rw (c .before .before .before .before .before .route .given .1) (c .before .before .overlay-or-dropped .ensures .0), rw (c .before .before .before .before .before .route .given .1) (c .before .before .overlay-or-dropped .ensures .1))
+returns-3 c = (
+  rw (c .before .before .before .before .before .route .given .1) (c .before .before .overlay-or-dropped .ensures .0),
+  rw (c .before .before .before .before .before .route .given .1) (c .before .before .overlay-or-dropped .ensures .1),
+)
 
 same-length-2 : tie.Need-same-length-2
 same-length-2 c = search needs
@@ -57,7 +60,12 @@ same-length-5 : tie.Need-same-length-5
 same-length-5 c = search needs
 
 returns-4 : tie.Need-returns-4
-returns-4 c = (rw (c .before .before .before .before .before .before .before .before .before .before .before .before .before .before .route2 .given .1) (ap Listed (c .before .before .before .before .before .before .before .before .put-cut .ensures .0)), rw (c .before .before .before .before .before .before .before .before .before .before .before .before .before .before .route2 .given .1) (c .before .before .before .before .before .before .before .before .put-cut .ensures .1))
+returns-4 c = (
+  rw (c .before .before .before .before .before .before .before .before .before .before .before .before .before .before
+      .route2 .given .1) (ap Listed (c .before .before .before .before .before .before .before .before .put-cut .ensures .0)),
+  rw (c .before .before .before .before .before .before .before .before .before .before .before .before .before .before .route2 .given
+      .1) (c .before .before .before .before .before .before .before .before .put-cut .ensures .1),
+)
 
 pub answer-route-spec : {M : Type 1} → statement M
 answer-route-spec =

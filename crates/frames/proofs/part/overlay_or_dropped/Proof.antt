@@ -8,7 +8,8 @@ use lib.ListN.{drop}
 use borrow.Author.Needs.{needs}
 use Rattle.rings.specs.Representable.{anyHugeRing}
 use Rattle.clip.specs.Polygon.{overlayOrDropped}
-use Rattle.frame_bytes.specs.Frame.{readPart, partAt}
+use Rattle.frame_bytes.specs.Frame.{readPart}
+use Rattle.frame_bytes.specs.Contracts.{partAt}
 use Rattle.frames.specs.declared.part.PartAnswer.the-variants.{Listed}
 use Rattle.frames.proofs.CutParts.{huge-in, overlay-bytes, overlay-length}
 use Rattle.frames.proofs.part.overlay_or_dropped.Statement.{statement}
@@ -21,7 +22,8 @@ returns : tie.Need-returns
 unfolding overlayOrDropped
 returns c =
     let a = c .before .before .before .before .args in
-    let e : anyHugeRing (partAt (now (a .frame)) (a .at)) ≡ true = sym (c .before .part-has-huge .ensures ∙ huge-in (readPart (drop (a .at) (now (a .frame))))) ∙ c .if1 .taken in
+    let e : anyHugeRing (partAt (now (a .frame)) (a .at)) ≡ true =
+    sym (c .before .part-has-huge .ensures ∙ huge-in (readPart (drop (a .at) (now (a .frame))))) ∙ c .if1 .taken in
     (rw e, rw e)
 
 reason-number-requires : tie.Need-reason-number-requires
@@ -40,8 +42,13 @@ returns-2 : tie.Need-returns-2
 unfolding overlayOrDropped
 returns-2 c =
     let a = c .before .before .before .before .before .before .before .before .before .args in
-    let e : anyHugeRing (partAt (now (a .frame)) (a .at)) ≡ false = sym (c .before .before .before .before .before .before .part-has-huge .ensures ∙ huge-in (readPart (drop (a .at) (now (a .frame))))) ∙ c .before .before .before .before .before .if1 .left in
-    (rw e (ap (λ (k : ℕ). Listed (a .to + k)) (sym (overlay-length (a .index) (a .reason)))), rw (e, overlay-bytes (a .index) (a .reason), ← c .before .before .before .reason-number .ensures) (c .before .before .put-part .ensures))
+    let e : anyHugeRing (partAt (now (a .frame)) (a .at)) ≡ false =
+    sym (c .before .before .before .before .before .before .part-has-huge .ensures
+    ∙ huge-in (readPart (drop (a .at) (now (a .frame))))) ∙ c .before .before .before .before .before .if1 .left in (
+      rw e (ap (λ (k : ℕ). Listed (a .to + k)) (sym (overlay-length (a .index) (a .reason)))),
+      rw (e, overlay-bytes (a .index) (a .reason), ← c .before .before .before .reason-number .ensures)
+          (c .before .before .put-part .ensures),
+    )
 
 pub overlay-or-dropped-spec : {M : Type 1} → statement M
 overlay-or-dropped-spec =

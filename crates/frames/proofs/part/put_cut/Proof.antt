@@ -5,22 +5,34 @@ use native.Mathlib.Omega.{arith}
 use denote.Ref.{now}
 use borrow.Author.Needs.{needs}
 use Rattle.clip.specs.Polygon.{unlessNone, cutExterior, cutHoles, cutRings}
-use Rattle.frame_bytes.specs.Frame.{partAt}
+use Rattle.frame_bytes.specs.Contracts.{partAt}
 use Rattle.frame_bytes.proofs.PartRings.{part-rings, first-ring, exteriorAt, holesAt}
-use Rattle.frames.specs.Part.{PutRings}
+use Rattle.frames.specs.Contracts.{PutRings}
 use Rattle.frames.proofs.Cutting.{same-room}
 use Rattle.frames.proofs.CutParts.{exterior-put, exterior-ring, holes-room, holes-few, all-put, part-length, part-written}
 use Rattle.frames.proofs.part.put_cut.Statement.{statement}
 use Rattle.frames.proofs.part.put_cut.Tie as tie
 
 count-at-requires : tie.Need-count-at-requires
-count-at-requires c κs = part-rings (now (c .before .before .before .before .before .args .frame)) (c .before .before .before .before .before .args .at) (c .before .before .before .before .before .pre .within) (c .before .before .before .before .before .pre .accepted) .whole
+count-at-requires c κs =
+    part-rings (now (c .before .before .before .before .before .args .frame)) (c .before .before .before .before .before .args .at)
+    (c .before .before .before .before .before .pre .within) (c .before .before .before .before .before .pre .accepted) .whole
 
 add-count-at : tie.Need-add-count-at
-add-count-at c = omega (arith, first-ring (now (c .before .before .before .before .before .before .args .frame)) (c .before .before .before .before .before .before .args .at) (c .before .before .before .before .before .before .pre .within) (c .before .before .before .before .before .before .pre .accepted) .whole)
+add-count-at c = omega (
+  arith,
+  first-ring (now (c .before .before .before .before .before .before .args .frame))
+      (c .before .before .before .before .before .before .args .at) (c .before .before .before .before .before .before .pre .within)
+      (c .before .before .before .before .before .before .pre .accepted) .whole,
+)
 
 count-at-requires-2 : tie.Need-count-at-requires-2
-count-at-requires-2 c κs = omega (arith, first-ring (now (c .before .before .before .before .before .before .args .frame)) (c .before .before .before .before .before .before .args .at) (c .before .before .before .before .before .before .pre .within) (c .before .before .before .before .before .before .pre .accepted) .whole)
+count-at-requires-2 c κs = omega (
+  arith,
+  first-ring (now (c .before .before .before .before .before .before .args .frame))
+      (c .before .before .before .before .before .before .args .at) (c .before .before .before .before .before .before .pre .within)
+      (c .before .before .before .before .before .before .pre .accepted) .whole,
+)
 
 add-holes : tie.Need-add-holes
 add-holes c = search needs
@@ -31,7 +43,8 @@ add-holes-2 c = search needs
 put-cut-ring-requires : tie.Need-put-cut-ring-requires
 put-cut-ring-requires c κs =
     let a = c .before .before .before .before .before .before .before .before .before .args in
-    let e = exterior-put (a .bounds) (now (a .frame)) (a .at) _ _ _ _ _ _ (c .before .before .before .before .before .before .before .before .before .pre) in
+    let e = exterior-put (a .bounds) (now (a .frame)) (a .at) _ _ _ _ _ _
+    (c .before .before .before .before .before .before .before .before .before .pre) in
     (e .0, omega (arith, e .1), omega arith)
 
 add-holes-3 : tie.Need-add-holes-3
@@ -47,29 +60,69 @@ add-holes-5 : tie.Need-add-holes-5
 add-holes-5 c = search needs
 
 sub-put-holes : tie.Need-sub-put-holes
-sub-put-holes c = omega (arith, part-rings (now (c .before .before .before .before .before .before .before .before .before .before .before .before .args .frame)) (c .before .before .before .before .before .before .before .before .before .before .before .before .args .at) (c .before .before .before .before .before .before .before .before .before .before .before .before .pre .within) (c .before .before .before .before .before .before .before .before .before .before .before .before .pre .accepted) .some, c .before .before .before .before .before .before .count-at .ensures .0)
+sub-put-holes c = omega (
+  arith,
+  part-rings (now (c .before .before .before .before .before .before .before .before .before .before
+      .before .before .args .frame)) (c .before .before .before .before .before .before .before .before .before .before .before .before
+      .args .at) (c .before .before .before .before .before .before .before .before .before .before .before .before .pre .within)
+      (c .before .before .before .before .before .before .before .before .before .before .before .before .pre .accepted) .some,
+  c .before .before .before .before .before .before .count-at .ensures .0,
+)
 
 put-holes-requires : tie.Need-put-holes-requires
 put-holes-requires c κs =
-    let a = c .before .before .before .before .before .before .before .before .before .before .before .before .before .before .before .before .args in
+    let a = c .before .before .before .before .before .before .before .before .before .before .before .before .before .before .before
+    .before .args in
     let f = now (a .frame) in
-    let p = c .before .before .before .before .before .before .before .before .before .before .before .before .before .before .before .before .pre in
-    let put : PutRings (unlessNone (cutExterior (a .bounds) (exteriorAt f (a .at))) []) _ _ _ _ = rw (exterior-ring (a .bounds) f (a .at) _ _ _ _ _ _ p) at (c .before .before .before .before .before .before .put-cut-ring .ensures) in
+    let p = c .before .before .before .before .before .before .before .before .before .before .before .before .before .before .before
+    .before .pre in
+    let put : PutRings (unlessNone (cutExterior (a .bounds) (exteriorAt f (a .at))) []) _ _ _ _ =
+    rw (exterior-ring (a .bounds) f (a .at) _ _ _ _ _ _ p)
+    at (c .before .before .before .before .before .before .put-cut-ring .ensures) in
     let r = holes-room (a .bounds) f (a .at) _ _ _ _ _ (a .to) p _ _ _ _ put (omega arith) refl in
-    rw (c .before .before .before .before .before .before .before .before .before .count-at2 .ensures .0, c .before .before .before .before .before .before .before .before .before .before .count-at .ensures .0) (same-room _ _ _ _ _ _ _ _ _ _ _ _ refl refl refl (c .before .before .before .before .before .before .put-cut-ring .kept .1 .1 .0) r, holes-few (a .bounds) f (a .at) _ _ _ _ _ (a .to) p _ _ _ _ put (omega arith) refl)
+    rw (
+      c .before .before .before .before .before .before .before .before .before .count-at2 .ensures .0,
+      c .before .before .before .before .before .before .before .before .before .before .count-at .ensures .0,
+    ) (
+      same-room _ _ _ _ _ _ _ _ _ _ _ _ refl refl refl
+          (c .before .before .before .before .before .before .put-cut-ring .kept .1 .1 .0) r,
+      holes-few (a .bounds) f (a .at) _ _ _ _ _
+          (a .to) p _ _ _ _ put (omega arith) refl,
+    )
 
 put-part-requires : tie.Need-put-part-requires
 put-part-requires c κs =
-    let a = c .before .before .before .before .before .before .before .before .before .before .before .before .before .before .before .before .before .before .before .before .before .before .before .before .before .before .args in
-    omega (arith, exterior-put (a .bounds) (now (a .frame)) (a .at) _ _ _ _ _ _ (c .before .before .before .before .before .before .before .before .before .before .before .before .before .before .before .before .before .before .before .before .before .before .before .before .before .before .pre) .1, c .before .before .before .before .before .before .before .before .before .put-holes .kept .1 .1 .1 .1 .1 .1 .1 .0, c .before .before .before .before .before .before .before .before .before .before .before .before .before .before .before .before .put-cut-ring .kept .1 .1 .0)
+    let a = c .before .before .before .before .before .before .before .before .before .before .before .before .before .before .before
+    .before .before .before .before .before .before .before .before .before .before .before .args in
+    omega (
+      arith,
+      exterior-put (a .bounds) (now (a .frame)) (a .at) _ _ _ _ _ _
+          (c .before .before .before .before .before .before .before .before .before .before .before .before .before .before .before
+          .before .before .before .before .before .before .before .before .before .before .before .pre) .1,
+      c .before .before .before .before .before .before .before .before .before .put-holes .kept .1 .1 .1 .1 .1 .1 .1 .0,
+      c .before .before .before .before .before .before .before .before .before .before .before .before .before .before .before
+          .before .put-cut-ring .kept .1 .1 .0,
+    )
 
 add-put-count : tie.Need-add-put-count
 add-put-count c = search needs
 
 put-count-requires : tie.Need-put-count-requires
 put-count-requires c κs =
-    let a = c .before .before .before .before .before .before .before .before .before .before .before .before .before .before .before .before .before .before .before .before .before .before .before .before .before .before .before .before .before .before .args in
-    omega (arith, exterior-put (a .bounds) (now (a .frame)) (a .at) _ _ _ _ _ _ (c .before .before .before .before .before .before .before .before .before .before .before .before .before .before .before .before .before .before .before .before .before .before .before .before .before .before .before .before .before .before .pre) .1, c .before .before .before .put-part .kept .0, c .before .before .before .before .before .before .before .before .before .before .before .before .before .put-holes .kept .1 .1 .1 .1 .1 .1 .1 .0, c .before .before .before .before .before .before .before .before .before .before .before .before .before .before .before .before .before .before .before .before .put-cut-ring .kept .1 .1 .0)
+    let a = c .before .before .before .before .before .before .before .before .before .before .before .before .before .before .before
+    .before .before .before .before .before .before .before .before .before .before .before .before .before .before .before .args in
+    omega (
+      arith,
+      exterior-put (a .bounds) (now (a .frame)) (a .at) _ _ _ _ _ _
+          (c .before .before .before .before .before .before .before .before .before .before .before .before .before .before .before
+          .before .before .before .before .before .before .before .before .before .before .before .before .before .before .before .pre)
+          .1,
+      c .before .before .before .put-part .kept .0,
+      c .before .before .before .before .before .before .before .before .before .before .before .before .before .put-holes .kept .1 .1
+          .1 .1 .1 .1 .1 .0,
+      c .before .before .before .before .before .before .before .before .before .before .before .before .before
+          .before .before .before .before .before .before .before .put-cut-ring .kept .1 .1 .0,
+    )
 
 same-length : tie.Need-same-length
 same-length c = search needs
@@ -85,13 +138,32 @@ same-length-4 c = search needs
 
 returns : tie.Need-returns
 returns c =
-    let a = c .before .before .before .before .before .before .before .before .before .before .before .before .before .before .before .before .before .before .before .before .before .before .before .before .before .before .before .before .before .before .before .before .before .args in
+    let a = c .before .before .before .before .before .before .before .before .before .before .before .before .before .before .before
+    .before .before .before .before .before .before .before .before .before .before .before .before .before .before .before .before
+    .before .before .args in
     let f = now (a .frame) in
-    let p = c .before .before .before .before .before .before .before .before .before .before .before .before .before .before .before .before .before .before .before .before .before .before .before .before .before .before .before .before .before .before .before .before .before .pre in
-    let put : PutRings (unlessNone (cutExterior (a .bounds) (exteriorAt f (a .at))) []) _ _ _ _ = rw (exterior-ring (a .bounds) f (a .at) _ _ _ _ _ _ p) at (c .before .before .before .before .before .before .before .before .before .before .before .before .before .before .before .before .before .before .before .before .before .before .before .put-cut-ring .ensures) in
-    let holes : PutRings (cutHoles (a .bounds) (holesAt f (a .at))) _ _ _ _ = rw (c .before .before .before .before .before .before .before .before .before .before .before .before .before .before .before .before .before .before .before .before .before .before .before .before .before .before .count-at2 .ensures .0, c .before .before .before .before .before .before .before .before .before .before .before .before .before .before .before .before .before .before .before .before .before .before .before .before .before .before .before .count-at .ensures .0) at (c .before .before .before .before .before .before .before .before .before .before .before .before .before .before .before .before .put-holes .ensures) in
-    let all = all-put (a .bounds) f (a .at) _ _ _ _ _ (a .to) p _ _ _ _ put (omega arith) refl _ _ holes in
-    (part-length (a .index) (cutRings (a .bounds) (partAt f (a .at))) (a .to) _ _ _ _ all (omega arith), part-written (a .index) (cutRings (a .bounds) (partAt f (a .at))) (a .to) _ _ _ _ _ _ all (omega arith) refl (c .before .before .before .before .before .before .put-part .ensures) (c .before .before .put-count .ensures))
+    let p = c .before .before .before .before .before .before .before .before .before .before .before .before .before .before .before
+    .before .before .before .before .before .before .before .before .before .before .before .before .before .before .before .before
+    .before .before .pre in
+    let put : PutRings (unlessNone (cutExterior (a .bounds) (exteriorAt f (a .at))) []) _ _ _ _ =
+    rw (exterior-ring (a .bounds) f (a .at) _ _ _ _ _ _ p)
+    at (c .before .before .before .before .before .before .before .before .before .before .before .before .before .before .before
+    .before .before .before .before .before .before .before .before .put-cut-ring .ensures) in
+    let holes : PutRings (cutHoles (a .bounds) (holesAt f (a .at))) _ _ _ _ =
+    rw (
+      c .before .before .before .before .before .before .before .before .before .before .before .before .before .before .before
+          .before .before .before .before .before .before .before .before .before .before .before .count-at2 .ensures .0,
+      c .before .before .before .before .before .before .before .before .before .before .before .before .before .before .before
+          .before .before .before .before .before .before .before .before .before .before .before .before .count-at .ensures .0,
+    )
+    at (c .before .before .before .before .before .before .before .before .before .before .before .before .before .before .before
+    .before .put-holes .ensures) in
+    let all = all-put (a .bounds) f (a .at) _ _ _ _ _ (a .to) p _ _ _ _ put (omega arith) refl _ _ holes in (
+      part-length (a .index) (cutRings (a .bounds) (partAt f (a .at))) (a .to) _ _ _ _ all (omega arith),
+      part-written (a .index)
+          (cutRings (a .bounds) (partAt f (a .at))) (a .to) _ _ _ _ _ _ all (omega arith) refl
+          (c .before .before .before .before .before .before .put-part .ensures) (c .before .before .put-count .ensures),
+    )
 
 pub put-cut-spec : {M : Type 1} → statement M
 put-cut-spec =

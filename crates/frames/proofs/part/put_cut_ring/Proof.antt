@@ -14,7 +14,13 @@ use Rattle.frames.proofs.part.put_cut_ring.Tie as tie
 returns : tie.Need-returns
 returns c =
     let e = c .if1 .taken in
-    none-rings (c .before .before .before .args .at) (now (c .before .before .before .args .out)) (coords (take (2 * c .before .before .before .args .n) (now (c .before .before .before .args .ring)))) (omega (arith, length-front (now (c .before .before .before .args .ring)) (c .before .before .before .args .n) (c .before .before .before .pre .0)))
+    none-rings (c .before .before .before .args .at) (now (c .before .before .before .args .out))
+    (coords (take (2 * c .before .before .before .args .n) (now (c .before .before .before .args .ring))))
+    (omega (
+      arith,
+      length-front (now (c .before .before .before .args .ring)) (c .before .before .before .args .n)
+          (c .before .before .before .pre .0),
+    ))
 
 put-ring-requires : tie.Need-put-ring-requires
 put-ring-requires c κs = (c .before .before .before .before .pre .0, c .before .before .before .before .pre .1)
@@ -30,7 +36,8 @@ returns-2 c =
     let a = c .before .before .before .before .before .before .before .before .args in
     let m = length-front (now (a .ring)) (a .n) (c .before .before .before .before .before .before .before .before .pre .0) in
     let w = c .before .before .before .put-ring .ensures in
-    one-ring (a .at) (now (a .out)) _ _ (coords (take (2 * a .n) (now (a .ring)))) (omega (arith, c .before .before .before .before .before .if1 .left)) (w .1) (w .0 ∙ rw m)
+    one-ring (a .at) (now (a .out)) _ _ (coords (take (2 * a .n) (now (a .ring))))
+    (omega (arith, c .before .before .before .before .before .if1 .left)) (w .1) (w .0 ∙ rw m)
 
 pub put-cut-ring-spec : {M : Type 1} → statement M
 put-cut-ring-spec = tie.close (tie.spec returns put-ring-requires add-t9 same-length returns-2)

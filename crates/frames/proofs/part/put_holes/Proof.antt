@@ -1,4 +1,5 @@
--- `put_holes` meets its contract. The invariant: the holes that are left are there and have room, and what is written with what is left to write is all that was to be written. Assumes nothing.
+-- `put_holes` meets its contract. The invariant: the holes that are left are there and have room, and what is written with what is left to
+-- write is all that was to be written. Assumes nothing.
 use mathlib.Core.Path.{_≡_, refl, _∙_}
 use mathlib.Core.List.{[]}
 use Prim.Native.Nat.{_+_, _*_, _≤_}
@@ -6,12 +7,15 @@ use native.Mathlib.Omega.{arith}
 use denote.Ref.{now}
 use lib.ListN.{length, drop}
 use borrow.Author.Needs.{needs}
-use Rattle.tile.specs.Ring.{close, Stands}
-use Rattle.rings.specs.Rings.{mostRings}
+use Rattle.tile.specs.Ring.{close}
+use Rattle.tile.specs.Contracts.{Stands}
+use Rattle.rings.specs.LentRings.{mostRings}
 use Rattle.clip.specs.Polygon.{cutHole, unlessNone, cutHoles}
-use Rattle.frame_bytes.specs.Frame.{countOf, coordsOf, ringsFrom}
-use Rattle.frames.specs.Part.{PutRings, RingsRoom}
-use Rattle.frames.proofs.Cutting.{ring-read-in, Ahead, ahead-start, ahead-then, ahead-hole, ahead-none, hole-whole, hole-room, cut-room, cut-ring, next-room, holes-end, same-room, unless-count}
+use Rattle.frame_bytes.specs.Frame.{countOf, coordsOf}
+use Rattle.frame_bytes.specs.Contracts.{ringsFrom}
+use Rattle.frames.specs.Contracts.{PutRings, RingsRoom}
+use Rattle.frames.proofs.Cutting.{ring-read-in, Ahead, ahead-start, ahead-then, ahead-hole, ahead-none, hole-whole, hole-room}
+use Rattle.frames.proofs.Cutting.{cut-room, cut-ring, next-room, holes-end, same-room, unless-count}
 use Rattle.frames.proofs.part.put_holes.Statement.{statement}
 use Rattle.frames.proofs.part.put_holes.Tie as tie
 
@@ -28,13 +32,25 @@ abbrev μ-loop : tie.MeasureT-loop
 loop-holds : tie.Need-loop-holds Inv-loop μ-loop
 loop-holds c =
     let a = c .before .before .before .before .before .args in
-    let p = c .before .before .before .before .before .pre in
-    (p .0, p .1, ahead-start (cutHoles (a .bounds) (ringsFrom (now (a .frame)) (a .start) (a .holes))) (a .exterior) (now (a .out)), refl, refl, refl, refl)
+    let p = c .before .before .before .before .before .pre in (
+      p .0,
+      p .1,
+      ahead-start (cutHoles (a .bounds) (ringsFrom (now (a .frame)) (a .start) (a .holes))) (a .exterior) (now (a .out)),
+      refl,
+      refl,
+      refl,
+      refl,
+    )
 
 count-at-requires : tie.Need-count-at-requires Inv-loop μ-loop
 count-at-requires c κs =
     let l = c .before .loop in
-    omega (arith, hole-whole (c .before .before .before .before .before .before .before .args .bounds) (now (c .before .before .before .before .before .before .before .args .frame)) (l .at) (l .left) _ _ _ _ _ (c .loop-test .taken) (l .inv .0))
+    omega (
+      arith,
+      hole-whole (c .before .before .before .before .before .before .before .args .bounds)
+          (now (c .before .before .before .before .before .before .before .args .frame)) (l .at) (l .left) _ _ _ _ _
+          (c .loop-test .taken) (l .inv .0),
+    )
 
 add-decode-ring : tie.Need-add-decode-ring Inv-loop μ-loop
 add-decode-ring c = search needs
@@ -44,27 +60,49 @@ decode-ring-requires c κs =
     let l = c .before .before .before .loop in
     let f = now (c .before .before .before .before .before .before .before .before .before .args .frame) in
     let n = c .before .count-at .ensures .0 in
-    let w = hole-whole (c .before .before .before .before .before .before .before .before .before .args .bounds) f (l .at) (l .left) _ _ _ _ _ (c .before .before .loop-test .taken) (l .inv .0) in
-    let r = hole-room (c .before .before .before .before .before .before .before .before .before .args .bounds) f (l .at) (l .left) _ _ _ _ _ (c .before .before .loop-test .taken) (l .inv .0) (l .ring) refl in
+    let w = hole-whole (c .before .before .before .before .before .before .before .before .before .args .bounds) f (l .at) (l .left) _ _
+    _ _ _ (c .before .before .loop-test .taken) (l .inv .0) in
+    let r = hole-room (c .before .before .before .before .before .before .before .before .before .args .bounds) f (l .at) (l .left) _ _
+    _ _ _ (c .before .before .loop-test .taken) (l .inv .0) (l .ring) refl in
     (omega (arith, n, w), omega (arith, n, r .0))
 
 clip-hole-requires : tie.Need-clip-hole-requires Inv-loop μ-loop
 clip-hole-requires c κs =
     let l = c .before .before .before .before .before .before .before .before .before .loop in
-    let f = now (c .before .before .before .before .before .before .before .before .before .before .before .before .before .before .before .args .frame) in
-    let r = hole-room (c .before .before .before .before .before .before .before .before .before .before .before .before .before .before .before .args .bounds) f (l .at) (l .left) _ _ _ _ _ (c .before .before .before .before .before .before .before .before .loop-test .taken) (l .inv .0) (l .ring) refl in
-    rw (c .before .before .before .before .before .decode-ring .ensures .1, c .before .before .before .before .before .before .before .count-at .ensures .0) (r .1)
+    let f = now (c .before .before .before .before .before .before .before .before .before .before .before .before .before .before
+    .before .args .frame) in
+    let r = hole-room (c .before .before .before .before .before .before .before .before .before .before .before .before .before .before
+    .before .args .bounds) f (l .at) (l .left) _ _ _ _ _
+    (c .before .before .before .before .before .before .before .before .loop-test .taken) (l .inv .0) (l .ring) refl in
+    rw (
+      c .before .before .before .before .before .decode-ring .ensures .1,
+      c .before .before .before .before .before .before .before .count-at .ensures .0,
+    ) (r .1)
 
 put-cut-ring-requires : tie.Need-put-cut-ring-requires Inv-loop μ-loop
 put-cut-ring-requires c κs =
-    let l = c .before .before .before .before .before .before .before .before .before .before .before .before .before .before .before .before .loop in
-    let f = now (c .before .before .before .before .before .before .before .before .before .before .before .before .before .before .before .before .before .before .before .before .before .before .args .frame) in
-    let h = c .before .before .before .before .before .before .before .before .before .before .before .before .before .before .before .loop-test .taken in
-    let r = hole-room (c .before .before .before .before .before .before .before .before .before .before .before .before .before .before .before .before .before .before .before .before .before .before .args .bounds) f (l .at) (l .left) _ _ _ _ _ h (l .inv .0) (l .ring) refl in
-    let n = c .before .before .before .before .before .before .before .before .before .before .before .before .before .before .count-at .ensures .0 in
-    let e = ring-read-in f (l .at) (c .before .before .before .before .before .before .before .before .before .before .before .before .before .before .count-at .result) (l .ring) _ n (c .before .before .before .before .before .before .before .before .before .before .before .before .decode-ring .ensures .1) (omega (arith, n, r .0)) in
-    let st : Stands (cutHole (c .before .before .before .before .before .before .before .before .before .before .before .before .before .before .before .before .before .before .before .before .before .before .args .bounds) (close (coordsOf (countOf (drop (l .at) f)) (drop (l .at + 2) f)))) _ _ = rw e at (c .before .before .before .before .before .before .clip-hole .ensures) in
-    let p = cut-room (c .before .before .before .before .before .before .before .before .before .before .before .before .before .before .before .before .before .before .before .before .before .before .args .bounds) f (l .at) (l .left) _ _ _ _ _ h (l .inv .0) _ _ st (c .before .before .before .before .before .before .clip-hole .kept .1 .1 .1 .1 .0) in
+    let l = c .before .before .before .before .before .before .before .before .before .before .before .before .before .before .before
+    .before .loop in
+    let f = now (c .before .before .before .before .before .before .before .before .before .before .before .before .before .before
+    .before .before .before .before .before .before .before .before .args .frame) in
+    let h = c .before .before .before .before .before .before .before .before .before .before .before .before .before .before .before
+    .loop-test .taken in
+    let r = hole-room (c .before .before .before .before .before .before .before .before .before .before .before .before .before .before
+    .before .before .before .before .before .before .before .before .args .bounds) f (l .at) (l .left) _ _ _ _ _ h (l .inv .0)
+    (l .ring) refl in
+    let n = c .before .before .before .before .before .before .before .before .before .before .before .before .before .before .count-at
+    .ensures .0 in
+    let e = ring-read-in f (l .at) (c .before .before .before .before .before .before .before .before .before .before .before .before
+    .before .before .count-at .result) (l .ring) _ n
+    (c .before .before .before .before .before .before .before .before .before .before .before .before .decode-ring .ensures .1)
+    (omega (arith, n, r .0)) in
+    let st : Stands (cutHole (c .before .before .before .before .before .before .before .before .before .before .before .before .before
+    .before .before .before .before .before .before .before .before .before .args .bounds)
+    (close (coordsOf (countOf (drop (l .at) f)) (drop (l .at + 2) f)))) _ _ =
+    rw e at (c .before .before .before .before .before .before .clip-hole .ensures) in
+    let p = cut-room (c .before .before .before .before .before .before .before .before .before .before .before .before .before .before
+    .before .before .before .before .before .before .before .before .args .bounds) f (l .at) (l .left) _ _ _ _ _ h (l .inv .0) _ _
+    st (c .before .before .before .before .before .before .clip-hole .kept .1 .1 .1 .1 .0) in
     (p .0, p .1, omega (arith, l .inv .1))
 
 sub-left : tie.Need-sub-left Inv-loop μ-loop
@@ -75,24 +113,44 @@ loop-less c = search needs
 
 loop-again : tie.Need-loop-again Inv-loop μ-loop
 loop-again c =
-    let l = c .before .before .before .before .before .before .before .before .before .before .before .before .before .before .before .before .before .before .before .loop in
-    let f = now (c .before .before .before .before .before .before .before .before .before .before .before .before .before .before .before .before .before .before .before .before .before .before .before .before .before .args .frame) in
-    let bounds = c .before .before .before .before .before .before .before .before .before .before .before .before .before .before .before .before .before .before .before .before .before .before .before .before .before .args .bounds in
-    let h = c .before .before .before .before .before .before .before .before .before .before .before .before .before .before .before .before .before .before .loop-test .taken in
+    let l = c .before .before .before .before .before .before .before .before .before .before .before .before .before .before .before
+    .before .before .before .before .loop in
+    let f = now (c .before .before .before .before .before .before .before .before .before .before .before .before .before .before
+    .before .before .before .before .before .before .before .before .before .before .before .args .frame) in
+    let bounds = c .before .before .before .before .before .before .before .before .before .before .before .before .before .before
+    .before .before .before .before .before .before .before .before .before .before .before .args .bounds in
+    let h = c .before .before .before .before .before .before .before .before .before .before .before .before .before .before .before
+    .before .before .before .loop-test .taken in
     let r = hole-room bounds f (l .at) (l .left) _ _ _ _ _ h (l .inv .0) (l .ring) refl in
-    let n = c .before .before .before .before .before .before .before .before .before .before .before .before .before .before .before .before .before .count-at .ensures .0 in
-    let e = ring-read-in f (l .at) (c .before .before .before .before .before .before .before .before .before .before .before .before .before .before .before .before .before .count-at .result) (l .ring) _ n (c .before .before .before .before .before .before .before .before .before .before .before .before .before .before .before .decode-ring .ensures .1) (omega (arith, n, r .0)) in
-    let st : Stands (cutHole bounds (close (coordsOf (countOf (drop (l .at) f)) (drop (l .at + 2) f)))) _ _ = rw e at (c .before .before .before .before .before .before .before .before .before .clip-hole .ensures) in
-    let put : PutRings (unlessNone (cutHole bounds (close (coordsOf (countOf (drop (l .at) f)) (drop (l .at + 2) f)))) []) _ _ _ _ = rw (cut-ring bounds f (l .at) (l .left) _ _ _ _ _ h (l .inv .0) _ _ st) at (c .before .before .put-cut-ring .ensures) in
+    let n = c .before .before .before .before .before .before .before .before .before .before .before .before .before .before .before
+    .before .before .count-at .ensures .0 in
+    let e = ring-read-in f (l .at) (c .before .before .before .before .before .before .before .before .before .before .before .before
+    .before .before .before .before .before .count-at .result) (l .ring) _ n
+    (c .before .before .before .before .before .before .before .before .before .before .before .before .before .before .before
+    .decode-ring .ensures .1) (omega (arith, n, r .0)) in
+    let st : Stands (cutHole bounds (close (coordsOf (countOf (drop (l .at) f)) (drop (l .at + 2) f)))) _ _ =
+    rw e at (c .before .before .before .before .before .before .before .before .before .clip-hole .ensures) in
+    let put : PutRings (unlessNone (cutHole bounds (close (coordsOf (countOf (drop (l .at) f)) (drop (l .at + 2) f)))) []) _ _ _ _ =
+    rw (cut-ring bounds f (l .at) (l .left) _ _ _ _ _ h (l .inv .0) _ _ st) at (c .before .before .put-cut-ring .ensures) in
     let next = next-room bounds f (l .at) (l .left) _ _ _ _ _ h (l .inv .0) _ _ _ put in
     let ahead = ahead-hole bounds f (l .at) (l .left) _ _ _ _ _ h (l .inv .0) _ _ _ put in
-    let kr = c .before .before .before .before .before .before .before .before .before .before .before .before .before .before .before .decode-ring .kept .1 .1 .1 .0 in
+    let kr = c .before .before .before .before .before .before .before .before .before .before .before .before .before .before .before
+    .decode-ring .kept .1 .1 .1 .0 in
     let ka = c .before .before .before .before .before .before .before .before .before .clip-hole .kept .1 .1 .1 .0 in
     let kb = c .before .before .before .before .before .before .before .before .before .clip-hole .kept .1 .1 .1 .1 .0 in
     let ko = c .before .before .put-cut-ring .kept .1 .1 .0 in
-    let at : c .before .before .before .before .before .before .before .before .before .before .before .before .before .before .before .decode-ring .result ≡ l .at + 2 + 16 * countOf (drop (l .at) f) = c .before .before .before .before .before .before .before .before .before .before .before .before .before .before .before .decode-ring .ensures .0 ∙ rw n in (
+    let at : c .before .before .before .before .before .before .before .before .before .before .before .before .before .before .before
+    .decode-ring .result ≡ l .at + 2 + 16 * countOf (drop (l .at) f) =
+    c .before .before .before .before .before .before .before .before .before .before .before .before .before .before .before
+    .decode-ring .ensures .0 ∙ rw n in (
       rw at (same-room _ _ _ _ _ _ _ _ _ _ _ _ kr ka kb ko next),
-      omega (arith, l .inv .1, put .rings-after, unless-count (cutHole bounds (close (coordsOf (countOf (drop (l .at) f)) (drop (l .at + 2) f))))),
+      omega (
+        arith,
+        l .inv .1,
+        put .rings-after,
+        unless-count
+            (cutHole bounds (close (coordsOf (countOf (drop (l .at) f)) (drop (l .at + 2) f)))),
+      ),
       rw at (ahead-then (l .inv .2) ahead),
       kr ∙ l .inv .3,
       ka ∙ l .inv .4,

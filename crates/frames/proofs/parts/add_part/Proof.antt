@@ -4,8 +4,8 @@ use borrow.Author.Tests.{not-true, not-false}
 use denote.Ref.{now}
 use borrow.Author.Needs.{needs}
 use Rattle.clip.specs.Polygon.{nothing, unchanged, routeMeasured}
-use Rattle.frame_bytes.specs.Frame.{partAt}
-use Rattle.frames.specs.Parts.{routePartAs}
+use Rattle.frame_bytes.specs.Contracts.{partAt}
+use Rattle.frames.specs.Contracts.{routePartAs}
 use Rattle.frames.proofs.CutParts.{part-head}
 use Rattle.frames.proofs.Listings.{listed-part}
 use Rattle.frames.proofs.parts.add_part.Statement.{statement}
@@ -38,17 +38,36 @@ unfolding routePartAs
 returns-2 c =
     let a = c .before .before .before .before .before .before .before .before .before .before .before .before .before .before .args in
     let list = c .before .before .list-part .ensures in
-    let e = not-false (c .before .before .before .before .before .before .before .intersects-bounds .result) (c .before .before .before .before .before .before .if1 .left) in
-    rw (← c .before .before .before .before .before .before .before .intersects-bounds .ensures, e, ← c .before .before .before .before .before .is-fully-inside .ensures, c .before .before .before .before .if2 .taken, list .0, list .1) (listed-part (a .index) unchanged (a .before) (now (a .out)))
+    let e = not-false (c .before .before .before .before .before .before .before .intersects-bounds .result)
+    (c .before .before .before .before .before .before .if1 .left) in
+    rw (
+      ← c .before .before .before .before .before .before .before .intersects-bounds .ensures,
+      e,
+      ←
+          c .before .before .before .before .before .is-fully-inside .ensures,
+      c .before .before .before .before .if2 .taken,
+      list .0,
+      list .1,
+    ) (listed-part (a .index) unchanged (a .before) (now (a .out)))
 
 route-part-requires : tie.Need-route-part-requires
-route-part-requires c κs = c .before .before .before .before .before .before .before .before .before .before .before .before .before .before .before .pre .0
+route-part-requires c κs =
+    c .before .before .before .before .before .before .before .before .before .before .before .before .before .before .before .pre .0
 
 list-part-requires-2 : tie.Need-list-part-requires-2
 list-part-requires-2 c κs =
-    let a = c .before .before .before .before .before .before .before .before .before .before .before .before .before .before .before .before .before .before .before .before .before .before .before .before .before .before .before .args in
-    let p = c .before .before .before .before .before .before .before .before .before .before .before .before .before .before .before .before .before .before .before .before .before .before .before .before .before .before .before .pre in
-    (omega (arith, part-head (now (a .frame)) (a .at) _ _ _ _ _ _ (p .0), c .before .before .before .before .before .before .before .before .before .before .before .route-part .kept .1 .1 .1 .1 .1 .1 .1 .1 .1 .1 .0), p .1)
+    let a = c .before .before .before .before .before .before .before .before .before .before .before .before .before .before .before
+    .before .before .before .before .before .before .before .before .before .before .before .before .args in
+    let p = c .before .before .before .before .before .before .before .before .before .before .before .before .before .before .before
+    .before .before .before .before .before .before .before .before .before .before .before .before .pre in (
+      omega (
+        arith,
+        part-head (now (a .frame)) (a .at) _ _ _ _ _ _ (p .0),
+        c .before .before .before .before .before .before .before .before .before .before .before .route-part .kept .1 .1 .1 .1 .1 .1 .1
+            .1 .1 .1 .0,
+      ),
+      p .1,
+    )
 
 same-length-2 : tie.Need-same-length-2
 same-length-2 c = search needs
@@ -68,11 +87,31 @@ same-length-6 c = search needs
 returns-3 : tie.Need-returns-3
 unfolding routePartAs
 returns-3 c =
-    let a = c .before .before .before .before .before .before .before .before .before .before .before .before .before .before .before .before .before .before .before .before .before .before .before .before .before .before .before .before .before .before .args in
+    let a = c .before .before .before .before .before .before .before .before .before .before .before .before .before .before .before
+    .before .before .before .before .before .before .before .before .before .before .before .before .before .before .before .args in
     let list = c .before .before .list-part2 .ensures in
-    let answer = c .before .before .before .before .before .before .before .before .before .before .before .before .before .before .route-part .ensures in
-    let e = not-false (c .before .before .before .before .before .before .before .before .before .before .before .before .before .before .before .before .before .before .before .before .before .before .before .intersects-bounds .result) (c .before .before .before .before .before .before .before .before .before .before .before .before .before .before .before .before .before .before .before .before .before .before .if1 .left) in
-    rw (← c .before .before .before .before .before .before .before .before .before .before .before .before .before .before .before .before .before .before .before .before .before .before .before .intersects-bounds .ensures, e, ← c .before .before .before .before .before .before .before .before .before .before .before .before .before .before .before .before .before .before .before .before .before .is-fully-inside .ensures, c .before .before .before .before .before .before .before .before .before .before .before .before .before .before .before .before .before .before .before .before .if2 .left, list .0, list .1, answer .0, answer .1) (listed-part (a .index) (routeMeasured (a .flags) (a .rect) (a .bounds) (partAt (now (a .frame)) (a .at))) (a .before) (now (a .out)))
+    let answer = c .before .before .before .before .before .before .before .before .before .before .before .before .before .before
+    .route-part .ensures in
+    let e = not-false (c .before .before .before .before .before .before .before .before .before .before .before .before .before .before
+    .before .before .before .before .before .before .before .before .before .intersects-bounds .result)
+    (c .before .before .before .before .before .before .before .before .before .before .before .before .before .before .before
+    .before .before .before .before .before .before .before .if1 .left) in
+    rw (
+      ← c .before .before .before .before .before .before .before .before .before .before .before .before .before .before .before
+          .before .before .before .before .before .before .before .before .intersects-bounds .ensures,
+      e,
+      ←
+          c .before .before .before .before .before .before .before .before .before .before .before .before .before .before .before
+          .before .before .before .before .before .before .is-fully-inside .ensures,
+      c .before .before .before .before .before .before .before .before .before .before .before .before .before .before .before
+          .before .before .before .before .before .if2 .left,
+      list .0,
+      list .1,
+      answer .0,
+      answer .1,
+    )
+    (listed-part (a .index) (routeMeasured (a .flags) (a .rect) (a .bounds) (partAt (now (a .frame)) (a .at))) (a .before)
+    (now (a .out)))
 
 pub add-part-spec : {M : Type 1} → statement M
 add-part-spec =

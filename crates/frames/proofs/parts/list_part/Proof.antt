@@ -21,7 +21,12 @@ put-part-requires : tie.Need-put-part-requires
 put-part-requires c κs = c .before .before .before .before .pre .0
 
 add-t12 : tie.Need-add-t12
-add-t12 c = omega (arith, c .before .before .before .before .before .before .before .before .pre .1 .listed, c .before .before .before .before .before .before .before .before .pre .1 .index)
+add-t12 c =
+    omega (
+      arith,
+      c .before .before .before .before .before .before .before .before .pre .1 .listed,
+      c .before .before .before .before .before .before .before .before .pre .1 .index,
+    )
 
 add-t13 : tie.Need-add-t13
 add-t13 c = omega (arith, c .before .before .before .before .before .before .before .before .pre .0)
@@ -30,7 +35,8 @@ enum-known-answer : tie.Need-enum-known-answer
 enum-known-answer c = search needs
 
 add-t14 : tie.Need-add-t14
-add-t14 c = omega (arith, c .before .before .before .before .before .pre .1 .listed, c .before .before .before .before .before .pre .1 .index)
+add-t14 c =
+    omega (arith, c .before .before .before .before .before .pre .1 .listed, c .before .before .before .before .before .pre .1 .index)
 
 returns : tie.Need-returns
 returns c = (rw (c .enum-told .given .1), rw (c .enum-told .given .1))
@@ -43,7 +49,10 @@ same-length c = search needs
 
 returns-3 : tie.Need-returns-3
 unfolding partBytes
-returns-3 c = (rw (c .before .before .before .before .before .enum-told3 .given .1), rw (c .before .before .before .before .before .enum-told3 .given .1) (c .before .before .before .put-part .ensures))
+returns-3 c = (
+  rw (c .before .before .before .before .before .enum-told3 .given .1),
+  rw (c .before .before .before .before .before .enum-told3 .given .1) (c .before .before .before .put-part .ensures),
+)
 
 returns-4 : tie.Need-returns-4
 returns-4 c = (rw (c .before .before .answer .given .1), rw (c .before .before .answer .given .1))

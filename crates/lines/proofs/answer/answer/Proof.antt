@@ -37,7 +37,9 @@ same-length-2 : tie.Need-same-length-2
 same-length-2 c = search needs
 
 returns-2 : tie.Need-returns-2
-returns-2 c = rw (c .before .before .before .before .before .before .line2 .given .1, c .before .before .before .before .if2 .taken) (c .before .before .refuse .ensures)
+returns-2 c =
+    rw (c .before .before .before .before .before .before .line2 .given .1, c .before .before .before .before .if2 .taken)
+    (c .before .before .refuse .ensures)
 
 refusal-number-requires : tie.Need-refusal-number-requires
 refusal-number-requires c κs = search needs
@@ -71,7 +73,13 @@ same-length-4 : tie.Need-same-length-4
 same-length-4 c = search needs
 
 returns-4 : tie.Need-returns-4
-returns-4 c = rw (c .before .before .before .before .before .before .before .line2 .given .1, c .before .before .before .before .before .if2 .left, ← c .before .before .before .refusal-number .ensures) (c .before .before .refuse2 .ensures)
+returns-4 c =
+    rw (
+      c .before .before .before .before .before .before .before .line2 .given .1,
+      c .before .before .before .before .before .if2 .left,
+      ← c .before .before .before .refusal-number .ensures,
+    )
+    (c .before .before .refuse2 .ensures)
 
 same-length-5 : tie.Need-same-length-5
 same-length-5 c = search needs

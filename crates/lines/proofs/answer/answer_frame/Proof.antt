@@ -29,7 +29,9 @@ returns c =
     let a = c .before .before .before .before .before .before .before .before .before .before .before .before .before .before .args in
     let k = c .before .before .before .before .before .before .refusal .given in
     let f = c .before .before .before .before .before .before .before .before .before .before .frame .ensures in
-    let e = call-refused (now (a .bytes)) (now (a .out)) (c .before .before .before .before .before .before .before .before .before .before .before .before .before .before .pre) (k .0 .0) (sym (f .0) ∙ k .1) in
+    let e = call-refused (now (a .bytes)) (now (a .out))
+    (c .before .before .before .before .before .before .before .before .before .before .before .before .before .before .pre)
+    (k .0 .0) (sym (f .0) ∙ k .1) in
     let r = c .before .before .refuse .ensures in
     rw (← e .0, ← c .before .before .before .refusal-number .ensures) (r .0, r .1 ∙ rw (f .1, e .1))
 
@@ -41,7 +43,8 @@ returns-2 c =
     let a = c .before .before .before .before .before .before .before .before .before .args in
     let k = c .before .count .given in
     let f = c .before .before .before .before .before .frame .ensures in
-    let e = call-answered (now (a .bytes)) (now (a .out)) (c .before .before .before .before .before .before .before .before .before .pre) (k .0 .0) (sym (f .0) ∙ k .1) in
+    let e = call-answered (now (a .bytes)) (now (a .out))
+    (c .before .before .before .before .before .before .before .before .before .pre) (k .0 .0) (sym (f .0) ∙ k .1) in
     (e .0, f .1 ∙ e .1)
 
 pub answer-frame-spec : {M : Type 1} → statement M

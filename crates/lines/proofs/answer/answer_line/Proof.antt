@@ -31,7 +31,8 @@ to-line-requires c κs =
     let e = c .before .before .before .answer .ensures in
     let room : answerRoom ≤ length (now (a .out)) = omega (arith, c .before .before .before .before .before .before .before .pre) in
     let same = c .before .before .out .given in
-    let fits = part-fits (endAnswer (stateOf (a .line) (now (a .kept)))) (now (a .out)) (c .before .before .before .answer .last .1 .1 .0) answerRoom room (e .1) (same .0) in
+    let fits = part-fits (endAnswer (stateOf (a .line) (now (a .kept)))) (now (a .out))
+    (c .before .before .before .answer .last .1 .1 .0) answerRoom room (e .1) (same .0) in
     omega (arith, e .0, fits, same .1, c .before .before .before .before .before .before .before .pre)
 
 same-length : tie.Need-same-length
@@ -47,9 +48,14 @@ returns c =
     let room : answerRoom ≤ length out =
     omega (arith, c .before .before .before .before .before .before .before .before .before .before .pre) in
     let t = c .before .before .to-line .ensures in
-    let whole : part ++ drop answerRoom out ≡ over answer out = part-over answer out part answerRoom room (e .1) (c .before .before .before .before .before .out .given .0) in
-    let front : take (c .before .before .before .before .before .before .answer .result) (part ++ drop answerRoom out) ≡ answer = rw (whole, e .0) (answer-front answer out) in
-    (t .0 ∙ ap (λ (l : List ℕ). length (hexLine l)) front, t .1 ∙ ap (λ (l : List ℕ). over (hexLine l) (part ++ drop answerRoom out)) front ∙ ap (over (hexLine answer)) whole ∙ line-over answer out)
+    let whole : part ++ drop answerRoom out ≡ over answer out = part-over answer out part answerRoom room (e .1)
+    (c .before .before .before .before .before .out .given .0) in
+    let front : take (c .before .before .before .before .before .before .answer .result) (part ++ drop answerRoom out) ≡ answer =
+    rw (whole, e .0) (answer-front answer out) in (
+      t .0 ∙ ap (λ (l : List ℕ). length (hexLine l)) front,
+      t .1 ∙ ap (λ (l : List ℕ). over (hexLine l) (part ++ drop answerRoom out))
+          front ∙ ap (over (hexLine answer)) whole ∙ line-over answer out,
+    )
 
 pub answer-line-spec : {M : Type 1} → statement M
 answer-line-spec =

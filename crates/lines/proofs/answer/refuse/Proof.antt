@@ -23,8 +23,11 @@ same-length c = search needs
 returns : tie.Need-returns
 returns c =
     let a = c .before .before .before .before .before .args in
-    let e = c .before .before .put-alone .ensures in
-    (e .0, e .1 ∙ rw (no-counts (a .number)) (whole-over (refusalBytes (a .number)) (now (a .out)) (c .before .before .before .before .before .pre)))
+    let e = c .before .before .put-alone .ensures in (
+      e .0,
+      e .1 ∙ rw (no-counts (a .number)) (whole-over (refusalBytes (a .number)) (now (a .out))
+          (c .before .before .before .before .before .pre)),
+    )
 
 pub refuse-spec : {M : Type 1} → statement M
 refuse-spec = tie.close (tie.spec put-alone-requires same-length returns)

@@ -36,7 +36,10 @@ loop-less c = search needs
 loop-again : tie.Need-loop-again Inv-loop μ-loop
 loop-again c =
     let l = c .before .before .before .before .before .before .loop in
-    subst (λ (s : List ℕ). Hexed (now (c .before .before .before .before .before .before .before .before .args .out)) (c .before .before .before .before .before .before .before .before .args .count) (l .k - 1) s) (sym (c .before .before .put-hex .ensures)) (hexed-step (c .before .before .before .before .before .before .before .before .pre) (l .k) (c .before .before .before .before .before .loop-test .taken) (l .inv))
+    subst (λ (s : List ℕ). Hexed (now (c .before .before .before .before .before .before .before .before .args .out))
+    (c .before .before .before .before .before .before .before .before .args .count) (l .k - 1) s)
+    (sym (c .before .before .put-hex .ensures)) (hexed-step (c .before .before .before .before .before .before .before .before .pre)
+    (l .k) (c .before .before .before .before .before .loop-test .taken) (l .inv))
 
 same-length : tie.Need-same-length Inv-loop μ-loop
 same-length c = search needs

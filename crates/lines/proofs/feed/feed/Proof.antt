@@ -23,7 +23,8 @@ returns c =
 take-line-requires : tie.Need-take-line-requires
 take-line-requires c κs =
     let a = c .before .before .before .before .before .before .before .before .args in
-    lent-lengths (now (a .kept)) (now (a .out)) (is-lent (c .before .before .are-lent .result) (now (a .kept)) (now (a .out)) (c .before .before .are-lent .ensures) (c .before .if1 .left)) .0
+    lent-lengths (now (a .kept)) (now (a .out)) (is-lent (c .before .before .are-lent .result) (now (a .kept)) (now (a .out))
+    (c .before .before .are-lent .ensures) (c .before .if1 .left)) .0
 
 answer-line-requires : tie.Need-answer-line-requires
 answer-line-requires c κs =
@@ -47,8 +48,12 @@ same-length-4 c = search needs
 
 returns-2 : tie.Need-returns-2
 returns-2 c =
-    let a = c .before .before .before .before .before .before .before .before .before .before .before .before .before .before .before .before .before .before .args in
-    let ready = is-lent (c .before .before .before .before .before .before .before .before .before .before .before .before .are-lent .result) (now (a .kept)) (now (a .out)) (c .before .before .before .before .before .before .before .before .before .before .before .before .are-lent .ensures) (c .before .before .before .before .before .before .before .before .before .before .before .if1 .left) in
+    let a = c .before .before .before .before .before .before .before .before .before .before .before .before .before .before .before
+    .before .before .before .args in
+    let ready = is-lent (c .before .before .before .before .before .before .before .before .before .before .before .before .are-lent
+    .result) (now (a .kept)) (now (a .out)) (c .before .before .before .before .before .before .before .before .before .before
+    .before .before .are-lent .ensures) (c .before .before .before .before .before .before .before .before .before .before .before
+    .if1 .left) in
     let t = c .before .before .before .before .before .before .before .before .before .take-line in
     let here = c .before .before .before .before .before .before .if2 .taken in
     let e = c .before .before .before .answer-line .ensures in
@@ -65,7 +70,8 @@ same-length-6 c = search needs
 returns-3 : tie.Need-returns-3
 returns-3 c =
     let a = c .before .before .before .before .before .before .before .before .before .before .before .before .args in
-    let ready = is-lent (c .before .before .before .before .before .before .are-lent .result) (now (a .kept)) (now (a .out)) (c .before .before .before .before .before .before .are-lent .ensures) (c .before .before .before .before .before .if1 .left) in
+    let ready = is-lent (c .before .before .before .before .before .before .are-lent .result) (now (a .kept)) (now (a .out))
+    (c .before .before .before .before .before .before .are-lent .ensures) (c .before .before .before .before .before .if1 .left) in
     let t = c .before .before .before .take-line in
     feeds-block (now (a .block)) (a .line) _ (now (a .kept)) _ (now (a .out)) (t .result .at) ready (t .ensures) (c .if2 .left)
     (t .kept .1 .1 .0)

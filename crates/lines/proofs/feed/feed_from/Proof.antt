@@ -43,7 +43,8 @@ returns c =
     let a = c .before .before .before .before .before .before .before .before .before .before .before .args in
     let f = c .before .before .before .before .feed .ensures in
     let fits : a .waiting ≤ length (now (a .out)) = omega arith in
-    let p = part-prints (now (a .block)) (now (a .out)) _ _ (a .from) (a .waiting) fits refl (c .before .before .before .before .feed .result .taken) (f .prints) in
+    let p = part-prints (now (a .block)) (now (a .out)) _ _ (a .from) (a .waiting) fits refl
+    (c .before .before .before .before .feed .result .taken) (f .prints) in
     let t = takes-some f (search needs) (search needs) (search needs) in
     (p .0, (p .1, (t .0, omega (arith, t .1, ap length (tail-part (now (a .block)) (a .from)), length-drop (a .from) (now (a .block))))))
 

@@ -14,7 +14,8 @@ use Rattle.lines.proofs.feed.feed_lines.Tie as tie
 
 abbrev Inv-loop : tie.InvT-loop
 Inv-loop block kept₀ out₀ known₀ from₀ waiting₀ kept out known from waiting =
-    (length kept ≡ length kept₀) × (length out ≡ length out₀) × (from ≡ 0 → waiting ≡ 0) × (from ≤ length block) × Prints (take from block) (stateOf known₀ kept₀) out₀ waiting (stateOf known kept) out
+    (length kept ≡ length kept₀) × (length out ≡ length out₀) × (from ≡ 0 → waiting ≡ 0) × (from ≤ length block)
+    × Prints (take from block) (stateOf known₀ kept₀) out₀ waiting (stateOf known kept) out
 
 abbrev μ-loop : tie.MeasureT-loop
 μ-loop block kept₀ out₀ known₀ from₀ waiting₀ kept out known from waiting = length block - from
@@ -36,7 +37,14 @@ same-length-2 c = search needs
 returns : tie.Need-returns Inv-loop μ-loop
 returns c =
     let l = c .before .before .loop in
-    record { within = l .inv .3; prints = l .inv .4; stops = λ _. omega arith; some = λ _. pos-of-ne-zero (λ e. let none = l .inv .2 e in omega (arith, none)); free = l .inv .0 }
+    record {
+      within = l .inv .3;
+      prints = l .inv .4;
+      stops = λ _. omega arith;
+      some =
+          λ _. pos-of-ne-zero (λ e. let none = l .inv .2 e in omega (arith, none));
+      free = l .inv .0;
+    }
 
 feed-from-requires : tie.Need-feed-from-requires Inv-loop μ-loop
 feed-from-requires c κs = search needs
@@ -44,7 +52,11 @@ feed-from-requires c κs = search needs
 add-from : tie.Need-add-from Inv-loop μ-loop
 add-from c =
     let l = c .before .before .before .before .before .before .before .before .before .before .loop in
-    search (needs, length-drop (l .from) (now (c .before .before .before .before .before .before .before .before .before .before .before .before .before .before .args .block)))
+    search (
+      needs,
+      length-drop (l .from) (now (c .before .before .before .before .before .before .before .before .before .before .before
+          .before .before .before .args .block)),
+    )
 
 add-waiting : tie.Need-add-waiting Inv-loop μ-loop
 add-waiting c =

@@ -3,7 +3,7 @@ use mathlib.Core.Path.{refl, sym, _∙_, ap}
 use native.Mathlib.Omega.{arith}
 use denote.Ref.{now}
 use borrow.Author.Needs.{needs}
-use Rattle.lines.specs.declared.feed.Finished.the-variants.{Written}
+use Rattle.lines.specs.declared.feed.Finished.the-variants.{Wrote}
 use Rattle.lines.specs.State.{endLine, stateOf}
 use Rattle.lines.proofs.Feeding.{lent-lengths, not-lent, is-lent, over-fits, ends-begun, ends-not-begun}
 use Rattle.lines.proofs.feed.finish.Statement.{statement}
@@ -55,7 +55,7 @@ returns-3 c =
     (sym (c .before .before .before .before .before .is-not-begun .ensures) ∙ c .before .before .before .before .if2 .left) in
     let e = c .before .before .answer-line .ensures in
     rw (ready, begun)
-    (ap Written (e .0), (e .1, over-fits (endLine (stateOf (a .line) (now (a .kept)))) (now (a .out)) _ _ (e .0) (e .1) (search needs)))
+    (ap Wrote (e .0), (e .1, over-fits (endLine (stateOf (a .line) (now (a .kept)))) (now (a .out)) _ _ (e .0) (e .1) (search needs)))
 
 pub finish-spec : {M : Type 1} → statement M
 finish-spec =

@@ -5,14 +5,16 @@ use native.Mathlib.Omega.{arith}
 use denote.Ref.{now}
 use lib.ListN.{length}
 use borrow.Author.Needs.{needs}
-use Rattle.lines.specs.State.{stateOf, Passes, Proper}
+use Rattle.lines.specs.State.{stateOf, Proper}
+use Rattle.lines.specs.Contracts.{ReadsOn}
 use Rattle.lines.proofs.Running.{passes-start, passes-then, passes-char}
 use Rattle.lines.proofs.line.take_chars.Statement.{statement}
 use Rattle.lines.proofs.line.take_chars.Tie as tie
 
 abbrev Inv-loop : tie.InvT-loop
 Inv-loop block from values kept₀ reached₀ at₀ kept reached at =
-    (length kept ≡ length kept₀) × Passes block from (stateOf reached₀ kept₀) at (stateOf reached kept) × (Proper reached₀ → Proper reached)
+    (length kept ≡ length kept₀) × ReadsOn block from (stateOf reached₀ kept₀) at (stateOf reached kept)
+    × (Proper reached₀ → Proper reached)
 
 abbrev μ-loop : tie.MeasureT-loop
 μ-loop block from values kept₀ reached₀ at₀ kept reached at = length block - at

@@ -7,14 +7,15 @@ use lib.ListN.{length, getD, take}
 use borrow.Author.Needs.{needs}
 use Rattle.frame_bytes.specs.Frame.{longest}
 use Rattle.lines.specs.Lines.{digit}
-use Rattle.lines.specs.State.{whole, Passes}
+use Rattle.lines.specs.State.{whole}
+use Rattle.lines.specs.Contracts.{ReadsOn}
 use Rattle.lines.proofs.Running.{passes-start, passes-then, passes-pair}
 use Rattle.lines.proofs.line.take_pairs.Statement.{statement}
 use Rattle.lines.proofs.line.take_pairs.Tie as tie
 
 abbrev Inv-loop : tie.InvT-loop
 Inv-loop block bytes values kept₀ n₀ at₀ kept n at =
-    (length kept ≡ length kept₀) × Passes block 0 (whole (take bytes kept₀)) at (whole (take n kept)) × (bytes ≤ longest → n ≤ longest)
+    (length kept ≡ length kept₀) × ReadsOn block 0 (whole (take bytes kept₀)) at (whole (take n kept)) × (bytes ≤ longest → n ≤ longest)
 
 abbrev μ-loop : tie.MeasureT-loop
 μ-loop block bytes values kept₀ n₀ at₀ kept n at = length block - at

@@ -12,7 +12,8 @@ has-room-requires c κs = search needs
 find-issue-requires : tie.Need-find-issue-requires
 find-issue-requires c κs =
     let s = c .before .before .before .before .before .before .before .before .before .args in
-    room-of (s .ring .now) (s .work .now) (s .order .now) (sym (c .before .before .before .has-room .ensures) ∙ c .before .before .if1 .taken)
+    room-of (s .ring .now) (s .work .now) (s .order .now) (sym (c .before .before .before .has-room .ensures)
+    ∙ c .before .before .if1 .taken)
 
 issue-code-requires : tie.Need-issue-code-requires
 issue-code-requires c κs = search needs
@@ -25,7 +26,13 @@ same-length-2 c = search needs
 
 returns : tie.Need-returns
 unfolding foundIssue
-returns c = rw (← c .before .before .before .before .before .before .before .before .before .has-room .ensures, c .before .before .before .before .before .before .before .before .if1 .taken, ← c .before .before .before .before .before .find-issue .ensures .0) (c .issue-code .ensures)
+returns c =
+    rw (
+      ← c .before .before .before .before .before .before .before .before .before .has-room .ensures,
+      c .before .before .before .before .before .before .before .before .if1 .taken,
+      ←
+          c .before .before .before .before .before .find-issue .ensures .0,
+    ) (c .issue-code .ensures)
 
 same-length-3 : tie.Need-same-length-3
 same-length-3 c = search needs

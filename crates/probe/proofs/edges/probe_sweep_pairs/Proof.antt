@@ -4,14 +4,14 @@ use Prim.Native.Nat.{_/_}
 use lib.ListN.{length}
 use borrow.Author.Tests.{eq-eqb, ne-eqb}
 use borrow.Author.Needs.{needs}
-use Rattle.box_pairs.specs.Issue.{IssueRoom}
-use Rattle.probe.specs.Edges.{swept}
+use Rattle.box_pairs.specs.Contracts.{IssueRoom}
+use Rattle.probe.specs.Edges.{sweepAnswer}
 use Rattle.probe.proofs.Rooms.{room-of, one-edge-less, same-verdict}
 use Rattle.probe.proofs.edges.probe_sweep_pairs.Statement.{statement}
 use Rattle.probe.proofs.edges.probe_sweep_pairs.Tie as tie
 
 returns : tie.Need-returns
-unfolding swept
+unfolding sweepAnswer
 returns c = rw (eq-eqb _ _ (c .if1 .taken))
 
 has-room-requires : tie.Need-has-room-requires
@@ -23,8 +23,10 @@ sub-sweep-pairs c = search needs
 sweep-pairs-requires : tie.Need-sweep-pairs-requires
 sweep-pairs-requires c κs =
     let s = c .before .before .before .before .before .before .before .before .before .before .args in
-    one-edge-less (λ n. IssueRoom n (s .ring .now) (s .work .now) (s .order .now)) (length (s .ring .now) / 2) (c .before .before .before .before .before .before .if1 .left)
-    (room-of (s .ring .now) (s .work .now) (s .order .now) (sym (c .before .before .before .has-room .ensures) ∙ c .before .before .if2 .taken))
+    one-edge-less (λ n. IssueRoom n (s .ring .now) (s .work .now) (s .order .now)) (length (s .ring .now) / 2)
+    (c .before .before .before .before .before .before .if1 .left)
+    (room-of (s .ring .now) (s .work .now) (s .order .now) (sym (c .before .before .before .has-room .ensures)
+    ∙ c .before .before .if2 .taken))
 
 flag-code-requires : tie.Need-flag-code-requires
 flag-code-requires c κs = search needs
@@ -36,10 +38,19 @@ same-length-2 : tie.Need-same-length-2
 same-length-2 c = search needs
 
 returns-2 : tie.Need-returns-2
-unfolding swept
+unfolding sweepAnswer
 returns-2 c =
-    let s = c .before .before .before .before .before .before .before .before .before .before .before .before .before .before .before .before .args .ring .now in
-    rw (ne-eqb _ _ (c .before .before .before .before .before .before .before .before .before .before .before .before .if1 .left), ← c .before .before .before .before .before .before .before .before .before .has-room .ensures, c .before .before .before .before .before .before .before .before .if2 .taken) (c .flag-code .ensures ∙ same-verdict s (length s / 2) _ (c .before .before .before .before .before .before .before .before .before .before .before .before .if1 .left) (c .before .before .before .before .before .sweep-pairs .ensures .0))
+    let s = c .before .before .before .before .before .before .before .before .before .before .before .before .before .before .before
+    .before .args .ring .now in
+    rw (
+      ne-eqb _ _ (c .before .before .before .before .before .before .before .before .before .before .before .before .if1 .left),
+      ←
+          c .before .before .before .before .before .before .before .before .before .has-room .ensures,
+      c .before .before .before .before .before .before .before .before .if2 .taken,
+    )
+    (c .flag-code .ensures ∙ same-verdict s (length s / 2) _
+    (c .before .before .before .before .before .before .before .before .before .before .before .before .if1 .left)
+    (c .before .before .before .before .before .sweep-pairs .ensures .0))
 
 same-length-3 : tie.Need-same-length-3
 same-length-3 c = search needs
@@ -48,7 +59,7 @@ same-length-4 : tie.Need-same-length-4
 same-length-4 c = search needs
 
 returns-3 : tie.Need-returns-3
-unfolding swept
+unfolding sweepAnswer
 returns-3 c = rw (ne-eqb _ _ (c .before .before .before .before .if1 .left), ← c .before .has-room .ensures, c .if2 .left)
 
 pub probe-sweep-pairs-spec : {M : Type 1} → statement M

@@ -13,7 +13,8 @@ returns : tie.Need-returns
 returns c = rw (sym (c .before .is-refusal .ensures) ∙ c .if1 .taken)
 
 mul-result : tie.Need-mul-result
-mul-result c = omega (arith, ltb-false 0x7fff_ffff_ffff_ffff (c .before .before .args .code) (sym (c .before .is-refusal .ensures) ∙ c .if1 .left))
+mul-result c =
+    omega (arith, ltb-false 0x7fff_ffff_ffff_ffff (c .before .before .args .code) (sym (c .before .is-refusal .ensures) ∙ c .if1 .left))
 
 returns-2 : tie.Need-returns-2
 returns-2 c = rw (sym (c .before .is-refusal .ensures) ∙ c .if1 .left)

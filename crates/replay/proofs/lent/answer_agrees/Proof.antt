@@ -1,13 +1,13 @@
 -- `answer_agrees` meets its contract. Assumes nothing.
 use mathlib.Core.Path.{sym, _∙_}
 use borrow.Author.Tests.{eq-eqb, ne-eqb, not-true, not-false}
-use Rattle.replay.specs.Calls as S
+use Rattle.replay.specs.Calls as Calls
 use borrow.Author.Needs.{needs}
 use Rattle.replay.proofs.lent.answer_agrees.Statement.{statement}
 use Rattle.replay.proofs.lent.answer_agrees.Tie as tie
 
 returns : tie.Need-returns
-unfolding S.answerAgrees
+unfolding Calls.answerAgrees
 returns c = rw (ne-eqb _ _ (c .if1 .taken))
 
 is-refusal-requires : tie.Need-is-refusal-requires
@@ -20,7 +20,7 @@ are-all-requires : tie.Need-are-all-requires
 are-all-requires c κs = search needs
 
 returns-2 : tie.Need-returns-2
-unfolding S.answerAgrees
+unfolding Calls.answerAgrees
 returns-2 c =
     let z = rw (c .before .before .before .is-refusal .ensures) at (c .before .before .scratch-after .ensures) in
     rw (eq-eqb _ _ (c .before .before .before .before .if1 .left), sym (rw z at (c .before .are-all .ensures)) ∙ not-true _ (c .if2 .taken))
@@ -29,19 +29,33 @@ are-all-requires-2 : tie.Need-are-all-requires-2
 are-all-requires-2 c κs = search needs
 
 returns-3 : tie.Need-returns-3
-unfolding S.answerAgrees
+unfolding Calls.answerAgrees
 returns-3 c =
-    let z = rw (c .before .before .before .before .before .is-refusal .ensures) at (c .before .before .before .before .scratch-after .ensures) in
-    rw (eq-eqb _ _ (c .before .before .before .before .before .before .if1 .left), sym (rw z at (c .before .before .before .are-all .ensures)) ∙ not-false _ (c .before .before .if2 .left), sym (rw z at (c .before .are-all2 .ensures)) ∙ not-true _ (c .if3 .taken))
+    let z = rw (c .before .before .before .before .before .is-refusal .ensures)
+    at (c .before .before .before .before .scratch-after .ensures) in
+    rw (
+      eq-eqb _ _ (c .before .before .before .before .before .before .if1 .left),
+      sym
+          (rw z at (c .before .before .before .are-all .ensures)) ∙ not-false _ (c .before .before .if2 .left),
+      sym
+          (rw z at (c .before .are-all2 .ensures)) ∙ not-true _ (c .if3 .taken),
+    )
 
 holds-requires : tie.Need-holds-requires
 holds-requires c κs = search needs
 
 returns-4 : tie.Need-returns-4
-unfolding S.answerAgrees
+unfolding Calls.answerAgrees
 returns-4 c =
-    let z = rw (c .before .before .before .before .before .before .is-refusal .ensures) at (c .before .before .before .before .before .scratch-after .ensures) in
-    rw (eq-eqb _ _ (c .before .before .before .before .before .before .before .if1 .left), sym (rw z at (c .before .before .before .before .are-all .ensures)) ∙ not-false _ (c .before .before .before .if2 .left), sym (rw z at (c .before .before .are-all2 .ensures)) ∙ not-false _ (c .before .if3 .left)) (c .holds .ensures)
+    let z = rw (c .before .before .before .before .before .before .is-refusal .ensures)
+    at (c .before .before .before .before .before .scratch-after .ensures) in
+    rw (
+      eq-eqb _ _ (c .before .before .before .before .before .before .before .if1 .left),
+      sym
+          (rw z at (c .before .before .before .before .are-all .ensures)) ∙ not-false _ (c .before .before .before .if2 .left),
+      sym
+          (rw z at (c .before .before .are-all2 .ensures)) ∙ not-false _ (c .before .if3 .left),
+    ) (c .holds .ensures)
 
 pub answer-agrees-spec : {M : Type 1} → statement M
 answer-agrees-spec =

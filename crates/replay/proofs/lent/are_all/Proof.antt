@@ -31,7 +31,10 @@ is-same-requires : tie.Need-is-same-requires Inv-loop μ-loop
 is-same-requires c κs = search needs
 
 returns : tie.Need-returns Inv-loop μ-loop
-returns c = let l = c .before .before .before .before .loop in let s = now (c .before .before .before .before .before .before .args .s) in sym (all-miss (bits s) _ _ (rw (length-bits s) (c .before .before .before .loop-test .taken)) (rw (getD-bits s (l .i) (c .before .before .before .loop-test .taken)) (sym (c .before .is-same .ensures) ∙ not-true _ (c .if1 .taken))) (l .inv))
+returns c = let l = c .before .before .before .before .loop in let s = now (c .before .before .before .before .before .before .args .s)
+    in sym (all-miss (bits s) _ _ (rw (length-bits s) (c .before .before .before .loop-test .taken))
+    (rw (getD-bits s (l .i) (c .before .before .before .loop-test .taken)) (sym (c .before .is-same .ensures)
+    ∙ not-true _ (c .if1 .taken))) (l .inv))
 
 add-i : tie.Need-add-i Inv-loop μ-loop
 add-i c = search needs
@@ -40,10 +43,16 @@ loop-less : tie.Need-loop-less Inv-loop μ-loop
 loop-less c = search needs
 
 loop-again : tie.Need-loop-again Inv-loop μ-loop
-loop-again c = let l = c .before .before .before .before .loop in let s = now (c .before .before .before .before .before .before .args .s) in all-step (bits s) _ _ (rw (length-bits s) (c .before .before .before .loop-test .taken)) (rw (getD-bits s (l .i) (c .before .before .before .loop-test .taken)) (sym (c .before .is-same .ensures) ∙ not-false _ (c .if1 .left))) (l .inv)
+loop-again c = let l = c .before .before .before .before .loop in let s =
+    now (c .before .before .before .before .before .before .args .s) in all-step (bits s) _ _
+    (rw (length-bits s) (c .before .before .before .loop-test .taken))
+    (rw (getD-bits s (l .i) (c .before .before .before .loop-test .taken)) (sym (c .before .is-same .ensures)
+    ∙ not-false _ (c .if1 .left))) (l .inv)
 
 returns-2 : tie.Need-returns-2 Inv-loop μ-loop
-returns-2 c = let s = now (c .before .before .before .args .s) in sym (all-end (bits s) _ _ (rw (length-bits s) (c .loop-test .left)) (c .before .loop .inv))
+returns-2 c =
+    let s = now (c .before .before .before .args .s) in sym (all-end (bits s) _ _ (rw (length-bits s) (c .loop-test .left))
+    (c .before .loop .inv))
 
 pub are-all-spec : {M : Type 1} → statement M
 are-all-spec =

@@ -9,7 +9,8 @@ use borrow.Author.Tests.{not-true, not-false}
 use denote.Ref.{now}
 use lib.ListN.{length}
 use Rattle.replay.specs.Lent.{bits, mark}
-use Rattle.replay.proofs.Compared.{length-bits, getD-bits, drop-bits, HoldsFrom, holds-short, holds-start, holds-step, holds-miss, holds-end}
+use Rattle.replay.proofs.Compared.{length-bits, getD-bits, drop-bits, HoldsFrom, holds-short, holds-start, holds-step, holds-miss}
+use Rattle.replay.proofs.Compared.{holds-end}
 use Rattle.replay.proofs.lent.holds.Statement.{statement}
 use Rattle.replay.proofs.lent.holds.Tie as tie
 
@@ -22,7 +23,8 @@ abbrev μ-loop : tie.MeasureT-loop
 returns : tie.Need-returns Inv-loop μ-loop
 returns c =
     let a = c .before .before .before .args in
-    sym (holds-short _ (bits (now (a .front))) (bits (now (a .s))) (rw (length-bits (now (a .front)), length-bits (now (a .s))) (c .if1 .taken)))
+    sym (holds-short _ (bits (now (a .front))) (bits (now (a .s))) (rw (length-bits (now (a .front)), length-bits (now (a .s)))
+    (c .if1 .taken)))
 
 loop-holds : tie.Need-loop-holds Inv-loop μ-loop
 loop-holds c = (c .if1 .left, holds-start _ _ _)
@@ -48,8 +50,10 @@ returns-2 c =
     let l = c .before .before .before .before .before .loop in
     let h = c .before .before .before .before .loop-test .taken in
     let k : l .i < length (now (a .s)) = omega (arith, l .inv .0) in
-    sym (holds-miss mark (bits (now (a .front))) (bits (now (a .s))) (l .i) (rw (length-bits (now (a .front))) h) (rw (length-bits (now (a .s))) k)
-    (rw (getD-bits (now (a .s)) (l .i) k, getD-bits (now (a .front)) (l .i) h) (sym (c .before .is-same .ensures) ∙ not-true _ (c .if2 .taken)))
+    sym (holds-miss mark (bits (now (a .front))) (bits (now (a .s))) (l .i) (rw (length-bits (now (a .front))) h)
+    (rw (length-bits (now (a .s))) k)
+    (rw (getD-bits (now (a .s)) (l .i) k, getD-bits (now (a .front)) (l .i) h) (sym (c .before .is-same .ensures)
+    ∙ not-true _ (c .if2 .taken)))
     (l .inv .1))
 
 add-i : tie.Need-add-i Inv-loop μ-loop
@@ -65,8 +69,10 @@ loop-again c =
     let h = c .before .before .before .before .loop-test .taken in
     let k : l .i < length (now (a .s)) = omega (arith, l .inv .0) in (
       l .inv .0,
-      holds-step mark (bits (now (a .front))) (bits (now (a .s))) (l .i) (rw (length-bits (now (a .front))) h) (rw (length-bits (now (a .s))) k)
-          (rw (getD-bits (now (a .s)) (l .i) k, getD-bits (now (a .front)) (l .i) h) (sym (c .before .is-same .ensures) ∙ not-false _ (c .if2 .left)))
+      holds-step mark (bits (now (a .front))) (bits (now (a .s))) (l .i) (rw (length-bits (now (a .front))) h)
+          (rw (length-bits (now (a .s))) k)
+          (rw (getD-bits (now (a .s)) (l .i) k, getD-bits (now (a .front)) (l .i) h) (sym (c .before .is-same .ensures)
+          ∙ not-false _ (c .if2 .left)))
           (l .inv .1),
     )
 
@@ -91,7 +97,9 @@ returns-3 c =
     let a = c .before .before .before .before .before .before .before .args in
     let l = c .before .before .before .loop in
     let e : length (bits (now (a .front))) ≤ l .i = rw (length-bits (now (a .front))) (c .before .before .loop-test .left) in
-    sym (holds-end mark (bits (now (a .front))) (bits (now (a .s))) (l .i) e (l .inv .1) ∙ rw (length-bits (now (a .front)), drop-bits (length (now (a .front))) (now (a .s))) (sym (rw (tail-part (now (a .s)) (length (now (a .front)))) at (c .are-all .ensures))))
+    sym (holds-end mark (bits (now (a .front))) (bits (now (a .s))) (l .i) e (l .inv .1)
+    ∙ rw (length-bits (now (a .front)), drop-bits (length (now (a .front))) (now (a .s)))
+    (sym (rw (tail-part (now (a .s)) (length (now (a .front)))) at (c .are-all .ensures))))
 
 pub holds-spec : {M : Type 1} → statement M
 holds-spec =

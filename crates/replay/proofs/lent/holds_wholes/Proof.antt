@@ -53,8 +53,11 @@ loop-again : tie.Need-loop-again Inv-loop μ-loop
 loop-again c =
     let a = c .before .before .before .before .before .before .before .before .args in
     let l = c .before .before .before .before .loop in
-    let h = c .before .before .before .loop-test .taken in
-    (l .inv .0, holds-step wholeMark (now (a .front)) (now (a .s)) (l .i) h (omega (arith, l .inv .0)) (eq-eqb _ _ (c .if2 .left)) (l .inv .1))
+    let h = c .before .before .before .loop-test .taken in (
+      l .inv .0,
+      holds-step wholeMark (now (a .front)) (now (a .s)) (l .i) h (omega (arith, l .inv .0))
+          (eq-eqb _ _ (c .if2 .left)) (l .inv .1),
+    )
 
 mul-are-all-wholes : tie.Need-mul-are-all-wholes Inv-loop μ-loop
 mul-are-all-wholes c = search needs
@@ -75,7 +78,8 @@ returns-3 : tie.Need-returns-3 Inv-loop μ-loop
 returns-3 c =
     let a = c .before .before .before .before .before .before .before .args in
     let l = c .before .before .before .loop in
-    sym (holds-end wholeMark (now (a .front)) (now (a .s)) (l .i) (c .before .before .loop-test .left) (l .inv .1) ∙ sym (rw (tail-part (now (a .s)) (length (now (a .front)))) at (c .are-all-wholes .ensures)))
+    sym (holds-end wholeMark (now (a .front)) (now (a .s)) (l .i) (c .before .before .loop-test .left) (l .inv .1)
+    ∙ sym (rw (tail-part (now (a .s)) (length (now (a .front)))) at (c .are-all-wholes .ensures)))
 
 pub holds-wholes-spec : {M : Type 1} → statement M
 holds-wholes-spec =

@@ -1,11 +1,11 @@
 -- `marks` meets its contract. Assumes nothing.
 use mathlib.Core.Path.{refl}
-use Rattle.replay.specs.Lent as S
+use Rattle.replay.specs.Lent as Lent
 use Rattle.replay.proofs.lent.marks.Statement.{statement}
 use Rattle.replay.proofs.lent.marks.Tie as tie
 
 returns : tie.Need-returns
-unfolding S.marks
+unfolding Lent.marks
 returns c = refl
 
 pub marks-spec : {M : Type 1} → statement M

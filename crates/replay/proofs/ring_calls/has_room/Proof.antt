@@ -1,19 +1,19 @@
 -- `has_room` meets its contract. Assumes nothing.
 use borrow.Author.Tests.{le-leb, lt-leb}
-use Rattle.replay.specs.Calls.{ringRoom}
+use Rattle.replay.specs.Calls.{ringFits}
 use Rattle.replay.proofs.ring_calls.has_room.Statement.{statement}
 use Rattle.replay.proofs.ring_calls.has_room.Tie as tie
 
 returns : tie.Need-returns
-unfolding ringRoom
+unfolding ringFits
 returns c = rw (lt-leb _ _ (c .if1 .taken))
 
 returns-2 : tie.Need-returns-2
-unfolding ringRoom
+unfolding ringFits
 returns-2 c = rw (le-leb _ _ (c .before .before .if1 .left), lt-leb _ _ (c .if2 .taken))
 
 returns-3 : tie.Need-returns-3
-unfolding ringRoom
+unfolding ringFits
 returns-3 c = rw (le-leb _ _ (c .before .before .before .if1 .left), le-leb _ _ (c .before .if2 .left))
 
 pub has-room-spec : {M : Type 1} → statement M

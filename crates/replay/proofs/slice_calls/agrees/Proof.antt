@@ -9,7 +9,8 @@ polygon-requires : tie.Need-polygon-requires
 polygon-requires c κs = search needs
 
 of-slice-requires : tie.Need-of-slice-requires
-of-slice-requires c κs = slice-fits _ _ _ _ _ _ _ (c .before .before .before .before .before .before .before .before .before .before .polygon .ensures .0)
+of-slice-requires c κs =
+    slice-fits _ _ _ _ _ _ _ (c .before .before .before .before .before .before .before .before .before .before .polygon .ensures .0)
 
 slices-agree-requires : tie.Need-slices-agree-requires
 slices-agree-requires c κs = search needs
@@ -32,7 +33,8 @@ same-length-5 c = search needs
 returns : tie.Need-returns
 unfolding sliceAgrees
 returns c =
-    let e = c .before .before .before .before .before .before .before .before .before .before .before .before .before .before .before .before .before .polygon .ensures in
+    let e = c .before .before .before .before .before .before .before .before .before .before .before .before .before .before .before
+    .before .before .polygon .ensures in
     rw (← e .0, ← c .before .before .before .before .before .before .of-slice .ensures, ← e .1) (c .slices-agree .ensures)
 
 pub agrees-spec : {M : Type 1} → statement M

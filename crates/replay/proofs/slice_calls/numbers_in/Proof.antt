@@ -1,4 +1,5 @@
--- `numbers_in` meets its contract. The invariant: the sum so far has room, and with the lengths that are left it is the whole sum. Assumes nothing.
+-- `numbers_in` meets its contract. The invariant: the sum so far has room, and with the lengths that are left it is the whole sum. Assumes
+-- nothing.
 use mathlib.Core.Path.{_≡_}
 use mathlib.Core.List.{List}
 use Prim.Native.Nat.{ℕ, _+_, _*_, _-_, _<_, _≤_}
@@ -9,20 +10,20 @@ use borrow.Author.Tests.{le-leb, lt-leb}
 use denote.Ref.{now}
 use lib.ListN.{length, getD, drop, drop-of-length-le}
 use lib.Seq.{drop-cons}
-use Rattle.rings.specs.Rings as R
+use Rattle.rings.specs.LentRings as LentRings
 use Rattle.replay.proofs.slice_calls.numbers_in.Statement.{statement}
 use Rattle.replay.proofs.slice_calls.numbers_in.Tie as tie
 
-sum-at : (l : List ℕ) (i : ℕ) → i < length l → R.sum (drop i l) ≡ getD l i 0 + R.sum (drop (i + 1) l)
-unfolding R.sum
+sum-at : (l : List ℕ) (i : ℕ) → i < length l → LentRings.sum (drop i l) ≡ getD l i 0 + LentRings.sum (drop (i + 1) l)
+unfolding LentRings.sum
 sum-at l i h = rw (add-one i, drop-cons l i 0 h)
 
-sum-end : (l : List ℕ) (i : ℕ) → length l ≤ i → R.sum (drop i l) ≡ 0
-unfolding R.sum
+sum-end : (l : List ℕ) (i : ℕ) → length l ≤ i → LentRings.sum (drop i l) ≡ 0
+unfolding LentRings.sum
 sum-end l i h = rw (drop-of-length-le l h)
 
 abbrev Inv-loop : tie.InvT-loop
-Inv-loop lengths sum₀ i₀ sum i = (i ≤ length lengths) × (sum ≤ 2048) × (sum + R.sum (drop i lengths) ≡ R.sum lengths)
+Inv-loop lengths sum₀ i₀ sum i = (i ≤ length lengths) × (sum ≤ 2048) × (sum + LentRings.sum (drop i lengths) ≡ LentRings.sum lengths)
 
 abbrev μ-loop : tie.MeasureT-loop
 μ-loop lengths sum₀ i₀ sum i = length lengths - i
@@ -49,8 +50,13 @@ returns : tie.Need-returns Inv-loop μ-loop
 returns c =
     let s = now (c .before .before .before .before .before .before .args .lengths) in
     let l = c .before .before .before .before .loop in
-    let q : 4096 < 2 * R.sum s = omega (arith, sum-at s (l .i) (c .before .before .before .loop-test .taken), l .inv .2, c .before .wide .ensures .0) in
-    rw (lt-leb (2 * R.sum s) 4096 q)
+    let q : 4096 < 2 * LentRings.sum s = omega (
+      arith,
+      sum-at s (l .i) (c .before .before .before .loop-test .taken),
+      l .inv .2,
+      c .before .wide .ensures .0,
+    ) in
+    rw (lt-leb (2 * LentRings.sum s) 4096 q)
 
 add-i : tie.Need-add-i Inv-loop μ-loop
 add-i c = search needs
@@ -60,8 +66,17 @@ loop-less c = search needs
 
 loop-again : tie.Need-loop-again Inv-loop μ-loop
 loop-again c =
-    let l = c .before .before .before .before .loop in
-    (search needs, search needs, omega (arith, sum-at (now (c .before .before .before .before .before .before .args .lengths)) (l .i) (c .before .before .before .loop-test .taken), l .inv .2, c .before .wide .ensures .0))
+    let l = c .before .before .before .before .loop in (
+      search needs,
+      search needs,
+      omega (
+        arith,
+        sum-at (now (c .before .before .before .before .before .before .args .lengths)) (l .i)
+            (c .before .before .before .loop-test .taken),
+        l .inv .2,
+        c .before .wide .ensures .0,
+      ),
+    )
 
 mul-result : tie.Need-mul-result Inv-loop μ-loop
 mul-result c = search needs
@@ -71,8 +86,8 @@ returns-2 c =
     let s = now (c .before .before .before .args .lengths) in
     let l = c .before .loop in
     let z = sum-end s (l .i) (c .loop-test .left) in
-    let q : 2 * R.sum s ≤ 4096 = omega (arith, z, l .inv .1, l .inv .2) in
-    rw (le-leb (2 * R.sum s) 4096 q) (omega (arith, z, l .inv .2))
+    let q : 2 * LentRings.sum s ≤ 4096 = omega (arith, z, l .inv .1, l .inv .2) in
+    rw (le-leb (2 * LentRings.sum s) 4096 q) (omega (arith, z, l .inv .2))
 
 pub numbers-in-spec : {M : Type 1} → statement M
 numbers-in-spec =

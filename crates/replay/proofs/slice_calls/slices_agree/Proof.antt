@@ -18,7 +18,9 @@ wholes-agree-requires : tie.Need-wholes-agree-requires
 wholes-agree-requires c κs = search needs
 
 returns-2 : tie.Need-returns-2
-returns-2 c = rw (sym (c .before .before .before .answer-agrees .ensures) ∙ not-false _ (c .before .before .if1 .left)) (rw (c .before .is-refusal .ensures) at (c .wholes-agree .ensures))
+returns-2 c =
+    rw (sym (c .before .before .before .answer-agrees .ensures) ∙ not-false _ (c .before .before .if1 .left))
+    (rw (c .before .is-refusal .ensures) at (c .wholes-agree .ensures))
 
 pub slices-agree-spec : {M : Type 1} → statement M
 slices-agree-spec =

@@ -16,32 +16,78 @@ runs-along-requires c κs = search needs
 
 returns-2 : tie.Need-returns-2
 unfolding bridgeOf
-returns-2 c = rw (← c .before .before .before .is-short .ensures, c .before .before .if1 .left, ← c .before .runs-along .ensures, c .if2 .taken)
+returns-2 c =
+    rw (← c .before .before .before .is-short .ensures, c .before .before .if1 .left, ← c .before .runs-along .ensures, c .if2 .taken)
 
 runs-along-requires-2 : tie.Need-runs-along-requires-2
 runs-along-requires-2 c κs = search needs
 
 returns-3 : tie.Need-returns-3
 unfolding bridgeOf
-returns-3 c = rw (← c .before .before .before .before .before .is-short .ensures, c .before .before .before .before .if1 .left, ← c .before .before .before .runs-along .ensures, c .before .before .if2 .left, ← c .before .runs-along2 .ensures, c .if3 .taken)
+returns-3 c =
+    rw (
+      ← c .before .before .before .before .before .is-short .ensures,
+      c .before .before .before .before .if1 .left,
+      ←
+          c .before .before .before .runs-along .ensures,
+      c .before .before .if2 .left,
+      ← c .before .runs-along2 .ensures,
+      c .if3 .taken,
+    )
 
 runs-along-requires-3 : tie.Need-runs-along-requires-3
 runs-along-requires-3 c κs = search needs
 
 returns-4 : tie.Need-returns-4
 unfolding bridgeOf
-returns-4 c = rw (← c .before .before .before .before .before .before .before .is-short .ensures, c .before .before .before .before .before .before .if1 .left, ← c .before .before .before .before .before .runs-along .ensures, c .before .before .before .before .if2 .left, ← c .before .before .before .runs-along2 .ensures, c .before .before .if3 .left, ← c .before .runs-along3 .ensures, c .if4 .taken)
+returns-4 c = rw (
+  ← c .before .before .before .before .before .before .before .is-short .ensures,
+  c .before .before .before .before .before .before .if1 .left,
+  ← c .before .before .before .before .before .runs-along .ensures,
+  c .before .before .before .before .if2 .left,
+  ← c .before .before .before .runs-along2 .ensures,
+  c .before .before .if3 .left,
+  ←
+      c .before .runs-along3 .ensures,
+  c .if4 .taken,
+)
 
 runs-along-requires-4 : tie.Need-runs-along-requires-4
 runs-along-requires-4 c κs = search needs
 
 returns-5 : tie.Need-returns-5
 unfolding bridgeOf
-returns-5 c = rw (← c .before .before .before .before .before .before .before .before .before .is-short .ensures, c .before .before .before .before .before .before .before .before .if1 .left, ← c .before .before .before .before .before .before .before .runs-along .ensures, c .before .before .before .before .before .before .if2 .left, ← c .before .before .before .before .before .runs-along2 .ensures, c .before .before .before .before .if3 .left, ← c .before .before .before .runs-along3 .ensures, c .before .before .if4 .left, ← c .before .runs-along4 .ensures, c .if5 .taken)
+returns-5 c = rw (
+  ← c .before .before .before .before .before .before .before .before .before .is-short .ensures,
+  c .before .before .before .before .before .before .before .before .if1 .left,
+  ←
+      c .before .before .before .before .before .before .before .runs-along .ensures,
+  c .before .before .before .before .before .before .if2 .left,
+  ← c .before .before .before .before .before .runs-along2 .ensures,
+  c .before .before .before .before .if3 .left,
+  ← c .before .before .before .runs-along3 .ensures,
+  c .before .before .if4 .left,
+  ←
+      c .before .runs-along4 .ensures,
+  c .if5 .taken,
+)
 
 returns-6 : tie.Need-returns-6
 unfolding bridgeOf
-returns-6 c = rw (← c .before .before .before .before .before .before .before .before .before .is-short .ensures, c .before .before .before .before .before .before .before .before .if1 .left, ← c .before .before .before .before .before .before .before .runs-along .ensures, c .before .before .before .before .before .before .if2 .left, ← c .before .before .before .before .before .runs-along2 .ensures, c .before .before .before .before .if3 .left, ← c .before .before .before .runs-along3 .ensures, c .before .before .if4 .left, ← c .before .runs-along4 .ensures, c .if5 .left)
+returns-6 c = rw (
+  ← c .before .before .before .before .before .before .before .before .before .is-short .ensures,
+  c .before .before .before .before .before .before .before .before .if1 .left,
+  ←
+      c .before .before .before .before .before .before .before .runs-along .ensures,
+  c .before .before .before .before .before .before .if2 .left,
+  ← c .before .before .before .before .before .runs-along2 .ensures,
+  c .before .before .before .before .if3 .left,
+  ← c .before .before .before .runs-along3 .ensures,
+  c .before .before .if4 .left,
+  ←
+      c .before .runs-along4 .ensures,
+  c .if5 .left,
+)
 
 pub bridge-of-spec : {M : Type 1} → statement M
 bridge-of-spec =

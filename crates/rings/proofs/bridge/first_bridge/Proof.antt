@@ -18,7 +18,8 @@ none : Coord
 none = record { x = nan; y = nan }
 
 abbrev Inv-loop : tie.InvT-loop
-Inv-loop ring n bounds k₀ k = (k ≤ n) × (firstBridge bounds (coords (take (2 * n) ring)) ≡ firstBridge bounds (drop k (coords (take (2 * n) ring))))
+Inv-loop ring n bounds k₀ k =
+    (k ≤ n) × (firstBridge bounds (coords (take (2 * n) ring)) ≡ firstBridge bounds (drop k (coords (take (2 * n) ring))))
 
 abbrev μ-loop : tie.MeasureT-loop
 μ-loop ring n bounds k₀ k = n - k
@@ -52,7 +53,9 @@ returns c =
     let l = c .before .before .before .before .before .before .before .loop in
     let m = length-front s n (a .pre) in
     let t : l .k + 1 < n = omega (arith, c .before .before .before .before .before .before .loop-test .taken) in
-    let e = sym (c .before .before .before .bridge-of .ensures ∙ ap₂ (bridgeOf (a .args .bounds)) (c .before .before .before .before .before .coord-at .ensures ∙ sym (front-at s n (l .k) none (a .pre) (omega arith))) (c .before .before .before .before .coord-at2 .ensures ∙ sym (front-at s n (l .k + 1) none (a .pre) t)))
+    let e = sym (c .before .before .before .bridge-of .ensures ∙ ap₂ (bridgeOf (a .args .bounds))
+    (c .before .before .before .before .before .coord-at .ensures ∙ sym (front-at s n (l .k) none (a .pre) (omega arith)))
+    (c .before .before .before .before .coord-at2 .ensures ∙ sym (front-at s n (l .k + 1) none (a .pre) t)))
     ∙ c .before .found .given .1 in
     sym (l .inv .1 ∙ bridge-here (a .args .bounds) (coords (take (2 * n) s)) (l .k) none (omega arith) _ e)
 
@@ -73,7 +76,9 @@ loop-again c =
     let l = c .before .before .before .before .before .before .loop in
     let m = length-front s n (a .pre) in
     let t : l .k + 1 < n = omega (arith, c .before .before .before .before .before .loop-test .taken) in
-    let e = sym (c .before .before .bridge-of .ensures ∙ ap₂ (bridgeOf (a .args .bounds)) (c .before .before .before .before .coord-at .ensures ∙ sym (front-at s n (l .k) none (a .pre) (omega arith))) (c .before .before .before .coord-at2 .ensures ∙ sym (front-at s n (l .k + 1) none (a .pre) t)))
+    let e = sym (c .before .before .bridge-of .ensures ∙ ap₂ (bridgeOf (a .args .bounds))
+    (c .before .before .before .before .coord-at .ensures ∙ sym (front-at s n (l .k) none (a .pre) (omega arith)))
+    (c .before .before .before .coord-at2 .ensures ∙ sym (front-at s n (l .k + 1) none (a .pre) t)))
     ∙ c .enum-told .given .1 in
     (search needs, l .inv .1 ∙ bridge-later (a .args .bounds) (coords (take (2 * n) s)) (l .k) none (omega arith) e)
 
@@ -81,7 +86,8 @@ returns-2 : tie.Need-returns-2 Inv-loop μ-loop
 returns-2 c =
     let a = c .before .before .before in
     let m = length-front (now (a .args .ring)) (a .args .n) (a .pre) in
-    sym (c .before .loop .inv .1 ∙ bridge-none (a .args .bounds) (coords (take (2 * a .args .n) (now (a .args .ring)))) (c .before .loop .k) (omega arith))
+    sym (c .before .loop .inv .1 ∙ bridge-none (a .args .bounds) (coords (take (2 * a .args .n) (now (a .args .ring))))
+    (c .before .loop .k) (omega arith))
 
 pub first-bridge-spec : {M : Type 1} → statement M
 first-bridge-spec =

@@ -8,19 +8,25 @@ use borrow.Author.Needs.{needs}
 use Rattle.binary64.proofs.Fill.{tail-part}
 use Rattle.tile.specs.Ring.{coords as coordinates, close}
 use Rattle.tile.proofs.Rings.{length-front, close-most}
-use Rattle.rings.specs.Rings.{closedRings, total}
+use Rattle.rings.specs.LentRings.{closedRings, total}
 use Rattle.rings.proofs.LentRings.{Left, left-start, left-ring, left-next, total-step, total-end}
 use Rattle.rings.proofs.lent.closed_sum.Statement.{statement}
 use Rattle.rings.proofs.lent.closed_sum.Tie as tie
 
 abbrev Inv-loop : tie.InvT-loop
-Inv-loop coords lengths count₀ at₀ k₀ count at k = Left lengths coords k at × (total length (closedRings lengths coords) ≡ count + total length (closedRings (drop k lengths) (drop at coords))) × (count ≤ at + k)
+Inv-loop coords lengths count₀ at₀ k₀ count at k =
+    Left lengths coords k at × (total length (closedRings lengths coords) ≡ count + total length
+    (closedRings (drop k lengths) (drop at coords))) × (count ≤ at + k)
 
 abbrev μ-loop : tie.MeasureT-loop
 μ-loop coords lengths count₀ at₀ k₀ count at k = length lengths - k
 
 loop-holds : tie.Need-loop-holds Inv-loop μ-loop
-loop-holds c = (left-start (now (c .before .before .args .lengths)) (now (c .before .before .args .coords)) (c .before .before .pre), omega arith, omega arith)
+loop-holds c = (
+  left-start (now (c .before .before .args .lengths)) (now (c .before .before .args .coords)) (c .before .before .pre),
+  omega arith,
+  omega arith,
+)
 
 mul-n : tie.Need-mul-n Inv-loop μ-loop
 mul-n c = search needs
@@ -49,7 +55,12 @@ closed-count-requires : tie.Need-closed-count-requires Inv-loop μ-loop
 closed-count-requires c κs =
     let a = c .before .before .before .before .before .before .args in
     let l = c .before .before .before .loop in
-    omega (arith, c .closed-count-arg .given .1, left-ring (now (a .lengths)) (now (a .coords)) (l .k) (l .at) (c .before .before .loop-test .taken) (l .inv .0))
+    omega (
+      arith,
+      c .closed-count-arg .given .1,
+      left-ring (now (a .lengths)) (now (a .coords)) (l .k) (l .at)
+          (c .before .before .loop-test .taken) (l .inv .0),
+    )
 
 add-count : tie.Need-add-count Inv-loop μ-loop
 add-count c =
@@ -72,7 +83,12 @@ mul-at c =
 add-at : tie.Need-add-at Inv-loop μ-loop
 add-at c =
     let l = c .before .before .before .before .loop in
-    omega (arith, left-ring (now (c .before .before .before .before .before .before .before .args .lengths)) (now (c .before .before .before .before .before .before .before .args .coords)) (l .k) (l .at) (c .before .before .before .loop-test .taken) (l .inv .0))
+    omega (
+      arith,
+      left-ring (now (c .before .before .before .before .before .before .before .args .lengths))
+          (now (c .before .before .before .before .before .before .before .args .coords)) (l .k) (l .at)
+          (c .before .before .before .loop-test .taken) (l .inv .0),
+    )
 
 add-k : tie.Need-add-k Inv-loop μ-loop
 add-k c = search needs
@@ -90,13 +106,21 @@ loop-again c =
     let f = left-ring ns s (l .k) (l .at) h (l .inv .0) in
     let ring = coordinates (take (2 * n) (drop (l .at) s)) in
     let e : c .closed-count .result ≡ length (close ring) = c .closed-count .ensures ∙ rw (tail-part s (l .at)) in
-    let m = length-front (drop (l .at) s) n (omega (arith, length-drop (l .at) s)) in
-    (left-next ns s (l .k) (l .at) h (l .inv .0), omega (arith, l .inv .1, total-step length ns s (l .k) (l .at) h), omega (arith, close-most ring, l .inv .2))
+    let m = length-front (drop (l .at) s) n (omega (arith, length-drop (l .at) s)) in (
+      left-next ns s (l .k) (l .at) h (l .inv .0),
+      omega (arith, l .inv .1, total-step length ns s (l .k) (l .at) h),
+      omega (arith, close-most ring, l .inv .2),
+    )
 
 returns : tie.Need-returns Inv-loop μ-loop
 returns c =
     let l = c .before .loop in
-    omega (arith, l .inv .1, total-end length (now (c .before .before .before .before .args .lengths)) (now (c .before .before .before .before .args .coords)) (l .k) (l .at) (c .loop-test .left))
+    omega (
+      arith,
+      l .inv .1,
+      total-end length (now (c .before .before .before .before .args .lengths))
+          (now (c .before .before .before .before .args .coords)) (l .k) (l .at) (c .loop-test .left),
+    )
 
 pub closed-sum-spec : {M : Type 1} → statement M
 closed-sum-spec =

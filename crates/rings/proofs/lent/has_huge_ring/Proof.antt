@@ -9,13 +9,14 @@ use lib.ListN.{length, getD, take, drop}
 use Rattle.binary64.proofs.Fill.{tail-part}
 use Rattle.tile.specs.Ring.{coords as coordinates}
 use Rattle.rings.specs.Representable.{anyHuge, anyHugeRing}
-use Rattle.rings.specs.Rings.{closedRings}
+use Rattle.rings.specs.LentRings.{closedRings}
 use Rattle.rings.proofs.LentRings.{Left, left-start, left-ring, left-next, huge-step, huge-end}
 use Rattle.rings.proofs.lent.has_huge_ring.Statement.{statement}
 use Rattle.rings.proofs.lent.has_huge_ring.Tie as tie
 
 abbrev Inv-loop : tie.InvT-loop
-Inv-loop coords lengths at₀ k₀ at k = Left lengths coords k at × (anyHugeRing (closedRings lengths coords) ≡ anyHugeRing (closedRings (drop k lengths) (drop at coords)))
+Inv-loop coords lengths at₀ k₀ at k =
+    Left lengths coords k at × (anyHugeRing (closedRings lengths coords) ≡ anyHugeRing (closedRings (drop k lengths) (drop at coords)))
 
 abbrev μ-loop : tie.MeasureT-loop
 μ-loop coords lengths at₀ k₀ at k = length lengths - k
@@ -50,14 +51,20 @@ has-huge-requires : tie.Need-has-huge-requires Inv-loop μ-loop
 has-huge-requires c κs =
     let a = c .before .before .before .before .before .before .args in
     let l = c .before .before .before .loop in
-    omega (arith, c .has-huge-arg .given .1, left-ring (now (a .lengths)) (now (a .coords)) (l .k) (l .at) (c .before .before .loop-test .taken) (l .inv .0))
+    omega (
+      arith,
+      c .has-huge-arg .given .1,
+      left-ring (now (a .lengths)) (now (a .coords)) (l .k) (l .at)
+          (c .before .before .loop-test .taken) (l .inv .0),
+    )
 
 returns : tie.Need-returns Inv-loop μ-loop
 returns c =
     let s = now (c .before .before .before .before .before .before .before .before .args .coords) in
     let ns = now (c .before .before .before .before .before .before .before .before .args .lengths) in
     let l = c .before .before .before .before .before .loop in
-    let e : anyHuge (coordinates (take (2 * getD ns (l .k) 0) (drop (l .at) s))) ≡ true = sym (c .before .has-huge .ensures ∙ rw (tail-part s (l .at))) ∙ c .if1 .taken in
+    let e : anyHuge (coordinates (take (2 * getD ns (l .k) 0) (drop (l .at) s))) ≡ true =
+    sym (c .before .has-huge .ensures ∙ rw (tail-part s (l .at))) ∙ c .if1 .taken in
     sym (l .inv .1 ∙ huge-step ns s (l .k) (l .at) (c .before .before .before .before .loop-test .taken) ∙ rw e)
 
 mul-at : tie.Need-mul-at Inv-loop μ-loop
@@ -68,7 +75,12 @@ mul-at c =
 add-at : tie.Need-add-at Inv-loop μ-loop
 add-at c =
     let l = c .before .before .before .before .before .loop in
-    omega (arith, left-ring (now (c .before .before .before .before .before .before .before .before .args .lengths)) (now (c .before .before .before .before .before .before .before .before .args .coords)) (l .k) (l .at) (c .before .before .before .before .loop-test .taken) (l .inv .0))
+    omega (
+      arith,
+      left-ring (now (c .before .before .before .before .before .before .before .before .args .lengths))
+          (now (c .before .before .before .before .before .before .before .before .args .coords)) (l .k) (l .at)
+          (c .before .before .before .before .loop-test .taken) (l .inv .0),
+    )
 
 add-k : tie.Need-add-k Inv-loop μ-loop
 add-k c = search needs
@@ -82,13 +94,15 @@ loop-again c =
     let ns = now (c .before .before .before .before .before .before .before .before .args .lengths) in
     let l = c .before .before .before .before .before .loop in
     let h = c .before .before .before .before .loop-test .taken in
-    let e : anyHuge (coordinates (take (2 * getD ns (l .k) 0) (drop (l .at) s))) ≡ false = sym (c .before .has-huge .ensures ∙ rw (tail-part s (l .at))) ∙ c .if1 .left in
+    let e : anyHuge (coordinates (take (2 * getD ns (l .k) 0) (drop (l .at) s))) ≡ false =
+    sym (c .before .has-huge .ensures ∙ rw (tail-part s (l .at))) ∙ c .if1 .left in
     (left-next ns s (l .k) (l .at) h (l .inv .0), l .inv .1 ∙ huge-step ns s (l .k) (l .at) h ∙ rw e)
 
 returns-2 : tie.Need-returns-2 Inv-loop μ-loop
 returns-2 c =
     let l = c .before .loop in
-    sym (l .inv .1 ∙ huge-end (now (c .before .before .before .before .args .lengths)) (now (c .before .before .before .before .args .coords)) (l .k) (l .at) (c .loop-test .left))
+    sym (l .inv .1 ∙ huge-end (now (c .before .before .before .before .args .lengths))
+    (now (c .before .before .before .before .args .coords)) (l .k) (l .at) (c .loop-test .left))
 
 pub has-huge-ring-spec : {M : Type 1} → statement M
 has-huge-ring-spec =

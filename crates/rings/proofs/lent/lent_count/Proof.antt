@@ -5,7 +5,7 @@ use native.Mathlib.Omega.{arith}
 use denote.Ref.{now}
 use lib.ListN.{length, drop}
 use borrow.Author.Needs.{needs}
-use Rattle.rings.specs.Rings.{sum}
+use Rattle.rings.specs.LentRings.{sum}
 use Rattle.rings.proofs.LentRings.{sum-step, sum-end}
 use Rattle.rings.proofs.lent.lent_count.Statement.{statement}
 use Rattle.rings.proofs.lent.lent_count.Tie as tie

@@ -29,7 +29,8 @@ returns-2 c = rw (c .enum-told2 .given .1)
 
 returns-3 : tie.Need-returns-3
 unfolding intersectsBounds
-returns-3 c = rw (c .before .before .before .before .r .given .1, ← c .before .before .reaches .ensures, c .before .if1 .taken) (c .reaches2 .ensures)
+returns-3 c =
+    rw (c .before .before .before .before .r .given .1, ← c .before .before .reaches .ensures, c .before .if1 .taken) (c .reaches2 .ensures)
 
 returns-4 : tie.Need-returns-4
 unfolding intersectsBounds

@@ -29,7 +29,9 @@ returns-2 c = rw (c .enum-told2 .given .1)
 
 returns-3 : tie.Need-returns-3
 unfolding isFullyInside
-returns-3 c = rw (c .before .before .before .before .r .given .1, ← c .before .before .lies-between .ensures, c .before .if1 .taken) (c .lies-between2 .ensures)
+returns-3 c =
+    rw (c .before .before .before .before .r .given .1, ← c .before .before .lies-between .ensures, c .before .if1 .taken)
+    (c .lies-between2 .ensures)
 
 returns-4 : tie.Need-returns-4
 unfolding isFullyInside

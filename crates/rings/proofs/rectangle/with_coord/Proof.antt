@@ -37,7 +37,13 @@ maximum-requires-2 c κs = search needs
 
 returns-2 : tie.Need-returns-2
 unfolding withCoord
-returns-2 c = rw (c .before .before .before .before .before .before .before .r .given .1, ← c .before .before .before .before .before .is-finite-coord2 .ensures, c .before .before .before .before .if2 .taken) (cc)
+returns-2 c =
+    rw (
+      c .before .before .before .before .before .before .before .r .given .1,
+      ←
+          c .before .before .before .before .before .is-finite-coord2 .ensures,
+      c .before .before .before .before .if2 .taken,
+    ) (cc)
 
 returns-3 : tie.Need-returns-3
 unfolding withCoord

@@ -1,4 +1,5 @@
--- `with_ring` meets its contract: the first coordinate leaves a rectangle of four numbers that are no NaN, or one that is not finite. Assumes nothing.
+-- `with_ring` meets its contract: the first coordinate leaves a rectangle of four numbers that are no NaN, or one that is not finite.
+-- Assumes nothing.
 use mathlib.Core.Path.{sym, _∙_, ap, subst}
 use Prim.Native.Nat.{_*_}
 use native.Mathlib.Omega.{arith}
@@ -39,14 +40,18 @@ box-with-rest-requires : tie.Need-box-with-rest-requires
 box-with-rest-requires c κs =
     let w = c .before .before .before in
     let a = w .before .before .before .before in
-    let p = w .before .coord-at .result in
-    (corners-numbers p _ _ _ _ (subst (Holds p) (sym (w .with-coord .ensures) ∙ c .before .west .given .1) (holds-new p (a .args .r))), a .pre)
+    let p = w .before .coord-at .result in (
+      corners-numbers p _ _ _ _ (subst (Holds p) (sym (w .with-coord .ensures) ∙ c .before .west .given .1)
+          (holds-new p (a .args .r))),
+      a .pre,
+    )
 
 returns-2 : tie.Need-returns-2
 returns-2 c =
     let w = c .before .before in
     let p = w .before .coord-at .result in
-    absurd (subst (Holds p) (sym (w .with-coord .ensures) ∙ c .enum-told .given .1) (holds-new p (w .before .before .before .before .args .r)))
+    absurd (subst (Holds p) (sym (w .with-coord .ensures) ∙ c .enum-told .given .1)
+    (holds-new p (w .before .before .before .before .args .r)))
 
 returns-3 : tie.Need-returns-3
 returns-3 c =
@@ -55,7 +60,8 @@ returns-3 c =
     let s = now (a .args .ring) in
     let rest = drop 1 (coords (take (2 * a .args .n) s)) in
     let first = ap (withCoord (a .args .r)) (sym (w .before .coord-at .ensures)) ∙ sym (w .with-coord .ensures) in
-    sym (ring-first (a .args .r) s (a .args .n) (a .pre) (omega (arith, w .before .before .if1 .left)) ∙ ap (λ (r : Rect). withRing r rest) (first ∙ c .enum-told2 .given .1) ∙ stays-ring rest)
+    sym (ring-first (a .args .r) s (a .args .n) (a .pre) (omega (arith, w .before .before .if1 .left))
+    ∙ ap (λ (r : Rect). withRing r rest) (first ∙ c .enum-told2 .given .1) ∙ stays-ring rest)
 
 returns-4 : tie.Need-returns-4
 returns-4 c =
@@ -64,7 +70,8 @@ returns-4 c =
     let s = now (a .args .ring) in
     let rest = drop 1 (coords (take (2 * a .args .n) s)) in
     let first = ap (withCoord (a .args .r)) (sym (w .before .coord-at .ensures)) ∙ sym (w .with-coord .ensures) in
-    sym (ring-first (a .args .r) s (a .args .n) (a .pre) (omega (arith, w .before .before .if1 .left)) ∙ ap (λ (r : Rect). withRing r rest) (first ∙ c .before .before .west .given .1) ∙ sym (c .box-with-rest .ensures))
+    sym (ring-first (a .args .r) s (a .args .n) (a .pre) (omega (arith, w .before .before .if1 .left))
+    ∙ ap (λ (r : Rect). withRing r rest) (first ∙ c .before .before .west .given .1) ∙ sym (c .box-with-rest .ensures))
 
 pub with-ring-spec : {M : Type 1} → statement M
 with-ring-spec =

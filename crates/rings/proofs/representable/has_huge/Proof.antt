@@ -39,7 +39,9 @@ returns c =
     let n = a .args .n in
     let l = c .before .before .before .before .loop in
     let m = length-front s n (a .pre) in
-    let e = sym (c .before .is-huge-coord .ensures ∙ ap hugeCoord (c .before .before .coord-at .ensures ∙ sym (front-at s n (l .i) none (a .pre) (c .before .before .before .loop-test .taken)))) ∙ c .if1 .taken in
+    let e = sym (c .before .is-huge-coord .ensures
+    ∙ ap hugeCoord (c .before .before .coord-at .ensures
+    ∙ sym (front-at s n (l .i) none (a .pre) (c .before .before .before .loop-test .taken)))) ∙ c .if1 .taken in
     sym (l .inv .1 ∙ huge-here (coords (take (2 * n) s)) (l .i) none (omega arith) e)
 
 add-i : tie.Need-add-i Inv-loop μ-loop
@@ -55,7 +57,9 @@ loop-again c =
     let n = a .args .n in
     let l = c .before .before .before .before .loop in
     let m = length-front s n (a .pre) in
-    let e = sym (c .before .is-huge-coord .ensures ∙ ap hugeCoord (c .before .before .coord-at .ensures ∙ sym (front-at s n (l .i) none (a .pre) (c .before .before .before .loop-test .taken)))) ∙ c .if1 .left in
+    let e = sym (c .before .is-huge-coord .ensures
+    ∙ ap hugeCoord (c .before .before .coord-at .ensures
+    ∙ sym (front-at s n (l .i) none (a .pre) (c .before .before .before .loop-test .taken)))) ∙ c .if1 .left in
     (search needs, l .inv .1 ∙ huge-later (coords (take (2 * n) s)) (l .i) none (omega arith) e)
 
 returns-2 : tie.Need-returns-2 Inv-loop μ-loop

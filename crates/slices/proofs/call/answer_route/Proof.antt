@@ -2,7 +2,7 @@
 use mathlib.Core.Path.{refl, ap}
 use borrow.Author.Needs.{needs}
 use Rattle.clip.specs.declared.polygon.PolygonAnswer.the-variants.{Cut}
-use Rattle.slices.specs.Slice.{numbersOf, lengthsOf}
+use Rattle.slices.specs.SliceCall.{numbersOf, lengthsOf}
 use Rattle.slices.proofs.Checks.{overlay-filled}
 use Rattle.slices.proofs.call.answer_route.Statement.{statement}
 use Rattle.slices.proofs.call.answer_route.Tie as tie
@@ -37,7 +37,11 @@ unfolding numbersOf lengthsOf
 returns-2 c = (rw (c .enum-told2 .given .1), rw (c .enum-told2 .given .1) (record { output = refl; lengths = refl }))
 
 returns-3 : tie.Need-returns-3
-returns-3 c = (rw (c .before .before .route .given .1) (c .overlay-or-dropped .ensures), rw (c .before .before .route .given .1) (overlay-filled _ _ _ _))
+returns-3 c = (
+  rw (c .before .before .route .given .1) (c .overlay-or-dropped .ensures),
+  rw (c .before .before .route .given .1)
+      (overlay-filled _ _ _ _),
+)
 
 same-length : tie.Need-same-length
 same-length c = search needs
@@ -52,7 +56,12 @@ same-length-4 : tie.Need-same-length-4
 same-length-4 c = search needs
 
 returns-4 : tie.Need-returns-4
-returns-4 c = (rw (c .before .before .before .before .before .before .before .before .before .before .before .before .before .before .route2 .given .1) (ap Cut (c .before .before .before .before .before .before .before .before .put-cut .ensures .0)), rw (c .before .before .before .before .before .before .before .before .before .before .before .before .before .before .route2 .given .1) (c .before .before .before .before .before .before .before .before .put-cut .ensures .1))
+returns-4 c = (
+  rw (c .before .before .before .before .before .before .before .before .before .before .before .before .before .before
+      .route2 .given .1) (ap Cut (c .before .before .before .before .before .before .before .before .put-cut .ensures .0)),
+  rw (c .before .before .before .before .before .before .before .before .before .before .before .before .before .before .route2 .given
+      .1) (c .before .before .before .before .before .before .before .before .put-cut .ensures .1),
+)
 
 pub answer-route-spec : {M : Type 1} → statement M
 answer-route-spec =

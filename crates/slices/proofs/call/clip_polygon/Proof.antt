@@ -3,10 +3,10 @@ use mathlib.Core.Path.{refl, sym, _∙_}
 use native.Mathlib.Omega.{arith}
 use denote.Ref.{now}
 use borrow.Author.Needs.{needs}
-use Rattle.rings.specs.declared.rectangle.Rect.the-variants as R
+use Rattle.rings.specs.declared.rectangle.Rect.the-variants as Rects
 use Rattle.rings.proofs.Closing.{all-closed, box-finite}
 use Rattle.clip.specs.Polygon.{route, routeRect}
-use Rattle.slices.specs.Slice.{numbersOf, lengthsOf}
+use Rattle.slices.specs.SliceCall.{numbersOf, lengthsOf}
 use Rattle.slices.proofs.Checks.{some-rings, passes-fit, fitting, passes-clippable}
 use Rattle.slices.proofs.Holes.{exterior-here, first-room, first-positions, same-room}
 use Rattle.slices.proofs.call.clip_polygon.Statement.{statement}
@@ -28,7 +28,10 @@ enum-known-rect : tie.Need-enum-known-rect
 enum-known-rect c = search needs
 
 shared-slice-read-n : tie.Need-shared-slice-read-n
-shared-slice-read-n c = some-rings (now (c .before .before .before .before .before .before .before .before .before .before .before .before .args .lengths)) (now (c .before .before .before .before .before .before .before .before .before .before .before .before .args .coords)) (passes-fit _ _ _ _ _ _ _ (c .before .before .before .before .before .before .before .before .before .before .before .before .pre))
+shared-slice-read-n c = some-rings (now (c .before .before .before .before .before .before .before .before .before .before .before
+    .before .args .lengths)) (now (c .before .before .before .before .before .before .before .before .before .before .before .before
+    .args .coords)) (passes-fit _ _ _ _ _ _ _ (c .before .before .before .before .before .before .before .before .before .before .before
+    .before .pre))
 
 cast-n : tie.Need-cast-n
 cast-n c =
@@ -37,26 +40,54 @@ cast-n c =
 
 route-exterior-requires : tie.Need-route-exterior-requires
 route-exterior-requires c κs =
-    let s = now (c .before .before .before .before .before .before .before .before .before .before .before .before .before .before .before .args .coords) in
-    let ns = now (c .before .before .before .before .before .before .before .before .before .before .before .before .before .before .before .args .lengths) in
-    let p = passes-clippable ns s _ _ _ _ _ (c .before .before .before .before .before .before .before .before .before .before .before .before .before .before .before .pre) (all-closed R.Nothing ns s (box-finite _ _ _ _ _ (sym (c .before .before .before .before .before .before .before .polygon-rect-all-rings .ensures) ∙ c .before .before .before .before .before .rect .given .1))) in
-    record { room = first-room ns s (p .some) _ _ _ _ (p .rings); positions = first-positions ns s (p .some) _ _ _ _ (p .rings) _ (p .positions) }
+    let s = now (c .before .before .before .before .before .before .before .before .before .before .before .before .before .before
+    .before .args .coords) in
+    let ns = now (c .before .before .before .before .before .before .before .before .before .before .before .before .before .before
+    .before .args .lengths) in
+    let p = passes-clippable ns s _ _ _ _ _ (c .before .before .before .before .before .before .before .before .before .before .before
+    .before .before .before .before .pre) (all-closed Rects.Nothing ns s
+    (box-finite _ _ _ _ _ (sym (c .before .before .before .before .before .before .before .polygon-rect-all-rings .ensures)
+    ∙ c .before .before .before .before .before .rect .given .1))) in
+    record {
+      room = first-room ns s (p .some) _ _ _ _ (p .rings);
+      positions = first-positions ns s (p .some) _ _ _ _ (p .rings) _
+          (p .positions);
+    }
 
 answer-route-requires : tie.Need-answer-route-requires
 answer-route-requires c κs =
-    let s = now (c .before .before .before .before .before .before .before .before .before .before .before .before .before .before .before .before .before .before .before .before .before .before .before .before .before .before .args .coords) in
-    let ns = now (c .before .before .before .before .before .before .before .before .before .before .before .before .before .before .before .before .before .before .before .before .before .before .before .before .before .before .args .lengths) in
-    let p = passes-clippable ns s _ _ _ _ _ (c .before .before .before .before .before .before .before .before .before .before .before .before .before .before .before .before .before .before .before .before .before .before .before .before .before .before .pre) (all-closed R.Nothing ns s (box-finite _ _ _ _ _ (sym (c .before .before .before .before .before .before .before .before .before .before .before .before .before .before .before .before .before .before .polygon-rect-all-rings .ensures) ∙ c .before .before .before .before .before .before .before .before .before .before .before .before .before .before .before .before .rect .given .1))) in
+    let s = now (c .before .before .before .before .before .before .before .before .before .before .before .before .before .before
+    .before .before .before .before .before .before .before .before .before .before .before .before .args .coords) in
+    let ns = now (c .before .before .before .before .before .before .before .before .before .before .before .before .before .before
+    .before .before .before .before .before .before .before .before .before .before .before .before .args .lengths) in
+    let p = passes-clippable ns s _ _ _ _ _ (c .before .before .before .before .before .before .before .before .before .before .before
+    .before .before .before .before .before .before .before .before .before .before .before .before .before .before .before .pre)
+    (all-closed Rects.Nothing ns s (box-finite _ _ _ _ _
+    (sym (c .before .before .before .before .before .before .before .before .before .before .before .before .before .before .before
+    .before .before .before .polygon-rect-all-rings .ensures)
+    ∙ c .before .before .before .before .before .before .before .before .before .before .before .before .before .before .before
+    .before .rect .given .1))) in
     let route = c .before .before .before .before .before .before .before .before .before .before .route-exterior in
-    record { rings = same-room _ _ _ _ _ _ _ _ _ _ _ (route .kept .1 .1 .1 .1 .1 .0) (route .kept .1 .1 .1 .1 .1 .1 .0) refl refl (p .rings); some = p .some; stands = rw (exterior-here ns s (p .some)) (route .ensures .1) }
+    record {
+      rings = same-room _ _ _ _ _ _ _ _ _ _ _ (route .kept .1 .1 .1 .1 .1 .0) (route .kept .1 .1 .1 .1 .1 .1 .0) refl refl
+          (p .rings);
+      some = p .some;
+      stands = rw (exterior-here ns s (p .some)) (route .ensures .1);
+    }
 
 returns : tie.Need-returns
 unfolding route routeRect numbersOf lengthsOf
-returns c = (rw (← c .before .before .polygon-rect-all-rings .ensures, c .enum-told .given .1), rw (← c .before .before .polygon-rect-all-rings .ensures, c .enum-told .given .1) (record { output = refl; lengths = refl }))
+returns c = (
+  rw (← c .before .before .polygon-rect-all-rings .ensures, c .enum-told .given .1),
+  rw (← c .before .before .polygon-rect-all-rings .ensures, c .enum-told .given .1) (record { output = refl; lengths = refl }),
+)
 
 returns-2 : tie.Need-returns-2
 unfolding route routeRect numbersOf lengthsOf
-returns-2 c = (rw (← c .before .before .polygon-rect-all-rings .ensures, c .enum-told2 .given .1), rw (← c .before .before .polygon-rect-all-rings .ensures, c .enum-told2 .given .1) (record { output = refl; lengths = refl }))
+returns-2 c = (
+  rw (← c .before .before .polygon-rect-all-rings .ensures, c .enum-told2 .given .1),
+  rw (← c .before .before .polygon-rect-all-rings .ensures, c .enum-told2 .given .1) (record { output = refl; lengths = refl }),
+)
 
 same-length : tie.Need-same-length
 same-length c = search needs
@@ -76,12 +107,38 @@ same-length-5 c = search needs
 returns-3 : tie.Need-returns-3
 unfolding route routeRect
 returns-3 c =
-    let s = now (c .before .before .before .before .before .before .before .before .before .before .before .before .before .before .before .before .before .before .before .before .before .before .before .before .before .before .before .before .before .before .before .before .before .before .before .args .coords) in
-    let ns = now (c .before .before .before .before .before .before .before .before .before .before .before .before .before .before .before .before .before .before .before .before .before .before .before .before .before .before .before .before .before .before .before .before .before .before .before .args .lengths) in
-    let e = exterior-here ns s (some-rings ns s (passes-fit ns s _ _ _ _ _ (c .before .before .before .before .before .before .before .before .before .before .before .before .before .before .before .before .before .before .before .before .before .before .before .before .before .before .before .before .before .before .before .before .before .before .before .pre))) in
-    let route = c .before .before .before .before .before .before .before .before .before .before .before .before .before .before .before .before .before .before .before .route-exterior .ensures .0 in
-    let done = c .before .before .before .before .before .before .before .before .answer-route .ensures in
-    (rw (← c .before .before .before .before .before .before .before .before .before .before .before .before .before .before .before .before .before .before .before .before .before .before .before .before .before .before .before .polygon-rect-all-rings .ensures, c .before .before .before .before .before .before .before .before .before .before .before .before .before .before .before .before .before .before .before .before .before .before .before .before .before .rect .given .1, e, ← route) (done .0), rw (← c .before .before .before .before .before .before .before .before .before .before .before .before .before .before .before .before .before .before .before .before .before .before .before .before .before .before .before .polygon-rect-all-rings .ensures, c .before .before .before .before .before .before .before .before .before .before .before .before .before .before .before .before .before .before .before .before .before .before .before .before .before .rect .given .1, e, ← route) (done .1))
+    let s = now (c .before .before .before .before .before .before .before .before .before .before .before .before .before .before
+    .before .before .before .before .before .before .before .before .before .before .before .before .before .before .before .before
+    .before .before .before .before .before .args .coords) in
+    let ns = now (c .before .before .before .before .before .before .before .before .before .before .before .before .before .before
+    .before .before .before .before .before .before .before .before .before .before .before .before .before .before .before .before
+    .before .before .before .before .before .args .lengths) in
+    let e = exterior-here ns s (some-rings ns s (passes-fit ns s _ _ _ _ _
+    (c .before .before .before .before .before .before .before .before .before .before .before .before .before .before .before
+    .before .before .before .before .before .before .before .before .before .before .before .before .before .before .before .before
+    .before .before .before .before .pre))) in
+    let route = c .before .before .before .before .before .before .before .before .before .before .before .before .before .before
+    .before .before .before .before .before .route-exterior .ensures .0 in
+    let done = c .before .before .before .before .before .before .before .before .answer-route .ensures in (
+      rw (
+        ← c .before .before .before .before .before .before .before .before .before .before .before .before .before .before .before
+            .before .before .before .before .before .before .before .before .before .before .before .before .polygon-rect-all-rings
+            .ensures,
+        c .before .before .before .before .before .before .before .before .before .before .before .before .before .before
+            .before .before .before .before .before .before .before .before .before .before .before .rect .given .1,
+        e,
+        ← route,
+      ) (done .0),
+      rw (
+        ← c .before .before .before .before .before .before .before .before .before .before .before .before .before .before .before
+            .before .before .before .before .before .before .before .before .before .before .before .before .polygon-rect-all-rings
+            .ensures,
+        c .before .before .before .before .before .before .before .before .before .before .before .before .before .before
+            .before .before .before .before .before .before .before .before .before .before .before .rect .given .1,
+        e,
+        ← route,
+      ) (done .1),
+    )
 
 pub clip-polygon-spec : {M : Type 1} → statement M
 clip-polygon-spec =

@@ -5,7 +5,7 @@ use Prim.Native.Nat.{ℕ}
 use lib.ListN.{replicate}
 use borrow.Author.Needs.{needs}
 use Rattle.sutherland_hodgman.proofs.Calls.{cleared}
-use Rattle.slices.specs.Slice.{routeLent, sliceCallAnswer, sliceCallSlices}
+use Rattle.slices.specs.SliceCall.{routeLent, sliceCallAnswer, sliceCallSlices}
 use Rattle.slices.proofs.Answers.{answered, written}
 use Rattle.slices.proofs.call.polygon.Statement.{statement}
 use Rattle.slices.proofs.call.polygon.Tie as tie
@@ -32,7 +32,9 @@ buffered-requires : tie.Need-buffered-requires
 buffered-requires c κs = search needs
 
 clip-polygon-requires : tie.Need-clip-polygon-requires
-clip-polygon-requires c κs = sym (c .before .before .before .before .before .before .before .before .check-polygon .ensures) ∙ c .before .before .before .before .before .before .enum-told .given .1
+clip-polygon-requires c κs =
+    sym (c .before .before .before .before .before .before .before .before .check-polygon .ensures)
+    ∙ c .before .before .before .before .before .before .enum-told .given .1
 
 clear-requires : tie.Need-clear-requires
 clear-requires c κs = search needs
@@ -64,14 +66,22 @@ guard-count-requires c κs = search needs
 returns-2 : tie.Need-returns-2
 unfolding sliceCallAnswer sliceCallSlices routeLent
 returns-2 c =
-    let p = sym (c .before .before .before .before .before .before .before .before .before .before .before .before .before .before .before .before .before .before .before .before .before .before .before .before .before .before .before .before .before .before .before .before .check-polygon .ensures)
-    ∙ c .before .before .before .before .before .before .before .before .before .before .before .before .before .before .before .before .before .before .before .before .before .before .before .before .before .before .before .before .before .before .enum-told .given .1 in
-    let cut = c .before .before .before .before .before .before .before .before .before .before .before .before .before .before .before .before .before .before .before .before .before .before .before .clip-polygon in
+    let p = sym (c .before .before .before .before .before .before .before .before .before .before .before .before .before .before
+    .before .before .before .before .before .before .before .before .before .before .before .before .before .before .before .before
+    .before .before .check-polygon .ensures)
+    ∙ c .before .before .before .before .before .before .before .before .before .before .before .before .before .before .before .before
+    .before .before .before .before .before .before .before .before .before .before .before .before .before .before
+    .enum-told .given .1 in
+    let cut = c .before .before .before .before .before .before .before .before .before .before .before .before .before .before .before
+    .before .before .before .before .before .before .before .before .clip-polygon in
     let kept = cut .kept .1 .1 .1 .1 in
-    let b = c .before .before .before .before .before .before .before .before .before .before .before .before .before .before .before .before .before .before .before .before .before .before .before .before .before .before .before .before .before .buffered .ensures in (
+    let b = c .before .before .before .before .before .before .before .before .before .before .before .before .before .before .before
+    .before .before .before .before .before .before .before .before .before .before .before .before .before .before
+    .buffered .ensures in (
       answered _ _ p _ _ (cut .ensures .0 ∙ rw b) (c .guard-count .ensures),
       rw (← b)
-          (written _ _ p _ _ _ _ _ _ (cleared _ _ _ (c .before .before .before .before .before .before .before .before .before .before .before .clear .ensures) (kept .0))
+          (written _ _ p _ _ _ _ _ _ (cleared _ _ _
+          (c .before .before .before .before .before .before .before .before .before .before .before .clear .ensures) (kept .0))
           (cleared _ _ _ (c .before .before .before .before .before .before .before .clear2 .ensures) (kept .1 .0))
           (zeroed _ _ _ (c .before .before .before .clear-order .ensures) (kept .1 .1 .0)) (cut .ensures .1)),
     )

@@ -6,7 +6,7 @@ use denote.Ref.{now}
 use lib.ListN.{getD, drop}
 use borrow.Author.Needs.{needs}
 use Rattle.binary64.proofs.Fill.{tail-part}
-use Rattle.rings.specs.Rings.{closedRings}
+use Rattle.rings.specs.LentRings.{closedRings}
 use Rattle.clip.specs.Polygon.{cutHoles}
 use Rattle.slices.specs.Contracts.{PutHoles}
 use Rattle.slices.proofs.Holes.{exterior-room, start-fits, holes-room, same-room, cut-done}
@@ -16,10 +16,12 @@ use Rattle.slices.proofs.call.put_cut.Tie as tie
 put-ring-requires : tie.Need-put-ring-requires
 put-ring-requires c κs =
     let a = c .before .before .before .before .before .before .before .before .before .args in
-    exterior-room (a .bounds) (now (a .lengths)) (now (a .coords)) _ _ _ _ _ (c .before .before .before .before .before .before .before .before .before .pre)
+    exterior-room (a .bounds) (now (a .lengths)) (now (a .coords)) _ _ _ _ _
+    (c .before .before .before .before .before .before .before .before .before .pre)
 
 shared-slice-read-start : tie.Need-shared-slice-read-start
-shared-slice-read-start c = c .before .before .before .before .before .before .before .before .before .before .before .before .before .before .before .pre .some
+shared-slice-read-start c =
+    c .before .before .before .before .before .before .before .before .before .before .before .before .before .before .before .pre .some
 
 cast-start : tie.Need-cast-start
 cast-start c =
@@ -37,10 +39,20 @@ mul-put-holes c =
     omega arith
 
 sub-put-holes : tie.Need-sub-put-holes
-sub-put-holes c = start-fits (c .before .before .before .before .before .before .before .before .before .before .before .before .before .before .before .args .bounds) (now (c .before .before .before .before .before .before .before .before .before .before .before .before .before .before .before .args .lengths)) (now (c .before .before .before .before .before .before .before .before .before .before .before .before .before .before .before .args .coords)) _ _ _ _ _ (c .before .before .before .before .before .before .before .before .before .before .before .before .before .before .before .pre)
+sub-put-holes c = start-fits (c .before .before .before .before .before .before .before .before .before .before .before .before .before
+    .before .before .args .bounds) (now (c .before .before .before .before .before .before .before .before .before .before .before
+    .before .before .before .before .args .lengths))
+    (now (c .before .before .before .before .before .before .before .before .before .before .before .before .before .before .before
+    .args .coords)) _ _ _ _ _ (c .before .before .before .before .before .before .before .before .before .before .before .before .before
+    .before .before .pre)
 
 part-put-holes-start : tie.Need-part-put-holes-start
-part-put-holes-start c = start-fits (c .before .before .before .before .before .before .before .before .before .before .before .before .before .before .before .args .bounds) (now (c .before .before .before .before .before .before .before .before .before .before .before .before .before .before .before .args .lengths)) (now (c .before .before .before .before .before .before .before .before .before .before .before .before .before .before .before .args .coords)) _ _ _ _ _ (c .before .before .before .before .before .before .before .before .before .before .before .before .before .before .before .pre)
+part-put-holes-start c = start-fits (c .before .before .before .before .before .before .before .before .before .before .before .before
+    .before .before .before .args .bounds) (now (c .before .before .before .before .before .before .before .before .before .before
+    .before .before .before .before .before .args .lengths))
+    (now (c .before .before .before .before .before .before .before .before .before .before .before .before .before .before .before
+    .args .coords)) _ _ _ _ _ (c .before .before .before .before .before .before .before .before .before .before .before .before .before
+    .before .before .pre)
 
 part-put-holes-end : tie.Need-part-put-holes-end
 part-put-holes-end c = search needs
@@ -49,19 +61,25 @@ sub-put-holes-2 : tie.Need-sub-put-holes-2
 sub-put-holes-2 c = search needs
 
 part-put-holes-start-2 : tie.Need-part-put-holes-start-2
-part-put-holes-start-2 c = c .before .before .before .before .before .before .before .before .before .before .before .before .before .before .before .before .pre .some
+part-put-holes-start-2 c =
+    c .before .before .before .before .before .before .before .before .before .before .before .before .before .before .before
+    .before .pre .some
 
 part-put-holes-end-2 : tie.Need-part-put-holes-end-2
 part-put-holes-end-2 c = search needs
 
 put-holes-requires : tie.Need-put-holes-requires
 put-holes-requires c κs =
-    let a = c .before .before .before .before .before .before .before .before .before .before .before .before .before .before .before .before .before .before .before .before .before .args in
+    let a = c .before .before .before .before .before .before .before .before .before .before .before .before .before .before .before
+    .before .before .before .before .before .before .args in
     let s = now (a .coords) in
     let ns = now (a .lengths) in
     let put = c .before .before .before .before .before .before .before .before .before .before .before .put-ring in
-    let r = holes-room (a .bounds) ns s _ _ _ _ _ (c .before .before .before .before .before .before .before .before .before .before .before .before .before .before .before .before .before .before .before .before .before .pre) (put .result) (put .ensures .numbers-after) (put .ensures .rings-after) in
-    rw (tail-part s (2 * getD ns 0 0), tail-part ns 1) (same-room _ _ _ _ _ _ _ _ _ _ _ refl refl (put .kept .1 .1 .0) (put .kept .1 .1 .1 .0) r)
+    let r = holes-room (a .bounds) ns s _ _ _ _ _ (c .before .before .before .before .before .before .before .before .before .before
+    .before .before .before .before .before .before .before .before .before .before .before .pre) (put .result)
+    (put .ensures .numbers-after) (put .ensures .rings-after) in
+    rw (tail-part s (2 * getD ns 0 0), tail-part ns 1) (same-room _ _ _ _ _ _ _ _ _ _ _ refl refl (put .kept .1 .1 .0)
+    (put .kept .1 .1 .1 .0) r)
 
 same-length : tie.Need-same-length
 same-length c = search needs
@@ -77,12 +95,18 @@ same-length-4 c = search needs
 
 returns : tie.Need-returns
 returns c =
-    let a = c .before .before .before .before .before .before .before .before .before .before .before .before .before .before .before .before .before .before .before .before .before .before .before .before .before .before .before .before .before .before .args in
+    let a = c .before .before .before .before .before .before .before .before .before .before .before .before .before .before .before
+    .before .before .before .before .before .before .before .before .before .before .before .before .before .before .before .args in
     let s = now (a .coords) in
     let ns = now (a .lengths) in
-    let put = c .before .before .before .before .before .before .before .before .before .before .before .before .before .before .before .before .before .before .before .before .put-ring in
-    let holes : PutHoles (cutHoles (a .bounds) (closedRings (drop 1 ns) (drop (2 * getD ns 0 0) s))) _ _ _ _ _ _ = rw (tail-part s (2 * getD ns 0 0), tail-part ns 1) at (c .before .before .before .before .before .before .before .before .put-holes .ensures) in
-    cut-done (a .bounds) ns s _ _ _ _ _ (c .before .before .before .before .before .before .before .before .before .before .before .before .before .before .before .before .before .before .before .before .before .before .before .before .before .before .before .before .before .before .pre) (now (a .out)) (now (a .out-lengths)) _ _ _ _ _ _ refl refl (put .ensures) holes
+    let put = c .before .before .before .before .before .before .before .before .before .before .before .before .before .before .before
+    .before .before .before .before .before .put-ring in
+    let holes : PutHoles (cutHoles (a .bounds) (closedRings (drop 1 ns) (drop (2 * getD ns 0 0) s))) _ _ _ _ _ _ =
+    rw (tail-part s (2 * getD ns 0 0), tail-part ns 1)
+    at (c .before .before .before .before .before .before .before .before .put-holes .ensures) in
+    cut-done (a .bounds) ns s _ _ _ _ _ (c .before .before .before .before .before .before .before .before .before .before .before
+    .before .before .before .before .before .before .before .before .before .before .before .before .before .before .before .before
+    .before .before .before .pre) (now (a .out)) (now (a .out-lengths)) _ _ _ _ _ _ refl refl (put .ensures) holes
 
 pub put-cut-spec : {M : Type 1} → statement M
 put-cut-spec =

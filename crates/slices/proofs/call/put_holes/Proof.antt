@@ -1,4 +1,5 @@
--- `put_holes` meets its contract. The invariant: the holes that are left have room, and what is written with what is left to write is all that was to be written. Assumes nothing.
+-- `put_holes` meets its contract. The invariant: the holes that are left have room, and what is written with what is left to write is all
+-- that was to be written. Assumes nothing.
 use mathlib.Core.Path.{_≡_, refl, _∙_}
 use Prim.Native.Nat.{_+_, _*_, _-_}
 use native.Mathlib.Omega.{arith}
@@ -6,13 +7,15 @@ use denote.Ref.{now}
 use lib.ListN.{length, getD, take, drop}
 use borrow.Author.Needs.{needs}
 use Rattle.binary64.proofs.Fill.{tail-part}
-use Rattle.tile.specs.Ring.{coords as coordinates, close, Stands}
-use Rattle.rings.specs.Rings.{closedRings}
+use Rattle.tile.specs.Ring.{coords as coordinates, close}
+use Rattle.tile.specs.Contracts.{Stands}
+use Rattle.rings.specs.LentRings.{closedRings}
 use Rattle.rings.proofs.LentRings.{Left, left-start, left-ring, left-next, rings-step}
 use Rattle.clip.specs.Polygon.{cutHole, cutHoles}
 use Rattle.clip.proofs.Cuts.{hole-fits-room}
 use Rattle.slices.specs.Contracts.{LentRingsRoom}
-use Rattle.slices.proofs.Holes.{Ahead, ahead-start, ahead-then, ahead-ring, ahead-end, hole-room, put-room, next-room, room-here, room-there, same-room}
+use Rattle.slices.proofs.Holes.{Ahead, ahead-start, ahead-then, ahead-ring, ahead-end, hole-room, put-room, next-room, room-here}
+use Rattle.slices.proofs.Holes.{room-there, same-room}
 use Rattle.slices.proofs.call.put_holes.Statement.{statement}
 use Rattle.slices.proofs.call.put_holes.Tie as tie
 
@@ -20,7 +23,8 @@ abbrev Inv-loop : tie.InvT-loop
 Inv-loop coords lengths bounds a₀ b₀ out₀ out-lengths₀ placed₀ at₀ k₀ a b out out-lengths placed at k =
     Left lengths coords k at
     × LentRingsRoom (drop k lengths) (drop at coords) (length a) (length b) (length out) (length out-lengths) placed
-    × Ahead (cutHoles bounds (closedRings lengths coords)) placed₀ out₀ out-lengths₀ (cutHoles bounds (closedRings (drop k lengths) (drop at coords))) placed out out-lengths
+    × Ahead (cutHoles bounds (closedRings lengths coords)) placed₀ out₀ out-lengths₀
+    (cutHoles bounds (closedRings (drop k lengths) (drop at coords))) placed out out-lengths
     × (length a ≡ length a₀) × (length b ≡ length b₀) × (length out ≡ length out₀) × (length out-lengths ≡ length out-lengths₀)
 
 abbrev μ-loop : tie.MeasureT-loop
@@ -29,8 +33,16 @@ abbrev μ-loop : tie.MeasureT-loop
 loop-holds : tie.Need-loop-holds Inv-loop μ-loop
 loop-holds c =
     let a = c .before .before .before .before .before .before .args in
-    let p = c .before .before .before .before .before .before .pre in
-    (left-start (now (a .lengths)) (now (a .coords)) (p .measurable .lent), p, ahead-start (cutHoles (a .bounds) (closedRings (now (a .lengths)) (now (a .coords)))) (a .exterior) (now (a .out)) (now (a .out-lengths)), refl, refl, refl, refl)
+    let p = c .before .before .before .before .before .before .pre in (
+      left-start (now (a .lengths)) (now (a .coords)) (p .measurable .lent),
+      p,
+      ahead-start
+          (cutHoles (a .bounds) (closedRings (now (a .lengths)) (now (a .coords)))) (a .exterior) (now (a .out)) (now (a .out-lengths)),
+      refl,
+      refl,
+      refl,
+      refl,
+    )
 
 mul-n : tie.Need-mul-n Inv-loop μ-loop
 mul-n c = search needs
@@ -60,25 +72,43 @@ clip-hole-requires c κs =
     let s = now (c .before .before .before .before .before .before .before .before .before .before .before .before .args .coords) in
     let ns = now (c .before .before .before .before .before .before .before .before .before .before .before .before .args .lengths) in
     let l = c .before .before .before .before .before .loop in
-    rw (tail-part s (l .at)) (hole-room _ _ _ _ _ _ _ _ (room-here ns s (l .k) (l .at) (c .before .before .before .before .loop-test .taken) _ _ _ _ _ (l .inv .1)))
+    rw (tail-part s (l .at)) (hole-room _ _ _ _ _ _ _ _
+    (room-here ns s (l .k) (l .at) (c .before .before .before .before .loop-test .taken) _ _ _ _ _ (l .inv .1)))
 
 put-ring-requires : tie.Need-put-ring-requires Inv-loop μ-loop
 put-ring-requires c κs =
-    let s = now (c .before .before .before .before .before .before .before .before .before .before .before .before .before .before .before .before .before .before .before .before .args .coords) in
-    let ns = now (c .before .before .before .before .before .before .before .before .before .before .before .before .before .before .before .before .before .before .before .before .args .lengths) in
+    let s = now (c .before .before .before .before .before .before .before .before .before .before .before .before .before .before
+    .before .before .before .before .before .before .args .coords) in
+    let ns = now (c .before .before .before .before .before .before .before .before .before .before .before .before .before .before
+    .before .before .before .before .before .before .args .lengths) in
     let l = c .before .before .before .before .before .before .before .before .before .before .before .before .before .loop in
     let st = rw (tail-part s (l .at)) at (c .before .before .before .before .before .before .before .clip-hole .ensures) in
-    put-room _ _ _ _ _ _ _ _ (room-here ns s (l .k) (l .at) (c .before .before .before .before .before .before .before .before .before .before .before .before .loop-test .taken) _ _ _ _ _ (l .inv .1)) _ (hole-fits-room (c .before .before .before .before .before .before .before .before .before .before .before .before .before .before .before .before .before .before .before .before .args .bounds) _) _ _ st (c .before .before .before .before .before .before .before .clip-hole .kept .1 .1 .1 .1 .0)
+    put-room _ _ _ _ _ _ _ _ (room-here ns s (l .k) (l .at)
+    (c .before .before .before .before .before .before .before .before .before .before .before .before .loop-test .taken) _ _ _ _ _
+    (l .inv .1)) _ (hole-fits-room (c .before .before .before .before .before .before .before .before .before .before .before
+    .before .before .before .before .before .before .before .before .before .args .bounds) _) _ _ st
+    (c .before .before .before .before .before .before .before .clip-hole .kept .1 .1 .1 .1 .0)
 
 mul-at : tie.Need-mul-at Inv-loop μ-loop
 mul-at c =
-    let g = c .before .before .before .before .before .before .before .before .before .before .before .before .before .before .before .before .shared-slice-known3 .given (c .before .before .before .before .before .before .before .before .before .before .before .before .before .before .before .before .before .before .loop .k) in
+    let g = c .before .before .before .before .before .before .before .before .before .before .before .before .before .before .before
+    .before .shared-slice-known3 .given (c .before .before .before .before .before .before .before .before .before .before .before
+    .before .before .before .before .before .before .before .loop .k) in
     omega arith
 
 add-at : tie.Need-add-at Inv-loop μ-loop
 add-at c =
-    let l = c .before .before .before .before .before .before .before .before .before .before .before .before .before .before .before .before .before .before .loop in
-    omega (arith, left-ring (now (c .before .before .before .before .before .before .before .before .before .before .before .before .before .before .before .before .before .before .before .before .before .before .before .before .before .args .lengths)) (now (c .before .before .before .before .before .before .before .before .before .before .before .before .before .before .before .before .before .before .before .before .before .before .before .before .before .args .coords)) (l .k) (l .at) (c .before .before .before .before .before .before .before .before .before .before .before .before .before .before .before .before .before .loop-test .taken) (l .inv .0))
+    let l = c .before .before .before .before .before .before .before .before .before .before .before .before .before .before .before
+    .before .before .before .loop in
+    omega (
+      arith,
+      left-ring (now (c .before .before .before .before .before .before .before .before .before .before .before .before
+          .before .before .before .before .before .before .before .before .before .before .before .before .before .args .lengths))
+          (now (c .before .before .before .before .before .before .before .before .before .before .before .before .before .before .before
+          .before .before .before .before .before .before .before .before .before .before .args .coords)) (l .k) (l .at)
+          (c .before .before .before .before .before .before .before .before .before .before .before .before .before .before .before
+          .before .before .loop-test .taken) (l .inv .0),
+    )
 
 add-k : tie.Need-add-k Inv-loop μ-loop
 add-k c = search needs
@@ -89,19 +119,29 @@ loop-less c = search needs
 loop-again : tie.Need-loop-again Inv-loop μ-loop
 unfolding cutHoles
 loop-again c =
-    let s = now (c .before .before .before .before .before .before .before .before .before .before .before .before .before .before .before .before .before .before .before .before .before .before .before .before .before .args .coords) in
-    let ns = now (c .before .before .before .before .before .before .before .before .before .before .before .before .before .before .before .before .before .before .before .before .before .before .before .before .before .args .lengths) in
-    let l = c .before .before .before .before .before .before .before .before .before .before .before .before .before .before .before .before .before .before .loop in
-    let h = c .before .before .before .before .before .before .before .before .before .before .before .before .before .before .before .before .before .loop-test .taken in
-    let bounds = c .before .before .before .before .before .before .before .before .before .before .before .before .before .before .before .before .before .before .before .before .before .before .before .before .before .args .bounds in
+    let s = now (c .before .before .before .before .before .before .before .before .before .before .before .before .before .before
+    .before .before .before .before .before .before .before .before .before .before .before .args .coords) in
+    let ns = now (c .before .before .before .before .before .before .before .before .before .before .before .before .before .before
+    .before .before .before .before .before .before .before .before .before .before .before .args .lengths) in
+    let l = c .before .before .before .before .before .before .before .before .before .before .before .before .before .before .before
+    .before .before .before .loop in
+    let h = c .before .before .before .before .before .before .before .before .before .before .before .before .before .before .before
+    .before .before .loop-test .taken in
+    let bounds = c .before .before .before .before .before .before .before .before .before .before .before .before .before .before
+    .before .before .before .before .before .before .before .before .before .before .before .args .bounds in
     let kept = c .before .before .before .before .before .before .before .before .before .before .before .before .clip-hole .kept in
     let put = c .before .before .before .before .put-ring in
     let ring = close (coordinates (take (2 * getD ns (l .k) 0) (drop (l .at) s))) in
-    let st : Stands (cutHole bounds ring) (c .before .before .before .before .before .before .before .before .before .before .before .before .clip-hole .result) _ = rw (tail-part s (l .at)) at (c .before .before .before .before .before .before .before .before .before .before .before .before .clip-hole .ensures) in
-    let n = next-room _ _ _ _ _ _ _ _ (room-here ns s (l .k) (l .at) h _ _ _ _ _ (l .inv .1)) _ (hole-fits-room bounds ring) _ _ st _ (put .ensures .numbers-after) (put .ensures .rings-after) in
-    let f = ahead-ring (cutHole bounds ring) (cutHoles bounds (closedRings (drop (l .k + 1) ns) (drop (l .at + 2 * getD ns (l .k) 0) s))) _ _ _ _ _ _ _ _ st (put .ensures) in (
+    let st : Stands (cutHole bounds ring) (c .before .before .before .before .before .before .before .before .before .before .before
+    .before .clip-hole .result) _ = rw (tail-part s (l .at))
+    at (c .before .before .before .before .before .before .before .before .before .before .before .before .clip-hole .ensures) in
+    let n = next-room _ _ _ _ _ _ _ _ (room-here ns s (l .k) (l .at) h _ _ _ _ _ (l .inv .1)) _ (hole-fits-room bounds ring) _ _ st _
+    (put .ensures .numbers-after) (put .ensures .rings-after) in
+    let f = ahead-ring (cutHole bounds ring) (cutHoles bounds
+    (closedRings (drop (l .k + 1) ns) (drop (l .at + 2 * getD ns (l .k) 0) s))) _ _ _ _ _ _ _ _ st (put .ensures) in (
       left-next ns s (l .k) (l .at) h (l .inv .0),
-      same-room _ _ _ _ _ _ _ _ _ _ _ (kept .1 .1 .1 .0) (kept .1 .1 .1 .1 .0) (put .kept .1 .1 .0) (put .kept .1 .1 .1 .0) (room-there ns s (l .k) (l .at) h _ _ _ _ _ n),
+      same-room _ _ _ _ _ _ _ _ _ _ _ (kept .1 .1 .1 .0) (kept .1 .1 .1 .1 .0) (put .kept .1 .1 .0) (put .kept .1 .1 .1 .0)
+          (room-there ns s (l .k) (l .at) h _ _ _ _ _ n),
       ahead-then (rw (rings-step ns s (l .k) (l .at) h) at (l .inv .2)) f,
       kept .1 .1 .1 .0 ∙ l .inv .3,
       kept .1 .1 .1 .1 .0 ∙ l .inv .4,

@@ -63,7 +63,13 @@ returns-2 c =
     let a = c .before .before .before .before .before .before .before .before .args in
     let p = c .before .before .before .before .before .before .before .before .pre in
     let l = length-some (a .n) (c .before .before .before .before .if1 .left) in
-    record { output = sets-part (now (a .ring)) (now (a .out)) _ _ (a .at .numbers) (2 * a .n) (p .lent) (p .output) (c .before .before .copy .ensures) refl; lengths = rw l; numbers-after = refl; rings-after = rw l }
+    record {
+      output = sets-part (now (a .ring)) (now (a .out)) _ _ (a .at .numbers) (2 * a .n) (p .lent) (p .output)
+          (c .before .before .copy .ensures) refl;
+      lengths = rw l;
+      numbers-after = refl;
+      rings-after = rw l;
+    }
 
 pub put-ring-spec : {M : Type 1} → statement M
 put-ring-spec =

@@ -3,7 +3,7 @@ use Prim.Native.Nat.{_/_}
 use native.Mathlib.Omega.{arith}
 use borrow.Author.Tests.{lt-ltb, le-ltb, eq-eqb, ne-eqb}
 use borrow.Author.Needs.{needs}
-use Rattle.sutherland_hodgman.specs.Call.{checkRing}
+use Rattle.sutherland_hodgman.specs.RingCall.{checkRing}
 use Rattle.sutherland_hodgman.proofs.Growth.{B-le}
 use Rattle.sutherland_hodgman.proofs.call.check_ring.Statement.{statement}
 use Rattle.sutherland_hodgman.proofs.call.check_ring.Tie as tie
@@ -24,19 +24,51 @@ mul-room c = omega (arith, B-le (c .before .before .before .args .numbers / 2) (
 
 returns-3 : tie.Need-returns-3
 unfolding checkRing
-returns-3 c = rw (ne-eqb _ _ (c .before .before .before .if1 .left), le-ltb _ _ (c .before .before .if2 .left), ← c .before .room-for .ensures, lt-ltb _ _ (c .if3 .taken))
+returns-3 c =
+    rw (
+      ne-eqb _ _ (c .before .before .before .if1 .left),
+      le-ltb _ _ (c .before .before .if2 .left),
+      ← c .before .room-for .ensures,
+      lt-ltb _ _ (c .if3 .taken),
+    )
 
 returns-4 : tie.Need-returns-4
 unfolding checkRing
-returns-4 c = rw (ne-eqb _ _ (c .before .before .before .before .if1 .left), le-ltb _ _ (c .before .before .before .if2 .left), ← c .before .before .room-for .ensures, le-ltb _ _ (c .before .if3 .left), lt-ltb _ _ (c .if4 .taken))
+returns-4 c =
+    rw (
+      ne-eqb _ _ (c .before .before .before .before .if1 .left),
+      le-ltb _ _ (c .before .before .before .if2 .left),
+      ←
+          c .before .before .room-for .ensures,
+      le-ltb _ _ (c .before .if3 .left),
+      lt-ltb _ _ (c .if4 .taken),
+    )
 
 returns-5 : tie.Need-returns-5
 unfolding checkRing
-returns-5 c = rw (ne-eqb _ _ (c .before .before .before .before .before .if1 .left), le-ltb _ _ (c .before .before .before .before .if2 .left), ← c .before .before .before .room-for .ensures, le-ltb _ _ (c .before .before .if3 .left), le-ltb _ _ (c .before .if4 .left), lt-ltb _ _ (c .if5 .taken))
+returns-5 c = rw (
+  ne-eqb _ _ (c .before .before .before .before .before .if1 .left),
+  le-ltb _ _
+      (c .before .before .before .before .if2 .left),
+  ← c .before .before .before .room-for .ensures,
+  le-ltb _ _
+      (c .before .before .if3 .left),
+  le-ltb _ _ (c .before .if4 .left),
+  lt-ltb _ _ (c .if5 .taken),
+)
 
 returns-6 : tie.Need-returns-6
 unfolding checkRing
-returns-6 c = rw (ne-eqb _ _ (c .before .before .before .before .before .if1 .left), le-ltb _ _ (c .before .before .before .before .if2 .left), ← c .before .before .before .room-for .ensures, le-ltb _ _ (c .before .before .if3 .left), le-ltb _ _ (c .before .if4 .left), le-ltb _ _ (c .if5 .left))
+returns-6 c = rw (
+  ne-eqb _ _ (c .before .before .before .before .before .if1 .left),
+  le-ltb _ _
+      (c .before .before .before .before .if2 .left),
+  ← c .before .before .before .room-for .ensures,
+  le-ltb _ _
+      (c .before .before .if3 .left),
+  le-ltb _ _ (c .before .if4 .left),
+  le-ltb _ _ (c .if5 .left),
+)
 
 pub check-ring-spec : {M : Type 1} → statement M
 check-ring-spec =

@@ -3,7 +3,7 @@ use mathlib.Core.Path.{sym, _∙_, ap}
 use denote.Ref.{now}
 use borrow.Author.Needs.{needs}
 use Rattle.sutherland_hodgman.specs.declared.call.RingAnswer.the-variants.{Clipped}
-use Rattle.sutherland_hodgman.specs.Call.{ringSlices, ringCallAnswer}
+use Rattle.sutherland_hodgman.specs.RingCall.{ringSlices, ringCallAnswer}
 use Rattle.sutherland_hodgman.proofs.Calls.{refused-slices, clipped-slices, cleared}
 use Rattle.sutherland_hodgman.proofs.call.ring.Statement.{statement}
 use Rattle.sutherland_hodgman.proofs.call.ring.Tie as tie
@@ -18,7 +18,8 @@ enum-told : tie.Need-enum-told
 enum-told c = search needs
 
 clip-lent-requires : tie.Need-clip-lent-requires
-clip-lent-requires c κs = sym (c .before .before .before .before .before .check-ring .ensures) ∙ c .before .before .before .enum-told .given .1
+clip-lent-requires c κs =
+    sym (c .before .before .before .before .before .check-ring .ensures) ∙ c .before .before .before .enum-told .given .1
 
 clear-requires : tie.Need-clear-requires
 clear-requires c κs = search needs
@@ -45,10 +46,14 @@ same-length-3 c = search needs
 returns-2 : tie.Need-returns-2
 unfolding ringCallAnswer
 returns-2 c =
-    let a = c .before .before .before .before .before .before .before .before .before .before .before .before .before .before .before .before .before .before .before .before .before .before .before .before .before .args in
-    let cut = c .before .before .before .before .before .before .before .before .before .before .before .before .before .before .clip-lent in
-    let e = sym (c .before .before .before .before .before .before .before .before .before .before .before .before .before .before .before .before .before .before .before .before .check-ring .ensures)
-    ∙ c .before .before .before .before .before .before .before .before .before .before .before .before .before .before .before .before .before .before .enum-told .given .1 in (
+    let a = c .before .before .before .before .before .before .before .before .before .before .before .before .before .before .before
+    .before .before .before .before .before .before .before .before .before .before .args in
+    let cut = c .before .before .before .before .before .before .before .before .before .before .before .before .before
+    .before .clip-lent in
+    let e = sym (c .before .before .before .before .before .before .before .before .before .before .before .before .before .before
+    .before .before .before .before .before .before .check-ring .ensures)
+    ∙ c .before .before .before .before .before .before .before .before .before .before .before .before .before .before .before .before
+    .before .before .enum-told .given .1 in (
       rw e (ap Clipped (cut .ensures .written .count)),
       (
         clipped-slices (now (a .ring)) (a .bounds) (ringSlices (now (a .a)) (now (a .b)) (now (a .out))) _ _ _ _ e

@@ -19,19 +19,37 @@ half-growth-requires-2 : tie.Need-half-growth-requires-2
 half-growth-requires-2 c κs = omega (arith, halfGrowth-le (c .before .before .args .n))
 
 half-growth-requires-3 : tie.Need-half-growth-requires-3
-half-growth-requires-3 c κs = omega (arith, halfGrowth-le (c .before .before .before .args .n), halfGrowth-le (c .before .half-growth .result))
+half-growth-requires-3 c κs =
+    omega (arith, halfGrowth-le (c .before .before .before .args .n), halfGrowth-le (c .before .half-growth .result))
 
 half-growth-requires-4 : tie.Need-half-growth-requires-4
-half-growth-requires-4 c κs = omega (arith, halfGrowth-le (c .before .before .before .before .args .n), halfGrowth-le (c .before .before .half-growth .result), halfGrowth-le (c .before .half-growth2 .result))
+half-growth-requires-4 c κs =
+    omega (
+      arith,
+      halfGrowth-le (c .before .before .before .before .args .n),
+      halfGrowth-le (c .before .before .half-growth .result),
+      halfGrowth-le (c .before .half-growth2 .result),
+    )
 
 add-result : tie.Need-add-result
-add-result c = omega (arith, halfGrowth-le (c .before .before .before .before .before .args .n), halfGrowth-le (c .before .before .before .half-growth .result), halfGrowth-le (c .before .before .half-growth2 .result), halfGrowth-le (c .before .half-growth3 .result))
+add-result c =
+    omega (
+      arith,
+      halfGrowth-le (c .before .before .before .before .before .args .n),
+      halfGrowth-le
+          (c .before .before .before .half-growth .result),
+      halfGrowth-le (c .before .before .half-growth2 .result),
+      halfGrowth-le
+          (c .before .half-growth3 .result),
+    )
 
 returns-2 : tie.Need-returns-2
 unfolding fourHalfGrowths
 returns-2 c =
     rw (B-positive (c .before .before .before .before .before .args .n) (c .before .before .before .before .if1 .left))
-    (ap (λ (k : ℕ). k + 2) (c .half-growth4 .ensures ∙ ap halfGrowth (c .before .half-growth3 .ensures ∙ ap halfGrowth (c .before .before .half-growth2 .ensures ∙ ap halfGrowth (c .before .before .before .half-growth .ensures)))))
+    (ap (λ (k : ℕ). k + 2) (c .half-growth4 .ensures
+    ∙ ap halfGrowth (c .before .half-growth3 .ensures
+    ∙ ap halfGrowth (c .before .before .half-growth2 .ensures ∙ ap halfGrowth (c .before .before .before .half-growth .ensures)))))
 
 pub room-for-spec : {M : Type 1} → statement M
 room-for-spec =

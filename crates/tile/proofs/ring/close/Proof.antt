@@ -33,7 +33,9 @@ same-length-2 c = search needs
 returns-2 : tie.Need-returns-2
 returns-2 c =
     let a = c .before .before .before .before .before .before .before .before .before .before in
-    let w = written-open (now (a .args .ring)) (a .args .n) (a .pre) (sym (c .before .before .before .before .before .before .before .is-closed .ensures) ∙ c .before .before .before .before .before .before .if1 .left) in
+    let w = written-open (now (a .args .ring)) (a .args .n) (a .pre)
+    (sym (c .before .before .before .before .before .before .before .is-closed .ensures)
+    ∙ c .before .before .before .before .before .before .if1 .left) in
     rw (c .before .before .put .ensures, c .before .before .before .before .coord-at .ensures) w
 
 pub close-spec : {M : Type 1} → statement M

@@ -27,7 +27,8 @@ returns-2 c =
     let a = c .before .before .before in
     let s = now (a .args .ring) in
     let n = a .args .n in
-    sym (count-open (coords (take (2 * n) s)) (sym (c .before .is-closed .ensures) ∙ c .if1 .left) ∙ ap (λ (k : ℕ). k + 1) (length-front s n (a .pre)))
+    sym (count-open (coords (take (2 * n) s)) (sym (c .before .is-closed .ensures) ∙ c .if1 .left)
+    ∙ ap (λ (k : ℕ). k + 1) (length-front s n (a .pre)))
 
 pub closed-count-spec : {M : Type 1} → statement M
 closed-count-spec = tie.close (tie.spec is-closed-requires returns add-result returns-2)

@@ -3,13 +3,13 @@ use mathlib.Core.Path.{_∙_, ap₂}
 use native.Mathlib.Omega.{arith}
 use denote.Ref.{now}
 use borrow.Author.Needs.{needs}
-use Rattle.tile.specs.Ring as S
+use Rattle.tile.specs.Ring as Ring
 use Rattle.tile.proofs.Rings.{closed-front}
 use Rattle.tile.proofs.ring.is_closed.Statement.{statement}
 use Rattle.tile.proofs.ring.is_closed.Tie as tie
 
 returns : tie.Need-returns
-unfolding S.closed S.coords
+unfolding Ring.closed Ring.coords
 returns c = rw (c .if1 .taken)
 
 coord-at-requires : tie.Need-coord-at-requires
@@ -27,7 +27,8 @@ equals-requires c κs = search needs
 returns-2 : tie.Need-returns-2
 returns-2 c =
     let a = c .before .before .before .before .before in
-    rw (closed-front (now (a .args .ring)) (a .args .n) (a .pre) (omega arith)) (c .equals .ensures ∙ ap₂ S.same (c .before .before .coord-at .ensures) (c .before .coord-at2 .ensures))
+    rw (closed-front (now (a .args .ring)) (a .args .n) (a .pre) (omega arith))
+    (c .equals .ensures ∙ ap₂ Ring.same (c .before .before .coord-at .ensures) (c .before .coord-at2 .ensures))
 
 pub is-closed-spec : {M : Type 1} → statement M
 is-closed-spec =

@@ -15,11 +15,11 @@ use Rattle.sutherland_hodgman.specs.declared.call.Refusal.the-variants.{Lengths
 use Rattle.sutherland_hodgman.specs.declared.call.Check.{Check}
 use Rattle.sutherland_hodgman.specs.declared.call.Check.the-variants.{Fails, Passes}
 use Rattle.sutherland_hodgman.specs.Growth.{mostCoordinates}
-use Rattle.sutherland_hodgman.specs.Call.{refusalNumber, failsIf}
-use Rattle.rings.specs.Rings.{mostRings, sum, closedRings, total, largest, ringRoom}
+use Rattle.sutherland_hodgman.specs.RingCall.{refusalNumber, failsIf}
+use Rattle.rings.specs.LentRings.{mostRings, sum, closedRings, total, largest, ringRoom}
 use Rattle.clip.specs.declared.polygon.Flags.{Flags}
 use Rattle.clip.specs.declared.polygon.PolygonAnswer.{PolygonAnswer}
-use Rattle.clip.specs.declared.polygon.PolygonAnswer.the-variants as Is
+use Rattle.clip.specs.declared.polygon.PolygonAnswer.the-variants as PolygonAnswers
 use Rattle.clip.specs.Polygon.{Routed, nothing, dropped, unchanged, cut, overlay, route, answerOf, guardCount, answerNumber, answerReason}
 use Rattle.slices.specs.declared.call.SliceAnswer.{SliceAnswer}
 use Rattle.slices.specs.declared.call.SliceAnswer.the-variants.{Refused, Answered}
@@ -116,11 +116,11 @@ sliceCallSlices flags bounds buffer coords lengths lent =
 
 -- "the answer tells how many rings"
 abbrev pub answerRings : PolygonAnswer → ℕ
-answerRings Is.Nothing = 0
-answerRings Is.Dropped = 0
-answerRings Is.Unchanged = 0
-answerRings (Is.Cut rings) = rings
-answerRings (Is.Overlay reason) = 0
+answerRings PolygonAnswers.Nothing = 0
+answerRings PolygonAnswers.Dropped = 0
+answerRings PolygonAnswers.Unchanged = 0
+answerRings (PolygonAnswers.Cut rings) = rings
+answerRings (PolygonAnswers.Overlay reason) = 0
 
 -- all of it in one number
 abbrev pub answerCode : PolygonAnswer → ℕ

@@ -16,8 +16,8 @@ use Rattle.sutherland_hodgman.specs.declared.call.Check.{Check}
 use Rattle.sutherland_hodgman.specs.declared.call.Check.the-variants.{Fails, Passes}
 use Rattle.sutherland_hodgman.specs.declared.call.RingAnswer.{RingAnswer}
 use Rattle.sutherland_hodgman.specs.declared.call.RingAnswer.the-variants.{Refused, Clipped}
-use Rattle.sutherland_hodgman.specs.Growth.{B, mostCoordinates}
 use Rattle.sutherland_hodgman.specs.Clip.{clipRing}
+use Rattle.sutherland_hodgman.specs.Growth.{B, mostCoordinates}
 use Rattle.sutherland_hodgman.specs.Promise.{Promise}
 
 -- ---- refusals

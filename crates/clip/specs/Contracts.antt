@@ -1,0 +1,39 @@
+-- What the routing of a polygon say to each other and to the crates above: no contract of an entry point reaches it, so a reader of those
+-- can skip this file. Definitions only.
+use mathlib.Core.Path.{_≡_}
+use mathlib.Core.Bool.{true}
+use mathlib.Core.List.{List}
+use Prim.Native.Nat.{ℕ, _*_, _<_, _≤_}
+use lib.Ieee.{Float}
+use lib.ListN.{length, take}
+use Rattle.tile.specs.declared.Coord.{Coord}
+use Rattle.tile.specs.declared.TileBounds.{TileBounds}
+use Rattle.tile.specs.Ring.{coords, closed, close}
+use Rattle.tile.specs.Contracts.{Stands}
+use Rattle.sutherland_hodgman.specs.Growth.{B, mostCoordinates}
+use Rattle.clip.specs.declared.polygon.Route.{Route}
+use Rattle.clip.specs.declared.polygon.Route.the-variants as Routes
+use Rattle.clip.specs.Polygon.{cutExterior}
+
+-- ---- what the code asks for and leaves
+
+-- a ring of n coordinates, lent at the front of a slice, can be closed and cut in two slices of these lengths; closing closes it, as its
+-- first coordinate holds no NaN
+pub record RingRoom (n : ℕ) (ring : List Float) (a b : ℕ) : Type 0 where
+  pub lent : 2 * n ≤ length ring
+  pub few : length (close (coords (take (2 * n) ring))) ≤ mostCoordinates
+  pub closes : closed (close (coords (take (2 * n) ring))) ≡ true
+  pub first : 2 * B (length (close (coords (take (2 * n) ring)))) ≤ a
+  pub second : 2 * B (length (close (coords (take (2 * n) ring)))) ≤ b
+
+-- an exterior takes positions besides
+pub record ExteriorRoom (n : ℕ) (ring : List Float) (a b order : ℕ) : Type 0 where
+  pub room : RingRoom n ring a b
+  pub positions : B (length (close (coords (take (2 * n) ring)))) ≤ order
+
+-- where the route is a cut, the cut exterior, which has coordinates, stands at the front of the slice
+abbrev pub CutStands : TileBounds → List Coord → Route → List Float → Type 0
+CutStands b ring Routes.Nothing after = Unit {0}
+CutStands b ring Routes.Unchanged after = Unit {0}
+CutStands b ring (Routes.Cut n) after = Stands (cutExterior b ring) n after × (0 < n)
+CutStands b ring (Routes.Overlay reason) after = Unit {0}
