@@ -5,24 +5,20 @@
 -- its bytes.
 use mathlib.Core.Path.{_≡_, refl, ap}
 use mathlib.Core.Bool.{Bool, true, false}
-use mathlib.Core.List.{List, [], _∷_, _++_}
-use Prim.Native.Nat.{ℕ, zero, suc, _+_, _*_, _≤_, _<_}
+use mathlib.Core.List.{List, [], _∷_}
+use Prim.Native.Nat.{ℕ, zero, suc, _+_, _*_, _≤_}
 use native.Mathlib.Nat.{suc-mul}
 use native.Mathlib.Omega.{arith}
 use lib.Dec.{ltb}
-use lib.Ieee.{ofBits, eq}
-use lib.ListN.{length, drop, replicate, length-drop}
+use lib.ListN.{length, drop, length-drop}
 use borrow.Author.Tests.{ltb-true, ltb-false, le-ltb}
 use Rattle.tile.specs.declared.Coord.{Coord}
-use Rattle.binary64.specs.Bytes.{fromLow}
-use Rattle.tile.specs.Ring.{same, last, closed, close}
-use Rattle.sutherland_hodgman.specs.Growth.{halfGrowth, fourHalfGrowths, B}
+use Rattle.tile.specs.Ring.{close}
 use Rattle.sutherland_hodgman.proofs.Offered.{B-mono, B-none, B-closed}
 use Rattle.rings.specs.LentRings.{mostRings, total, ringRoom}
-use Rattle.frame_bytes.specs.Frame.{longest, headBytes, multipolygonKind, Reading, refused, read, readMany, countOf, coordsOf}
-use Rattle.frame_bytes.specs.Frame.{readCount, readCoords, readRing, readPart, readParts, Frame, partCountOf, readFrame}
+use Rattle.frame_bytes.specs.Frame.{longest, headBytes, Reading, refused, read, readMany, countOf, coordsOf}
+use Rattle.frame_bytes.specs.Frame.{readRing, readPart, Frame, partCountOf, readFrame}
 use Rattle.frame_bytes.specs.Room.{leastRoom, coordinateBytes, partRoom, outputRoom, mostRoom, readCall}
-use Rattle.frame_bytes.specs.Contracts.{frameRoom}
 use Rattle.frame_bytes.proofs.Coordinates.{close-grows}
 use Rattle.frame_bytes.proofs.Places.{no-more}
 use Rattle.frame_bytes.proofs.Readings.{many-first, ring-read, part-read, frame-read}
@@ -168,21 +164,3 @@ has-room l out h = by-reading (readFrame l) refl
     by-reading (read f rest) e =
         let enough : outputRoom coordinateBytes (f .parts) ≤ out = omega (arith, h, frame-most l f rest e) in
         rw (e, le-ltb out (outputRoom coordinateBytes (f .parts)) enough)
-
--- ---- the bound is reached
-
--- So many rings of one coordinate, 18 bytes each. Both its numbers are NaN, so closing repeats it: each ring asks for the room of two.
-manyRings : ℕ → List ℕ
-manyRings zero = []
-manyRings (suc k) = 1 ∷ 0 ∷ replicate 16 255 ++ manyRings k
-
--- so many parts of 31 of them, and one of 33
-manyParts : ℕ → List ℕ
-manyParts zero = 33 ∷ 0 ∷ manyRings 33
-manyParts (suc k) = 31 ∷ 0 ∷ manyRings 31 ++ manyParts k
-
--- a frame of 5,120 bytes: nine parts with 281 rings
-reached : frameRoom coordinateBytes (readFrame (multipolygonKind ∷ replicate 41 0 ++ 9 ∷ 0 ∷ manyParts 8)) ≡ mostRoom
-unfolding manyRings manyParts readFrame readParts readPart readRing readCoords readCount readMany coordsOf countOf fromLow
-    outputRoom partRoom total B fourHalfGrowths halfGrowth close closed last same ofBits eq
-reached = refl

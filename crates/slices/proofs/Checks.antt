@@ -14,7 +14,7 @@ use Rattle.sutherland_hodgman.specs.declared.call.Refusal.the-variants.{Lengths
 use Rattle.sutherland_hodgman.specs.declared.call.Check.the-variants.{Passes}
 use Rattle.sutherland_hodgman.specs.Growth.{mostCoordinates}
 use Rattle.sutherland_hodgman.specs.RingCall.{failsIf}
-use Rattle.sutherland_hodgman.proofs.Calls.{not-refused}
+use Rattle.sutherland_hodgman.proofs.Offered.{not-refused}
 use Rattle.rings.specs.Representable.{anyHugeRing}
 use Rattle.rings.specs.LentRings.{mostRings, sum, closedRings, total, largest, ringRoom}
 use Rattle.rings.specs.Contracts.{allClosed, Lent}

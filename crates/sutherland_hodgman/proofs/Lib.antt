@@ -1,4 +1,4 @@
-pub mod Calls
+mod Calls
 mod Cases
 mod Growth
 mod LastPass

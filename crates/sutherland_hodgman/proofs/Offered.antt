@@ -1,16 +1,24 @@
 -- Laws that this crate offers to those above it beside its contracts. By these they know the cut of a ring, and the room that it takes;
 -- they unfold neither. Assumes nothing.
 use mathlib.Core.Path.{_≡_, refl}
-use mathlib.Core.Bool.{true}
+use mathlib.Core.Bool.{Bool, true, false}
 use mathlib.Core.List.{List, [], _∷_}
 use Prim.Native.Nat.{ℕ, zero, suc, _+_, _*_, _<_, _≤_}
 use native.Mathlib.Omega.{arith}
+use lib.Ieee.{Float}
 use lib.ListN.{length}
+use Rattle.binary64.specs.Slices.{zeros}
 use Rattle.tile.specs.declared.Coord.{Coord}
 use Rattle.tile.specs.declared.TileBounds.{TileBounds}
 use Rattle.tile.specs.Ring.{closed, close}
+use Rattle.sutherland_hodgman.specs.declared.call.Refusal.{Refusal}
+use Rattle.sutherland_hodgman.specs.declared.call.Check.{Check}
+use Rattle.sutherland_hodgman.specs.declared.call.Check.the-variants.{Passes}
+use Rattle.sutherland_hodgman.specs.declared.call.RingAnswer.the-variants.{Clipped}
 use Rattle.sutherland_hodgman.specs.Clip.{leaveOff, around, pass, passes, finish, clipRing}
 use Rattle.sutherland_hodgman.specs.Growth.{halfGrowth, fourHalfGrowths, B, mostCoordinates}
+use Rattle.sutherland_hodgman.specs.RingCall.{failsIf, RingSlices, ringCallAnswer}
+use Rattle.sutherland_hodgman.proofs.Calls as calls
 use Rattle.sutherland_hodgman.proofs.Growth as growth
 use Rattle.sutherland_hodgman.proofs.LeavingOff.{leaveOff-close}
 
@@ -89,3 +97,18 @@ clip-fits b (p ∷ r) h = omega (arith, growth.clipRing-grows b (p ∷ r))
 pub clip-close : (b : TileBounds) (r : List Coord) → closed (close r) ≡ true → clipRing b (close r) ≡ clipRing b r
 unfolding clipRing passes pass
 clip-close b r e = rw (leaveOff-close r e)
+
+-- ---- the ring call, whose refusals and clearing the slice call shares
+
+-- where the row of tests passes, its first test says no and the others pass
+pub not-refused : (t : Bool) (r : Refusal) (c : Check) → failsIf t r c ≡ Passes → (t ≡ false) × (c ≡ Passes)
+not-refused = calls.not-refused
+
+-- a scratch slice that is filled with zeros has kept its length
+pub cleared : (m n : ℕ) (l : List Float) → l ≡ zeros m → m ≡ n → l ≡ zeros n
+cleared = calls.cleared
+
+-- a ring call answers at most 2^19 coordinates, so that the count fits an i64
+pub answer-few : (ring : List Float) (bounds : TileBounds) (lent : RingSlices) (n : ℕ) → ringCallAnswer ring bounds lent ≡ Clipped n
+    → n ≤ 8 * mostCoordinates
+answer-few = calls.answer-few

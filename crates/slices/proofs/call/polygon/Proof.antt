@@ -4,7 +4,7 @@ use mathlib.Core.List.{List}
 use Prim.Native.Nat.{ℕ}
 use lib.ListN.{replicate}
 use borrow.Author.Needs.{needs}
-use Rattle.sutherland_hodgman.proofs.Calls.{cleared}
+use Rattle.sutherland_hodgman.proofs.Offered.{cleared}
 use Rattle.slices.specs.SliceCall.{routeLent, sliceCallAnswer, sliceCallSlices}
 use Rattle.slices.proofs.Answers.{answered, written}
 use Rattle.slices.proofs.call.polygon.Statement.{statement}
