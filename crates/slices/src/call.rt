@@ -321,5 +321,6 @@ pub fn polygon(
     clear(a);
     clear(b);
     clear_order(order);
-    SliceAnswer::Answered(answer, guard_count(answer))
+    let guards = guard_count(answer);
+    SliceAnswer::Answered(answer, guards)
 }
