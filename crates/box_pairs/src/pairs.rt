@@ -12,7 +12,7 @@ use binary64::compare::maximum;
 use binary64::compare::minimum;
 use tile::ring::coord_at;
 
-// Of up to so many edges all pairs are scanned; more are swept.
+// Up to this many edges, all pairs are scanned; more are swept.
 const SCAN_LIMIT: usize = 32;
 
 // Whether the boxes of the edges i and j may meet in y. It is kept small so that it can be inlined into the loops; that is not proved.
@@ -123,7 +123,7 @@ pub fn sweep_pairs(ring: &[f64], edges: usize, work: &mut [f64], order: &mut [u3
     sweep_sorted(ring, work, order, edges)
 }
 
-// Whether all pairs of so many edges are scanned; else they are swept.
+// Whether all pairs of this many edges are scanned; else they are swept.
 fn is_scanned(edges: usize) -> bool
     ensures { λ r. ⌜ r ≡ isScanned edges ⌝ }
 {

@@ -1,5 +1,5 @@
--- What the routing of a polygon say to each other and to the crates above: no contract of an entry point reaches it, so a reader of those
--- can skip this file. Definitions only.
+-- What the functions that route a polygon say to each other and to the crates above. No contract of an entry point reaches it, so a reader
+-- of those can skip this file. Definitions only.
 use mathlib.Core.Path.{_≡_}
 use mathlib.Core.Bool.{true}
 use mathlib.Core.List.{List}
@@ -15,10 +15,8 @@ use Rattle.clip.specs.declared.polygon.Route.{Route}
 use Rattle.clip.specs.declared.polygon.Route.the-variants as Routes
 use Rattle.clip.specs.Polygon.{cutExterior}
 
--- ---- what the code asks for and leaves
-
--- a ring of n coordinates, lent at the front of a slice, can be closed and cut in two slices of these lengths; closing closes it, as its
--- first coordinate holds no NaN
+-- A ring of n coordinates at the front of a slice can be closed and cut in two slices of the lengths a and b. Its first coordinate holds no
+-- NaN, so that closing closes it.
 pub record RingRoom (n : ℕ) (ring : List Float) (a b : ℕ) : Type 0 where
   pub lent : 2 * n ≤ length ring
   pub few : length (close (coords (take (2 * n) ring))) ≤ mostCoordinates
@@ -26,12 +24,12 @@ pub record RingRoom (n : ℕ) (ring : List Float) (a b : ℕ) : Type 0 where
   pub first : 2 * B (length (close (coords (take (2 * n) ring)))) ≤ a
   pub second : 2 * B (length (close (coords (take (2 * n) ring)))) ≤ b
 
--- an exterior takes positions besides
+-- an exterior is searched for crossings too, for which the sweep takes positions
 pub record ExteriorRoom (n : ℕ) (ring : List Float) (a b order : ℕ) : Type 0 where
   pub room : RingRoom n ring a b
   pub positions : B (length (close (coords (take (2 * n) ring)))) ≤ order
 
--- where the route is a cut, the cut exterior, which has coordinates, stands at the front of the slice
+-- where the route is a cut, the cut exterior stands at the front of the slice, and it is not empty
 abbrev pub CutStands : TileBounds → List Coord → Route → List Float → Type 0
 CutStands b ring Routes.Nothing after = Unit {0}
 CutStands b ring Routes.Unchanged after = Unit {0}

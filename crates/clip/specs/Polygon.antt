@@ -140,26 +140,17 @@ answerOf unchanged = PolygonAnswers.Unchanged
 answerOf (cut rings) = PolygonAnswers.Cut (length rings)
 answerOf (overlay reason) = PolygonAnswers.Overlay reason
 
--- "dropped, guard count 1"; every other answer has none
-abbrev pub guardCount : PolygonAnswer → ℕ
-guardCount PolygonAnswers.Nothing = 0
-guardCount PolygonAnswers.Dropped = 1
-guardCount PolygonAnswers.Unchanged = 0
-guardCount (PolygonAnswers.Cut rings) = 0
-guardCount (PolygonAnswers.Overlay reason) = 0
+-- what an answer tells: the paper's number of it, "(0 nothing, 1 whole dropped, 2 whole unchanged, ..", "(2 unchanged, 4 cut, 5 overlay)";
+-- the reason, "0 unless overlay"; of a cut "how many rings"; and the guard count, "dropped, guard count 1"
+pub record Told : Type 0 where
+  pub number : ℕ
+  pub reason : ℕ
+  pub rings : ℕ
+  pub guards : ℕ
 
--- "(0 nothing, 1 whole dropped, 2 whole unchanged, ..", "(2 unchanged, 4 cut, 5 overlay)"
-abbrev pub answerNumber : PolygonAnswer → ℕ
-answerNumber PolygonAnswers.Nothing = 0
-answerNumber PolygonAnswers.Dropped = 1
-answerNumber PolygonAnswers.Unchanged = 2
-answerNumber (PolygonAnswers.Cut rings) = 4
-answerNumber (PolygonAnswers.Overlay reason) = 5
-
--- "reason, 1 byte, 0 unless overlay"
-abbrev pub answerReason : PolygonAnswer → ℕ
-answerReason PolygonAnswers.Nothing = 0
-answerReason PolygonAnswers.Dropped = 0
-answerReason PolygonAnswers.Unchanged = 0
-answerReason (PolygonAnswers.Cut rings) = 0
-answerReason (PolygonAnswers.Overlay reason) = reasonNumber reason
+abbrev pub told : PolygonAnswer → Told
+told PolygonAnswers.Nothing = record { number = 0; reason = 0; rings = 0; guards = 0 }
+told PolygonAnswers.Dropped = record { number = 1; reason = 0; rings = 0; guards = 1 }
+told PolygonAnswers.Unchanged = record { number = 2; reason = 0; rings = 0; guards = 0 }
+told (PolygonAnswers.Cut rings) = record { number = 4; reason = 0; rings = rings; guards = 0 }
+told (PolygonAnswers.Overlay reason) = record { number = 5; reason = reasonNumber reason; rings = 0; guards = 0 }

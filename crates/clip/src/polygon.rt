@@ -9,7 +9,7 @@ ghost use Rattle.tile.specs.Contracts as TileContracts;
 ghost use Rattle.box_pairs.specs.Issue.{issueOf};
 ghost use Rattle.clip.specs.Polygon as Polygon;
 ghost use Rattle.clip.specs.Contracts as Contracts;
-ghost use Rattle.clip.specs.Polygon.{guardCount};
+ghost use Rattle.clip.specs.Polygon.{told};
 use binary64::slices::copy;
 use box_pairs::Issue;
 use box_pairs::find_issue;
@@ -39,7 +39,7 @@ pub enum Reason {
     Bridge(Edge),
 }
 
-// What the exterior decides; a cut exterior has so many coordinates.
+// What the exterior decides; of a cut, how many coordinates the cut exterior has.
 pub enum Route {
     Nothing,
     Unchanged,
@@ -69,7 +69,7 @@ pub enum PolygonAnswer {
 
 // How many polygons were dropped: the source's guard count.
 pub fn guard_count(answer: PolygonAnswer) -> usize
-    ensures { λ r. ⌜ r ≡ guardCount answer ⌝ }
+    ensures { λ r. ⌜ r ≡ told answer .guards ⌝ }
 {
     match answer {
         PolygonAnswer::Nothing => 0,

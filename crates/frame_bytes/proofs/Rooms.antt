@@ -15,10 +15,10 @@ use Rattle.rings.specs.LentRings.{total, ringRoom}
 use Rattle.frame_bytes.specs.declared.reader.FrameRefusal.{FrameRefusal}
 use Rattle.frame_bytes.specs.declared.reader.FrameRefusal.the-variants.{Output}
 use Rattle.frame_bytes.specs.declared.reader.FrameCheck.the-variants.{Fails}
-use Rattle.frame_bytes.specs.declared.room.RoomTo.{RoomTo}
+use Rattle.frame_bytes.specs.declared.room.MeasuredRoom.{MeasuredRoom}
 use Rattle.frame_bytes.specs.Frame.{Reading, refused, read, refusedIf, andThen, readMany, countOf, coordsOf, readRing, readPart}
 use Rattle.frame_bytes.specs.Frame.{Frame, readFrame, headBytes, partCountOf, mostParts, mostInRing}
-use Rattle.frame_bytes.specs.Contracts.{checkOf, Accepted, passedOf, frameRoom}
+use Rattle.frame_bytes.specs.Contracts.{checkOf, Accepted, measuredRoom, frameRoom}
 use Rattle.frame_bytes.specs.Room.{partRoom, outputRoom, coordinateBytes, leastRoom, readCall}
 use Rattle.frame_bytes.proofs.Coordinates.{close-grows}
 use Rattle.frame_bytes.proofs.Places.{step, ring-at, part-at}
@@ -28,11 +28,11 @@ use Rattle.frame_bytes.proofs.Readings.{both, not-refused, taken, Reads
 
 module _ {A : Type 0} (f : List ℕ → Reading A) (g : A → ℕ) (frame : List ℕ) where
   -- the room and the end of so many things from a place on
-  abbrev pub left : ℕ → ℕ → RoomTo
-  left at k = passedOf (length frame) (total g) (readMany f k (drop at frame))
+  abbrev pub left : ℕ → ℕ → MeasuredRoom
+  left at k = measuredRoom (length frame) (total g) (readMany f k (drop at frame))
 
   -- the room so far, with the room of what is left, is the whole room
-  pub record Summed (whole : RoomTo) (sofar at k : ℕ) : Type 0 where
+  pub record Summed (whole : MeasuredRoom) (sofar at k : ℕ) : Type 0 where
     pub within : at ≤ length frame
     pub accepted : Accepted (readMany f k (drop at frame))
     pub sum : whole .room ≡ sofar + left at k .room
@@ -45,7 +45,7 @@ module _ {A : Type 0} (f : List ℕ → Reading A) (g : A → ℕ) (frame : List
       let p = many-first f k (drop at frame) (t .value) (t .rest) (t .is) in
       rw (p .first)
 
-  pub sum-step : Reads f → (whole : RoomTo) (sofar at k : ℕ) (one : RoomTo) → 0 < k → one ≡ passedOf (length frame) g
+  pub sum-step : Reads f → (whole : MeasuredRoom) (sofar at k : ℕ) (one : MeasuredRoom) → 0 < k → one ≡ measuredRoom (length frame) g
       (f (drop at frame)) → Summed whole sofar at k
       → Summed whole (sofar + one .room) (one .next) (k - 1)
   unfolding total
@@ -69,13 +69,13 @@ module _ {A : Type 0} (f : List ℕ → Reading A) (g : A → ℕ) (frame : List
             end = rw later (s .end ∙ rw now);
           }
 
-  pub sum-end : (whole : RoomTo) (sofar at k : ℕ) → k ≤ 0 → Summed whole sofar at k → whole ≡ record { room = sofar; next = at }
+  pub sum-end : (whole : MeasuredRoom) (sofar at k : ℕ) → k ≤ 0 → Summed whole sofar at k → whole ≡ record { room = sofar; next = at }
   unfolding total readMany
   sum-end whole sofar at (suc k) h s = absurd (omega arith)
   sum-end whole sofar at zero h s =
       let r : whole .room ≡ sofar = s .sum ∙ omega arith in
       let n : whole .next ≡ at = s .end ∙ (let w = s .within in omega (arith, length-drop at frame)) in
-      let e : _≡_ {A = RoomTo} (record { room = whole .room; next = whole .next }) (record { room = sofar; next = at }) = cc in
+      let e : _≡_ {A = MeasuredRoom} (record { room = whole .room; next = whole .next }) (record { room = sofar; next = at }) = cc in
       e
 
   -- no more than so much for each
@@ -113,7 +113,7 @@ module _ (frame : List ℕ) (at : ℕ) (h : at ≤ length frame) (a : Accepted (
   pub ring-few : countOf (drop at frame) ≤ mostInRing
   ring-few = let t = taken (readRing (drop at frame)) a in ring-at frame at (t .value) (t .rest) h (t .is) .few
 
-  pub ring-passed : passedOf (length frame) ringRoom (readRing (drop at frame))
+  pub ring-passed : measuredRoom (length frame) ringRoom (readRing (drop at frame))
       ≡ record {
         room = B (length (close (coordsOf (countOf (drop at frame)) (drop (at + 2) frame))));
         next = at + 2 + 16 * countOf
@@ -121,7 +121,7 @@ module _ (frame : List ℕ) (at : ℕ) (h : at ≤ length frame) (a : Accepted (
       }
   ring-passed = let t = taken (readRing (drop at frame)) a in go (t .value) (t .rest) (t .is)
     where
-      go : (ring : List Coord) (rest : List ℕ) → readRing (drop at frame) ≡ read ring rest → passedOf (length frame) ringRoom
+      go : (ring : List Coord) (rest : List ℕ) → readRing (drop at frame) ≡ read ring rest → measuredRoom (length frame) ringRoom
           (readRing (drop at frame))
           ≡ record {
             room = B (length (close (coordsOf (countOf (drop at frame)) (drop (at + 2) frame))));
@@ -137,7 +137,7 @@ module _ (frame : List ℕ) (at : ℕ) (h : at ≤ length frame) (a : Accepted (
 
 -- ---- the rings of a part
 
-pub rings-le : (size k : ℕ) (l : List ℕ) → Accepted (readMany readRing k l) → passedOf size (total ringRoom)
+pub rings-le : (size k : ℕ) (l : List ℕ) → Accepted (readMany readRing k l) → measuredRoom size (total ringRoom)
     (readMany readRing k l) .room ≤ k * mostRing
 rings-le size k l a =
     let t = taken (readMany readRing k l) a in rw (t .is) (sum-le readRing ringRoom [] mostRing ring-le k l (t .value) (t .rest) (t .is))
@@ -151,15 +151,15 @@ part-le l part rest e =
     omega (arith, sum-le readRing ringRoom [] mostRing ring-le (countOf l) (drop 2 l) part rest (p .rings))
 
 module _ (frame : List ℕ) (at : ℕ) (h : at ≤ length frame) (a : Accepted (readPart (drop at frame))) where
-  pub part-passed : (rings : RoomTo) → rings ≡ passedOf (length frame) (total ringRoom)
+  pub part-passed : (rings : MeasuredRoom) → rings ≡ measuredRoom (length frame) (total ringRoom)
       (readMany readRing (countOf (drop at frame)) (drop (at + 2) frame))
-      → passedOf (length frame) (partRoom coordinateBytes) (readPart (drop at frame)) ≡ record
+      → measuredRoom (length frame) (partRoom coordinateBytes) (readPart (drop at frame)) ≡ record
       { room = 6 + 2 * countOf (drop at frame) + coordinateBytes * rings .room; next = rings .next }
   unfolding partRoom
   part-passed rings r = let t = taken (readPart (drop at frame)) a in go (t .value) (t .rest) (t .is)
     where
       go : (part : List (List Coord)) (rest : List ℕ) → readPart (drop at frame) ≡ read part rest
-          → passedOf (length frame) (partRoom coordinateBytes) (readPart (drop at frame)) ≡ record
+          → measuredRoom (length frame) (partRoom coordinateBytes) (readPart (drop at frame)) ≡ record
           { room = 6 + 2 * countOf (drop at frame) + coordinateBytes * rings .room; next = rings .next }
       go part rest e =
           let p = part-at frame at part rest h e in
@@ -168,7 +168,7 @@ module _ (frame : List ℕ) (at : ℕ) (h : at ≤ length frame) (a : Accepted (
 
 -- ---- the parts of a frame
 
-pub parts-le : (size k : ℕ) (l : List ℕ) → Accepted (readMany readPart k l) → passedOf size (total (partRoom coordinateBytes))
+pub parts-le : (size k : ℕ) (l : List ℕ) → Accepted (readMany readPart k l) → measuredRoom size (total (partRoom coordinateBytes))
     (readMany readPart k l) .room ≤ k * mostPart
 parts-le size k l a =
     let t = taken (readMany readPart k l) a in rw (t .is) (sum-le readPart (partRoom coordinateBytes) [] mostPart part-le k l (t .value)
@@ -184,13 +184,13 @@ module _ (frame : List ℕ) (a : Accepted (readFrame frame)) where
   pub frame-parts : Accepted (readMany readPart (partCountOf frame) (drop headBytes frame))
   frame-parts = let t = taken (readFrame frame) a in rw (frame-read frame (t .value) (t .rest) (t .is) .parts)
 
-  pub frame-passed : frameRoom coordinateBytes (readFrame frame) ≡ leastRoom + passedOf (length frame)
+  pub frame-passed : frameRoom coordinateBytes (readFrame frame) ≡ leastRoom + measuredRoom (length frame)
       (total (partRoom coordinateBytes)) (readMany readPart (partCountOf frame) (drop headBytes frame)) .room
   unfolding outputRoom
   frame-passed = let t = taken (readFrame frame) a in go (t .value) (t .rest) (t .is)
     where
       go : (f : Frame) (rest : List ℕ) → readFrame frame ≡ read f rest
-          → frameRoom coordinateBytes (readFrame frame) ≡ leastRoom + passedOf (length frame) (total (partRoom coordinateBytes))
+          → frameRoom coordinateBytes (readFrame frame) ≡ leastRoom + measuredRoom (length frame) (total (partRoom coordinateBytes))
           (readMany readPart (partCountOf frame) (drop headBytes frame)) .room
       go f rest e = rw (e, frame-read frame f rest e .parts)
 

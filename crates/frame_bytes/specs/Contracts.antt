@@ -1,5 +1,5 @@
--- What the walks over a frame say to each other and to the crates above: no contract of an entry point reaches it, so a reader of those can
--- skip this file. Definitions only.
+-- What the functions that walk over a frame say to each other and to the crates above. No contract of an entry point reaches it, so a
+-- reader of those can skip this file. Definitions only.
 use mathlib.Core.Path.{_≡_}
 use mathlib.Core.Bool.{Bool, true, false, not}
 use mathlib.Core.List.{List, []}
@@ -16,12 +16,15 @@ use Rattle.frame_bytes.specs.declared.reader.FrameCheck.{FrameCheck}
 use Rattle.frame_bytes.specs.declared.reader.FrameCheck.the-variants.{Fails, Passes}
 use Rattle.frame_bytes.specs.declared.reader.FrameWalk.{FrameWalk}
 use Rattle.frame_bytes.specs.declared.reader.FrameWalk.the-variants.{Stops, Reaches}
-use Rattle.frame_bytes.specs.declared.room.RoomTo.{RoomTo}
+use Rattle.frame_bytes.specs.declared.room.MeasuredRoom.{MeasuredRoom}
 use Rattle.frame_bytes.specs.declared.measure.Measured.{Measured}
 use Rattle.frame_bytes.specs.Frame.{Reading, refused, read, readMany, readRing, readPart, Frame}
 use Rattle.frame_bytes.specs.Room.{outputRoom}
 
--- ---- what the functions answer of a reading
+-- ---- a reading, as the functions answer it
+--
+-- Some of these are given for a refused reading too, since a definition needs every case. The functions that cite them require an accepted
+-- one, so that case is never looked at.
 
 -- whether it is refused
 abbrev pub checkOf : {A : Type 0} → Reading A → FrameCheck
@@ -31,49 +34,52 @@ checkOf (read a rest) = Passes
 abbrev pub Accepted : {A : Type 0} → Reading A → Type 0
 Accepted x = checkOf x ≡ Passes
 
--- where it ends in a frame of so many bytes
+-- where the walk over it ends, in a frame of `size` bytes
 abbrev pub walked : {A : Type 0} → ℕ → Reading A → FrameWalk
 walked size (refused r) = Stops r
 walked size (read a rest) = Reaches (size - length rest)
 
--- all rings or all parts that are read; of a refusal, none
+-- all rings, or all parts, that were read
 abbrev pub allIn : {A : Type 0} → Reading (List A) → List A
 allIn (refused r) = []
 allIn (read all rest) = all
 
--- the rings of the part at a place, and so many rings from a place on
+-- the rings of the part that begins at a position of the frame
 abbrev pub partAt : List ℕ → ℕ → List (List Coord)
 partAt frame at = allIn (readPart (drop at frame))
 
+-- the k rings that begin at a position of the frame
 abbrev pub ringsFrom : List ℕ → ℕ → ℕ → List (List Coord)
 ringsFrom frame at k = allIn (readMany readRing k (drop at frame))
 
--- what the functions answer of a reading in a frame of so many bytes: the room of what was read, and where the next thing starts
-abbrev pub passedOf : {A : Type 0} → ℕ → (A → ℕ) → Reading A → RoomTo
-passedOf size f (refused r) = record { room = 0; next = 0 }
-passedOf size f (read a rest) = record { room = f a; next = size - length rest }
+-- the output that what was read asks for, and where the next thing starts in a frame of `size` bytes
+abbrev pub measuredRoom : {A : Type 0} → ℕ → (A → ℕ) → Reading A → MeasuredRoom
+measuredRoom size f (refused r) = record { room = 0; next = 0 }
+measuredRoom size f (read a rest) = record { room = f a; next = size - length rest }
 
+-- the output that a frame asks for
 abbrev pub frameRoom : ℕ → Reading Frame → ℕ
 frameRoom coordinate (refused r) = 0
 frameRoom coordinate (read f rest) = outputRoom coordinate (f .parts)
 
--- of a part in a frame of so many bytes: a rectangle with its rings, and where the next part starts. Of a refusal there is nothing to
--- measure, and no function asks: what stands there is of no use
+-- ---- what is measured of a frame as it stands
+
+-- a rectangle grown by the rings of a part, and where the next part starts in a frame of `size` bytes
 abbrev pub measuredOf : ℕ → Rect → Reading (List (List Coord)) → Measured
 measuredOf size rect (refused r) = record { rect = rect; next = 0 }
 measuredOf size rect (read rings rest) = record { rect = withRings rect rings; next = size - length rest }
 
--- the rectangle of all parts; of a refusal, as above, no use
+-- the rectangle of all parts
 abbrev pub frameRect : Reading Frame → Rect
 frameRect (refused r) = Rects.Nothing
 frameRect (read f rest) = withParts Rects.Nothing (f .parts)
 
--- whether a part has such a coordinate; of a refusal, as above, no use
+-- whether a part has a coordinate that the overlay can't take
 abbrev pub hugeOf : Reading (List (List Coord)) → Bool
 hugeOf (refused r) = false
 hugeOf (read rings rest) = anyHugeRing rings
 
--- whether the exterior of a part has no issue if it is assumed to be simple; of a refusal, as above, no use
+-- whether the exterior of a part, assumed to be simple, has no issue
 abbrev pub soundIfSimple : Reading (List (List Coord)) → Bool
 soundIfSimple (refused r) = false
 soundIfSimple (read rings rest) = not (hasIssue (issueOf true (exterior rings)))

@@ -71,7 +71,7 @@ abbrev pub andThen : {A B : Type 0} → Reading A → (A → List ℕ → Readin
 andThen (refused r) next = refused r
 andThen (read a rest) next = next a rest
 
--- so many of one thing, one behind the other
+-- k things of one kind, one behind the other
 unfoldable pub readMany : {A : Type 0} → (List ℕ → Reading A) → ℕ → List ℕ → Reading (List A)
 readMany f zero l = read [] l
 readMany f (suc k) l = andThen (f l) (λ a rest. andThen (readMany f k rest) (λ others. read (a ∷ others)))
@@ -112,7 +112,7 @@ wrongRingCount k = eqb k 0 || ltb mostRings k
 unfoldable pub readPart : List ℕ → Reading (List (List Coord))
 readPart l = andThen (readCount l) (λ k rest. refusedIf (wrongRingCount k) RingCount (readMany readRing k rest))
 
--- so many parts, and "18 when bytes follow the last part"
+-- k parts, and "18 when bytes follow the last part"
 unfoldable pub readParts : ℕ → List ℕ → Reading (List (List (List Coord)))
 readParts k l = andThen (readMany readPart k l) (λ parts rest. refusedIf (ltb 0 (length rest)) Trailing (read parts rest))
 

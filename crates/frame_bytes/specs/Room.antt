@@ -27,6 +27,6 @@ outputRoom coordinate parts = leastRoom + total (partRoom coordinate) parts
 abbrev pub mostRoom : ℕ
 mostRoom = 50077
 
--- "A frame call does 11 to 18 and 22": the frame, where an output of so many bytes has the room
+-- "A frame call does 11 to 18 and 22": the frame, where an output of `out` bytes has the room
 unfoldable pub readCall : List ℕ → ℕ → Reading Frame
 readCall l out = andThen (readFrame l) (λ f rest. refusedIf (ltb out (outputRoom coordinateBytes (f .parts))) Output (read f rest))

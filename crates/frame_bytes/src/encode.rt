@@ -1,4 +1,4 @@
-// The bytes of an answer: counts, coordinates, rings, the header and the fixed part of a listed part, each written at a place of the
+// The bytes of an answer: counts, coordinates, rings, the header and the fixed part of a listed part, each written at a position of the
 // output.
 ghost use mathlib.Core.Path.{_≡_};
 ghost use mathlib.Core.List.{[], _∷_, _++_};

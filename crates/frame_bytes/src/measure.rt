@@ -31,7 +31,7 @@ pub struct Measured {
     pub next: usize,
 }
 
-// Whether the coordinate at a place is finite. Where that is asked first, the compiler reads its bits once and leaves out the making of a
+// Whether the coordinate at `at` is finite. Where that is asked first, the compiler reads its bits once and leaves out the making of a
 // NaN from them.
 fn is_finite_at(frame: &[u8], at: usize) -> bool
     requires { ⌜ at + 16 ≤ length (now frame) ⌝ }
@@ -40,7 +40,7 @@ fn is_finite_at(frame: &[u8], at: usize) -> bool
     is_finite_coord(coord_at(frame, at))
 }
 
-// The rectangle of four numbers with the `count` coordinates at a place. The numbers are carried one by one: an enum would be stored and
+// The rectangle of four numbers with the `count` coordinates at `at`. The numbers are carried one by one: an enum would be stored and
 // read back for every coordinate.
 fn box_with_coords(w: f64, s: f64, e: f64, n: f64, frame: &[u8], at: usize, count: usize) -> Rect
     requires { ⌜ Numbers w s e n × (at + 16 * count ≤ length (now frame)) ⌝ }
@@ -66,7 +66,7 @@ fn box_with_coords(w: f64, s: f64, e: f64, n: f64, frame: &[u8], at: usize, coun
     Rect::Box(west, south, east, north)
 }
 
-// The rectangle with the n coordinates at a place. The first leaves something in it, so the arm for Nothing is never taken.
+// The rectangle with the n coordinates at `at`. The first leaves something in it, so the arm for Nothing is never taken.
 fn with_coords(frame: &[u8], at: usize, n: usize, rect: Rect) -> Rect
     requires { ⌜ at + 16 * n ≤ length (now frame) ⌝ }
     ensures { λ r. ⌜ r ≡ withRing rect (Frames.coordsOf n (drop at (now (frame .entry)))) ⌝ }
@@ -89,7 +89,7 @@ fn with_coords(frame: &[u8], at: usize, n: usize, rect: Rect) -> Rect
     }
 }
 
-// The rectangle with all rings of the part at a place.
+// The rectangle with all rings of the part at `at`.
 pub fn part_rect(frame: &[u8], at: usize, rect: Rect) -> Measured
     requires { ⌜ (at ≤ length (now frame)) × Contracts.Accepted (Frames.readPart (drop at (now frame))) ⌝ }
     ensures { λ r. ⌜ r ≡ measuredOf (length (now (frame .entry))) rect (Frames.readPart (drop at (now (frame .entry)))) ⌝ }
@@ -124,7 +124,7 @@ pub fn whole_rect(frame: &[u8]) -> Rect
     rect
 }
 
-// Whether one of the n coordinates at a place has a magnitude of 1e150 or more.
+// Whether one of the n coordinates at `at` has a magnitude of 1e150 or more.
 fn has_huge(frame: &[u8], at: usize, n: usize) -> bool
     requires { ⌜ at + 16 * n ≤ length (now frame) ⌝ }
     ensures { λ r. ⌜ r ≡ anyHuge (Frames.coordsOf n (drop at (now (frame .entry)))) ⌝ }
@@ -139,7 +139,7 @@ fn has_huge(frame: &[u8], at: usize, n: usize) -> bool
     false
 }
 
-// Whether one of the coordinates of the part at a place has.
+// Whether one of the coordinates of the part at `at` has a magnitude of 1e150 or more.
 pub fn part_has_huge(frame: &[u8], at: usize) -> bool
     requires { ⌜ (at ≤ length (now frame)) × Contracts.Accepted (Frames.readPart (drop at (now frame))) ⌝ }
     ensures { λ r. ⌜ r ≡ hugeOf (Frames.readPart (drop at (now (frame .entry)))) ⌝ }

@@ -95,7 +95,7 @@ fn is_wrong_ring_count(rings: usize) -> bool
     rings == 0 || rings > MOST_RINGS
 }
 
-// Passes over the ring at a place.
+// Passes over the ring at `at`.
 fn pass_ring(frame: &[u8], at: usize) -> FrameWalk
     requires { ⌜ at ≤ length (now frame) ⌝ }
     ensures { λ r. ⌜ r ≡ Contracts.walked (length (now (frame .entry))) (Frames.readRing (drop at (now (frame .entry)))) ⌝ }
@@ -114,7 +114,7 @@ fn pass_ring(frame: &[u8], at: usize) -> FrameWalk
     FrameWalk::Reaches(at + COUNT + COORD * n)
 }
 
-// Passes over so many rings from a place on.
+// Passes over `rings` rings, the first of which begins at `start`.
 fn pass_rings(frame: &[u8], start: usize, rings: usize) -> FrameWalk
     requires { ⌜ start ≤ length (now frame) ⌝ }
     ensures { λ r. ⌜ r ≡ Contracts.walked (length (now (frame .entry)))
@@ -136,7 +136,7 @@ fn pass_rings(frame: &[u8], start: usize, rings: usize) -> FrameWalk
     FrameWalk::Reaches(at)
 }
 
-// Passes over the part at a place.
+// Passes over the part at `at`.
 fn pass_part(frame: &[u8], at: usize) -> FrameWalk
     requires { ⌜ at ≤ length (now frame) ⌝ }
     ensures { λ r. ⌜ r ≡ Contracts.walked (length (now (frame .entry))) (Frames.readPart (drop at (now (frame .entry)))) ⌝ }
@@ -151,7 +151,7 @@ fn pass_part(frame: &[u8], at: usize) -> FrameWalk
     FrameWalk::Stops(FrameRefusal::Truncated)
 }
 
-// Passes over so many parts from a place on.
+// Passes over `parts` parts, the first of which begins at `start`.
 fn pass_parts(frame: &[u8], start: usize, parts: usize) -> FrameWalk
     requires { ⌜ start ≤ length (now frame) ⌝ }
     ensures { λ r. ⌜ r ≡ Contracts.walked (length (now (frame .entry)))

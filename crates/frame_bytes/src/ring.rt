@@ -1,4 +1,4 @@
-// Counts, coordinates and rings at a place of a frame.
+// Counts, coordinates and rings at a position of a frame.
 ghost use mathlib.Core.Path.{_≡_};
 ghost use Prim.Native.Nat.{_+_, _*_, _^_, _<_, _≤_};
 ghost use lib.ListN.{length, drop};
@@ -15,7 +15,7 @@ pub const COUNT: usize = 2;
 
 pub const COORD: usize = 16;
 
-// The count at a place: of parts, of rings or of coordinates.
+// The count at `at`: of parts, of rings or of coordinates.
 pub fn count_at(frame: &[u8], at: usize) -> usize
     requires { ⌜ at + 2 ≤ length (now frame) ⌝ }
     ensures { λ r. ⌜ (r ≡ Frames.countOf (drop at (now (frame .entry)))) × (r < 2 ^ 16) ⌝ }
@@ -33,7 +33,7 @@ pub fn coord_at(frame: &[u8], at: usize) -> Coord
     }
 }
 
-// Whether the ring of n coordinates at a place is closed.
+// Whether the ring of n coordinates at `at` is closed.
 fn is_closed(frame: &[u8], at: usize, n: usize) -> bool
     requires { ⌜ at + 16 * n ≤ length (now frame) ⌝ }
     ensures { λ r. ⌜ r ≡ closed (Frames.coordsOf n (drop at (now (frame .entry)))) ⌝ }
@@ -45,7 +45,7 @@ fn is_closed(frame: &[u8], at: usize, n: usize) -> bool
     first.equals(coord_at(frame, at + COORD * (n - 1)))
 }
 
-// How many coordinates the ring of n at a place has when closed.
+// How many coordinates the ring of n at `at` has when closed.
 pub fn closed_count(frame: &[u8], at: usize, n: usize) -> usize
     requires { ⌜ at + 16 * n ≤ length (now frame) ⌝ }
     ensures { λ r. ⌜ r ≡ length (close (Frames.coordsOf n (drop at (now (frame .entry))))) ⌝ }
@@ -56,7 +56,7 @@ pub fn closed_count(frame: &[u8], at: usize, n: usize) -> usize
     n + 1
 }
 
-// Writes the n coordinates at a place of the frame, not closed, to the front of `ring`, and answers where the next ring starts.
+// Writes the n coordinates at position `at` of the frame, not closed, to the front of `ring`, and answers where the next ring starts.
 pub fn decode_ring(frame: &[u8], at: usize, n: usize, ring: &mut [f64]) -> usize
     requires { ⌜ (at + 16 * n ≤ length (now frame)) × (2 * n ≤ length (now ring)) ⌝ }
     ensures { λ r. ⌜ (r ≡ at + 16 * n) × (now (ring .exit) ≡ sets (now (ring .entry)) 0

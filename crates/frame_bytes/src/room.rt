@@ -25,29 +25,29 @@ pub const LEAST_ROOM: usize = 5;
 const CUT_PART: usize = PART + COUNT;
 
 // The room of what was passed over, and where the next thing starts.
-struct RoomTo {
+struct MeasuredRoom {
     room: usize,
     next: usize,
 }
 
-// The room, in coordinates, of the ring at a place, by its length closed.
-fn ring_room(frame: &[u8], at: usize) -> RoomTo
+// The room, in coordinates, of the ring at `at`, by its length closed.
+fn ring_room(frame: &[u8], at: usize) -> MeasuredRoom
     requires { ⌜ (at ≤ length (now frame)) × Contracts.Accepted (Frames.readRing (drop at (now frame))) ⌝ }
-    ensures { λ r. ⌜ r ≡ Contracts.passedOf (length (now (frame .entry))) ringRoom (Frames.readRing (drop at (now (frame .entry)))) ⌝ }
+    ensures { λ r. ⌜ r ≡ Contracts.measuredRoom (length (now (frame .entry))) ringRoom (Frames.readRing (drop at (now (frame .entry)))) ⌝ }
 {
     let n = count_at(frame, at);
     let coords = at + COUNT;
-    RoomTo {
+    MeasuredRoom {
         room: room_for(closed_count(frame, coords, n)),
         next: coords + COORD * n,
     }
 }
 
-// The room, in coordinates, of so many rings from a place on.
-fn rings_room(frame: &[u8], start: usize, rings: usize) -> RoomTo
+// The room, in coordinates, of `rings` rings, the first of which begins at `start`.
+fn rings_room(frame: &[u8], start: usize, rings: usize) -> MeasuredRoom
     requires { ⌜ (start ≤ length (now frame)) × (rings ≤ mostRings)
         × Contracts.Accepted (Frames.readMany Frames.readRing rings (drop start (now frame))) ⌝ }
-    ensures { λ r. ⌜ r ≡ Contracts.passedOf (length (now (frame .entry))) (total ringRoom)
+    ensures { λ r. ⌜ r ≡ Contracts.measuredRoom (length (now (frame .entry))) (total ringRoom)
         (Frames.readMany Frames.readRing rings (drop start (now (frame .entry)))) ⌝ }
 {
     let mut room = 0usize;
@@ -59,18 +59,18 @@ fn rings_room(frame: &[u8], start: usize, rings: usize) -> RoomTo
         at = ring.next;
         left -= 1;
     }
-    RoomTo { room, next: at }
+    MeasuredRoom { room, next: at }
 }
 
-// The room, in bytes, of the part at a place.
-fn part_room(frame: &[u8], at: usize) -> RoomTo
+// The room, in bytes, of the part at `at`.
+fn part_room(frame: &[u8], at: usize) -> MeasuredRoom
     requires { ⌜ (at ≤ length (now frame)) × Contracts.Accepted (Frames.readPart (drop at (now frame))) ⌝ }
-    ensures { λ r. ⌜ r ≡ Contracts.passedOf (length (now (frame .entry))) (OutputRoom.partRoom OutputRoom.coordinateBytes)
+    ensures { λ r. ⌜ r ≡ Contracts.measuredRoom (length (now (frame .entry))) (OutputRoom.partRoom OutputRoom.coordinateBytes)
         (Frames.readPart (drop at (now (frame .entry)))) ⌝ }
 {
     let rings = count_at(frame, at);
     let cut = rings_room(frame, at + COUNT, rings);
-    RoomTo {
+    MeasuredRoom {
         room: CUT_PART + COUNT * rings + COORD * cut.room,
         next: cut.next,
     }
@@ -93,7 +93,7 @@ pub fn frame_room(frame: &[u8]) -> usize
     room
 }
 
-// The refusals of a frame call with an output of so many bytes, in their order.
+// The refusals of a frame call with an output of `out` bytes, in their order.
 pub fn check_call(frame: &[u8], out: usize) -> FrameCheck
     ensures { λ r. ⌜ r ≡ Contracts.checkOf (OutputRoom.readCall (now (frame .entry)) out) ⌝ }
 {

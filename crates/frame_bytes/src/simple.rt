@@ -14,7 +14,7 @@ use super::ring::coord_at;
 use super::ring::count_at;
 use box_pairs::cross::is_short;
 
-// Whether two neighbours of the ring of n coordinates at a place, closed to `count`, are near each other, the last segment excepted. Each
+// Whether two neighbours of the ring of n coordinates at `at`, closed to `count`, are near each other, the last segment excepted. Each
 // coordinate is read once.
 fn has_repeated(frame: &[u8], at: usize, n: usize, count: usize) -> bool
     requires { ⌜ (at + 16 * n ≤ length (now frame)) × (count ≡ length (close (Frames.coordsOf n (drop at (now frame))))) × (4 ≤ count) ⌝ }
@@ -33,7 +33,7 @@ fn has_repeated(frame: &[u8], at: usize, n: usize, count: usize) -> bool
     false
 }
 
-// Whether the exterior of the part at a place has no issue if it is assumed to be simple.
+// Whether the exterior of the part at `at` has no issue if it is assumed to be simple.
 pub fn is_sound_if_simple(frame: &[u8], at: usize) -> bool
     requires { ⌜ (at ≤ length (now frame)) × Contracts.Accepted (Frames.readPart (drop at (now frame))) ⌝ }
     ensures { λ r. ⌜ r ≡ soundIfSimple (Frames.readPart (drop at (now (frame .entry)))) ⌝ }

@@ -147,7 +147,7 @@ record ListingFits (n : ℕ) (l : Listing) : Type 0 where
 
 module _ (i n : ℕ) (h : Fits i) (l : Listing) (w : ListingFits n l) where
   one-more : (to : Polygon.Routed) → RoutedFits to
-      → ListingFits (suc n) (record { guard = Polygon.guardCount (Polygon.answerOf to) + l .guard; parts = listedBefore i to (l .parts) })
+      → ListingFits (suc n) (record { guard = Polygon.told (Polygon.answerOf to) .guards + l .guard; parts = listedBefore i to (l .parts) })
   one-more Polygon.nothing f = record { guards = omega (arith, w .guards); listed = omega (arith, w .listed); each-fits = w .each-fits }
   one-more Polygon.dropped f = record { guards = omega (arith, w .guards); listed = omega (arith, w .listed); each-fits = w .each-fits }
   one-more Polygon.unchanged f =

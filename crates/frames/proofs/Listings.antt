@@ -22,7 +22,7 @@ use Rattle.clip.specs.declared.polygon.Flags.{Flags}
 use Rattle.clip.specs.declared.polygon.Route.{Route}
 use Rattle.clip.specs.declared.polygon.Route.the-variants as Routes
 use Rattle.clip.specs.Polygon as Polygon
-use Rattle.clip.specs.Polygon.{answerOf, guardCount}
+use Rattle.clip.specs.Polygon.{answerOf, told}
 use Rattle.clip.proofs.Cuts.{cut-fits-room, hole-fits-room}
 use Rattle.frame_bytes.specs.Frame.{Reading, read, mostParts, readPart, readMany}
 use Rattle.frame_bytes.specs.Contracts.{Accepted, allIn, partAt, measuredOf}
@@ -303,7 +303,7 @@ unfolding readMany
 parts-end frame at zero h = refl
 parts-end frame at (suc k) h = absurd (omega arith)
 
-few-one : (i : ℕ) (to : Polygon.Routed) → (length (listedBefore i to []) ≤ 1) × (guardCount (answerOf to) ≤ 1)
+few-one : (i : ℕ) (to : Polygon.Routed) → (length (listedBefore i to []) ≤ 1) × (told (answerOf to) .guards ≤ 1)
 few-one i Polygon.nothing = (omega arith, omega arith)
 few-one i Polygon.dropped = (omega arith, omega arith)
 few-one i Polygon.unchanged = (omega arith, omega arith)

@@ -13,7 +13,7 @@ use Rattle.rings.specs.declared.rectangle.Rect.the-variants as Rects
 use Rattle.rings.specs.Rectangle.{rectangle, intersectsBounds, isFullyInside, withParts}
 use Rattle.clip.specs.declared.polygon.Flags.{Flags}
 use Rattle.clip.specs.Polygon as Polygon
-use Rattle.clip.specs.Polygon.{answerOf, guardCount}
+use Rattle.clip.specs.Polygon.{answerOf, told}
 use Rattle.frame_bytes.specs.declared.head.Head.{Head}
 use Rattle.frame_bytes.specs.Frame.{polygonKind, Frame}
 
@@ -63,7 +63,7 @@ listedBefore i (Polygon.overlay reason) parts = record { index = i; outcome = Po
 
 -- "Guard counts add up."
 abbrev pub addPart : ℕ → Polygon.Routed → Listing → Listing
-addPart i to l = record { guard = guardCount (answerOf to) + l .guard; parts = listedBefore i to (l .parts) }
+addPart i to l = record { guard = told (answerOf to) .guards + l .guard; parts = listedBefore i to (l .parts) }
 
 -- the parts from the i-th on
 unfoldable pub listParts : Flags → TileBounds → ℕ → List (List (List Coord)) → Listing

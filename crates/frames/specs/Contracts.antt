@@ -1,5 +1,5 @@
--- What the functions that list parts say to each other and to the crates above: no contract of an entry point reaches it, so a reader of
--- those can skip this file. Definitions only.
+-- What the functions that route, cut and list the parts of a frame say to each other. No contract of an entry point reaches it, so a reader
+-- of those can skip this file. Definitions only.
 use mathlib.Core.Path.{_≡_}
 use mathlib.Core.Bool.{cond, true, Bool, not, _&&_, _||_}
 use mathlib.Core.List.{List, []}
@@ -22,7 +22,7 @@ use Rattle.rings.specs.Contracts.{allClosed}
 use Rattle.clip.specs.declared.polygon.Flags.{Flags}
 use Rattle.clip.specs.declared.polygon.Route.{Route}
 use Rattle.clip.specs.Polygon as Polygon
-use Rattle.clip.specs.Polygon.{answerOf, guardCount, routeMeasured}
+use Rattle.clip.specs.Polygon.{answerOf, told, routeMeasured}
 use Rattle.clip.specs.Contracts as ClipContracts
 use Rattle.frame_bytes.specs.declared.head.Head.{Head}
 use Rattle.frame_bytes.specs.Frame.{polygonKind, Frame, Reading, refused, read, mostInRing, readRing, readMany, readPart, mostParts}
@@ -38,9 +38,9 @@ use Rattle.frames.specs.Answer.{Answer, Nothing, Dropped, Unchanged, Lis
 use Rattle.frames.specs.Answer.{ofParts, flagsIn, onlyPart, answerTo}
 use Rattle.frames.specs.Output.{answerByte, partBytes, answerBytes}
 
--- ---- what is answered and written
+-- ---- one part: what is answered and written
 
--- what the routing of a part writes: the bytes of a cut or an overlay
+-- the bytes that routing a part writes: those of a cut or of an overlay
 abbrev pub writtenPart : ℕ → Polygon.Routed → List ℕ
 writtenPart index Polygon.nothing = []
 writtenPart index Polygon.dropped = []
@@ -48,7 +48,7 @@ writtenPart index Polygon.unchanged = []
 writtenPart index (Polygon.cut rings) = partBytes coordBytes (record { index = index; outcome = Polygon.cut rings })
 writtenPart index (Polygon.overlay reason) = partBytes coordBytes (record { index = index; outcome = Polygon.overlay reason })
 
--- to is the place of the output where a listed part is written
+-- what is answered of a part; a listed one is written from position `to` of the output on, and the answer says where it ends
 abbrev pub partAnswer : ℕ → ℕ → Polygon.Routed → PartAnswer
 partAnswer to index Polygon.nothing = PartAnswers.Nothing
 partAnswer to index Polygon.dropped = PartAnswers.Dropped
@@ -56,16 +56,16 @@ partAnswer to index Polygon.unchanged = PartAnswers.Unchanged
 partAnswer to index (Polygon.cut rings) = PartAnswers.Listed (to + length (writtenPart index (Polygon.cut rings)))
 partAnswer to index (Polygon.overlay reason) = PartAnswers.Listed (to + length (writtenPart index (Polygon.overlay reason)))
 
--- rings written behind what is written
+-- rings were written behind those that stood there, and the cursor stands behind them
 pub record PutRings (rings : List (List Coord)) (at : RingCursor) (out : List ℕ) (r : RingCursor) (out′ : List ℕ) : Type 0 where
   pub output : out′ ≡ sets out (at .next) (each (ringBytes coordBytes) rings)
   pub next-after : r .next ≡ at .next + length (each (ringBytes coordBytes) rings)
   pub rings-after : r .rings ≡ at .rings + length rings
 
--- ---- room
+-- ---- one part: the room it needs
 
--- the working slices have room for each of the rings: one for the ring as it is read, and two for cutting it; closing closes them, as no
--- first coordinate holds a NaN
+-- Three working slices, one for a ring as it is read and two for cutting it, have room for each of the rings. No first coordinate holds a
+-- NaN, so that closing closes every ring.
 pub record Working (rings : List (List Coord)) (ring a b : ℕ) : Type 0 where
   pub small : largest length rings ≤ mostInRing + 1
   pub closes : allClosed rings ≡ true
@@ -73,14 +73,14 @@ pub record Working (rings : List (List Coord)) (ring a b : ℕ) : Type 0 where
   pub first : 2 * B (largest length rings) ≤ a
   pub second : 2 * B (largest length rings) ≤ b
 
--- so many rings are there from a place on, can be cut, and have room in the output behind what is written
+-- the frame has k rings from position `at` on, they can be cut, and they have room in the output behind what is written
 pub record RingsRoom (frame : List ℕ) (at k ring a b out : ℕ) (placed : RingCursor) : Type 0 where
   pub within : at ≤ length frame
   pub accepted : Accepted (readMany readRing k (drop at frame))
   pub working : Working (ringsFrom frame at k) ring a b
   pub output : placed .next + (2 * length (ringsFrom frame at k) + coordinateBytes * total ringRoom (ringsFrom frame at k)) ≤ out
 
--- a part is there, its rings can be cut, and it has room in the output at a place
+-- the frame has a part at position `at`, its rings can be cut, and it has room in the output from position `to` on
 pub record PartRoom (frame : List ℕ) (at ring a b order out to : ℕ) : Type 0 where
   pub within : at ≤ length frame
   pub accepted : Accepted (readPart (drop at frame))
@@ -88,7 +88,7 @@ pub record PartRoom (frame : List ℕ) (at ring a b order out to : ℕ) : Type 0
   pub positions : B (largest length (partAt frame at)) ≤ order
   pub output : to + partRoom coordinateBytes (partAt frame at) ≤ out
 
--- its cut exterior, m coordinates long, stands at the front of b
+-- such a part whose cut exterior, m coordinates long, stands at the front of b
 pub record CutRoom (bounds : TileBounds) (frame : List ℕ) (at m ring a : ℕ) (b : List Float) (out to : ℕ) : Type 0 where
   pub within : at ≤ length frame
   pub accepted : Accepted (readPart (drop at frame))
@@ -97,7 +97,7 @@ pub record CutRoom (bounds : TileBounds) (frame : List ℕ) (at m ring a : ℕ) 
   pub stands : Stands (Polygon.cutExterior bounds (exterior (partAt frame at))) m b
   pub whole : 0 < m
 
--- a part whose exterior has this route is there and has room; where the route is a cut, the cut exterior stands at the front of b
+-- such a part whose exterior has this route; where the route is a cut, the cut exterior stands at the front of b
 pub record RouteRoom (route : Route) (bounds : TileBounds) (frame : List ℕ) (at ring a : ℕ) (b : List Float) (out to : ℕ) : Type 0 where
   pub within : at ≤ length frame
   pub accepted : Accepted (readPart (drop at frame))
@@ -105,42 +105,44 @@ pub record RouteRoom (route : Route) (bounds : TileBounds) (frame : List ℕ) (a
   pub output : to + partRoom coordinateBytes (partAt frame at) ≤ out
   pub stands : ClipContracts.CutStands bounds (exterior (partAt frame at)) route b
 
--- what becomes of a part of a multipolygon that is measured as rect
+-- ---- all parts
+
+-- what becomes of a part of a multipolygon, rect being taken for its rectangle
 unfoldable pub routePartAs : Flags → Rect → TileBounds → List (List Coord) → Polygon.Routed
 routePartAs flags rect b rings = ofPart rect b (Polygon.routeMeasured flags rect b rings)
 
--- so many parts from a place on
+-- the k parts that begin at a position of the frame
 abbrev pub partsFrom : List ℕ → ℕ → ℕ → List (List (List Coord))
 partsFrom frame at k = allIn (readMany readPart k (drop at frame))
 
--- ---- what is listed
+-- ---- all parts: what is listed
 
--- what is still to be written of a part that has this answer: of an unchanged one all of it, of the others nothing
+-- what is still to be written of a part that has this answer: all of an unchanged one, as the others are written or not listed
 abbrev pub unchangedBytes : ℕ → PartAnswer → List ℕ
 unchangedBytes i PartAnswers.Nothing = []
 unchangedBytes i PartAnswers.Dropped = []
 unchangedBytes i PartAnswers.Unchanged = partBytes coordBytes (record { index = i; outcome = Polygon.unchanged })
 unchangedBytes i (PartAnswers.Listed next) = []
 
--- the counts and the place with one more part
+-- the counts with one more part, and where the next part is written
 abbrev pub withPart : PartAnswer → ListedSoFar → ListedSoFar
 withPart PartAnswers.Nothing l = l
 withPart PartAnswers.Dropped l = record { guard = l .guard + 1; parts = l .parts; next = l .next }
 withPart PartAnswers.Unchanged l = record { guard = l .guard; parts = l .parts + 1; next = l .next + 4 }
 withPart (PartAnswers.Listed next) l = record { guard = l .guard; parts = l .parts + 1; next = next }
 
--- listed parts are written behind what is written, and the counts go up by theirs
+-- the listed parts were written behind what stood there, and the counts went up by theirs
 pub record Lists (listing : Listing) (so-far : ListedSoFar) (out : List ℕ) (r : ListedSoFar) (out′ : List ℕ) : Type 0 where
   pub output : out′ ≡ sets out (so-far .next) (each (partBytes coordBytes) (listing .parts))
   pub next-after : r .next ≡ so-far .next + length (each (partBytes coordBytes) (listing .parts))
   pub parts-after : r .parts ≡ so-far .parts + length (listing .parts)
   pub guard-after : r .guard ≡ so-far .guard + listing .guard
 
--- one part alone
+-- the listing of one part alone
 abbrev pub listingOf : ℕ → Polygon.Routed → Listing
-listingOf i to = record { guard = guardCount (answerOf to); parts = listedBefore i to [] }
+listingOf i to = record { guard = told (answerOf to) .guards; parts = listedBefore i to [] }
 
--- the header and the length of an answer of which so much is listed
+-- the header and the length of the answer to a multipolygon, of which so much is listed
 abbrev pub finishedHeader : ListedSoFar → List ℕ
 finishedHeader l =
     cond (eqb (l .parts) 0) (headerBytes (answerByte (Nothing (l .guard))) (l .guard) 0)
@@ -149,7 +151,7 @@ finishedHeader l =
 abbrev pub finishedLength : ListedSoFar → ℕ
 finishedLength l = cond (eqb (l .parts) 0) leastRoom (l .next)
 
--- of a polygon, by its only part
+-- the header and the length of the answer to a polygon, by what is answered of its only part
 abbrev pub polygonHeader : PartAnswer → List ℕ
 polygonHeader PartAnswers.Nothing = headerBytes (answerByte (Nothing 0)) 0 0
 polygonHeader PartAnswers.Dropped = headerBytes (answerByte Dropped) 1 0
@@ -170,27 +172,30 @@ pub record Answers (answer : Answer) (out : List ℕ) (r : ℕ) (out′ : List �
   pub count : r ≡ length (answerBytes coordBytes answer)
   pub output : out′ ≡ sets out 0 (answerBytes coordBytes answer)
 
--- ---- room
+-- ---- all parts: the room they need
 
--- the counts stay small
+-- at part i no count has passed i, and i is at most 256
 pub record Few (i : ℕ) (l : ListedSoFar) : Type 0 where
   pub guards : l .guard ≤ i
   pub listed : l .parts ≤ i
   pub index : i ≤ mostParts
 
--- the working slices have room for a part
+-- the working slices have room for a part, and the sweep has room for its positions
 pub record Workable (ring a b order : ℕ) (rings : List (List Coord)) : Type 0 where
   pub working : Working rings ring a b
   pub positions : B (largest length rings) ≤ order
 
--- so many parts are there from a place on, can be cut, and have room in the output at a place
+-- the frame has k parts from position `at` on, they can be cut, and they have room in the output from position `to` on
 pub record PartsRoom (frame : List ℕ) (at k ring a b order out to : ℕ) : Type 0 where
   pub within : at ≤ length frame
   pub accepted : Accepted (readMany readPart k (drop at frame))
   pub workable : Every (Workable ring a b order) (partsFrom frame at k)
   pub output : to + total (partRoom coordinateBytes) (partsFrom frame at k) ≤ out
 
--- the parts of an accepted frame, and its answer; of a refusal there are none, and no function asks: what stands there is of no use
+-- ---- a frame
+
+-- The parts of a frame, and its answer. The functions that cite these require an accepted frame; the case of a refused one is never looked
+-- at.
 abbrev pub partsOf : Reading Frame → List (List (List Coord))
 partsOf (refused r) = []
 partsOf (read f rest) = f .parts
@@ -199,7 +204,7 @@ abbrev pub answerRead : Reading Frame → Answer
 answerRead (refused r) = Nothing 0
 answerRead (read f rest) = answerTo f
 
--- a polygon as if rect were its rectangle; the parts of a multipolygon
+-- the answer to a frame, rect being taken for the rectangle of a polygon; the parts of a multipolygon are measured one by one
 abbrev pub answerMeasured : Head → Rect → TileBounds → List (List (List Coord)) → Answer
 answerMeasured head rect b parts =
     cond (eqb (head .kind) polygonKind) (ofPolygon (routeMeasured (flagsIn head) rect b (onlyPart parts)))
@@ -212,13 +217,11 @@ unchangedAtOnce head rect b parts =
     isFullyInside rect b && (eqb (head .kind) multipolygonKind ||
     (head .«assume_simple» && not (hasIssue (issueOf true (exterior (onlyPart parts))))))
 
--- ---- what is asked for
-
 -- the longest frame of which every ring, closed, has at most m coordinates: a ring stands behind the head and two counts
 abbrev pub longestFor : ℕ → ℕ
 longestFor m = headBytes + 4 + 16 * m - 1
 
--- the parts are there, can be cut, and have room in the output
+-- the frame has the parts that its head says, they can be cut, and they have room in the output
 pub record PartsReady (frame : List ℕ) (head : Head) (ring a b order out : ℕ) : Type 0 where
   pub room : PartsRoom frame headBytes (head .parts) ring a b order out leastRoom
   pub few : head .parts ≤ mostParts
@@ -230,7 +233,7 @@ pub record Answerable (frame : List ℕ) (head : Head) (out : ℕ) : Type 0 wher
   pub head-read : head ≡ headOf frame
   pub output : frameRoom coordinateBytes (readFrame frame) ≤ out
 
--- and no coordinate is NaN or infinite
+-- such a frame without a coordinate that is NaN or infinite
 pub record Cuttable (frame : List ℕ) (head : Head) (out : ℕ) : Type 0 where
   pub answerable : Answerable frame head out
   pub finite : frameRect (readFrame frame) ≡ Rects.NotFinite → ⊥

@@ -1,4 +1,4 @@
--- The frame call (document 01, "Frames"): what it answers, and what its functions ask for. Definitions only.
+-- The frame call (document 01, "Frames"): what it answers. What it leaves in the output is `frameCallOutput` of Output. Definitions only.
 use mathlib.Core.List.{List}
 use Prim.Native.Nat.{ℕ}
 use lib.IntN.{ℤ, pos, negℤ}

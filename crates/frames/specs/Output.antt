@@ -6,7 +6,7 @@ use lib.ListN.{length}
 use Rattle.binary64.specs.Slices.{over}
 use Rattle.tile.specs.declared.Coord.{Coord}
 use Rattle.clip.specs.Polygon as Polygon
-use Rattle.clip.specs.Polygon.{answerOf, answerNumber, answerReason}
+use Rattle.clip.specs.Polygon.{answerOf, told}
 use Rattle.frame_bytes.specs.Frame.{Reading, refused, read, Frame}
 use Rattle.frame_bytes.specs.Room.{readCall}
 use Rattle.frame_bytes.specs.Encoding.{each, countBytes, coordBytes, headerBytes, ringBytes}
@@ -31,7 +31,7 @@ module _ (coordinate : Coord → List ℕ) where
   -- "A listed part: index from 0, 2 bytes; 1 byte (2 unchanged, 4 cut, 5 overlay); reason, 1 byte, 0 unless overlay"
   unfoldable pub partBytes : Part → List ℕ
   partBytes part =
-      countBytes (part .index) ++ (answerNumber (answerOf (part .outcome)) ∷ answerReason (answerOf (part .outcome)) ∷ cutBytes
+      countBytes (part .index) ++ (told (answerOf (part .outcome)) .number ∷ told (answerOf (part .outcome)) .reason ∷ cutBytes
       (part .outcome))
 
   -- a whole that is dropped has "guard count 1"

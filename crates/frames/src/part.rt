@@ -60,7 +60,7 @@ fn put_cut_ring(ring: &[f64], n: usize, out: &mut [u8], at: RingCursor) -> RingC
     }
 }
 
-// Cuts so many holes from a place of the frame on, and writes those that stay.
+// Cuts `holes` holes, the first of which begins at `start` of the frame, and writes those that stay.
 fn put_holes(
     frame: &[u8],
     start: usize,
@@ -147,7 +147,7 @@ fn overlay_or_dropped(
     PartAnswer::Listed(to + PART)
 }
 
-// What becomes of the part at a place whose exterior has this route; a cut exterior stands at the front of b.
+// What becomes of the part at `at` whose exterior has this route; a cut exterior stands at the front of b.
 fn answer_route(
     frame: &[u8],
     at: usize,
@@ -177,7 +177,7 @@ fn answer_route(
     }
 }
 
-// What becomes of the part at a place as a polygon, as if rect were its rectangle; one that is not finite is dropped before. What the
+// What becomes of the part at `at` as a polygon, as if rect were its rectangle; one that is not finite is dropped before. What the
 // working slices hold afterwards is open.
 pub fn route_part(
     frame: &[u8],

@@ -30,7 +30,7 @@ use Rattle.clip.specs.declared.polygon.Route.{Route}
 use Rattle.clip.specs.declared.polygon.Route.the-variants as Routes
 use Rattle.clip.specs.declared.polygon.PolygonAnswer.{PolygonAnswer}
 use Rattle.clip.specs.Polygon.{cutHole, unlessNone, cutHoles, cutRings, overlayOrDropped, routed, routeExterior, routeRect, route, Routed}
-use Rattle.clip.specs.Polygon.{nothing, dropped, unchanged, cut, overlay, reasonNumber, answerOf, guardCount}
+use Rattle.clip.specs.Polygon.{nothing, dropped, unchanged, cut, overlay, reasonNumber, answerOf, told}
 use Rattle.slices.specs.declared.call.SliceAnswer.{SliceAnswer}
 use Rattle.slices.specs.declared.call.SliceAnswer.the-variants.{Answered}
 use Rattle.slices.specs.SliceCall.{PolygonSlices, polygonSlices, sliceCallCheck, routeLent, sliceAnswered, sliceCallAnswer}
@@ -85,7 +85,7 @@ module _ (b : TileBounds) (rings : List (List Coord)) (few : length rings ≤ mo
 
 -- what is answered, and what the lent slices hold, where the checks pass
 module _ (c : Check) (to : Routed) (passes : c ≡ Passes) where
-  pub answered : (answer : PolygonAnswer) (guards : ℕ) → answer ≡ answerOf to → guards ≡ guardCount answer
+  pub answered : (answer : PolygonAnswer) (guards : ℕ) → answer ≡ answerOf to → guards ≡ told answer .guards
       → Answered answer guards ≡ sliceAnswered c to
   answered answer guards ha hg = rw (passes, hg, ha)
 

@@ -1,5 +1,5 @@
--- What the functions of the slice call say to each other and to the crates above: no contract of an entry point reaches it, so a reader of
--- those can skip this file. Definitions only.
+-- What the functions of the slice call say to each other. No contract of an entry point reaches it, so a reader of those can skip this
+-- file. Definitions only.
 use mathlib.Core.Path.{_≡_}
 use mathlib.Core.Bool.{true}
 use mathlib.Core.List.{List, [], _∷_}
@@ -19,12 +19,12 @@ use Rattle.clip.specs.Contracts.{CutStands}
 use Rattle.slices.specs.declared.call.Placed.{Placed}
 use Rattle.slices.specs.SliceCall.{writtenRings, numbersOf, lengthsOf}
 
--- what becomes of a polygon is written
+-- the rings of a cut, and their lengths, stand at the front of the output and of the second length slice
 pub record Filled (to : Routed) (out : List Float) (outLengths : List ℕ) (out′ : List Float) (outLengths′ : List ℕ) : Type 0 where
   pub output : out′ ≡ over (numbersOf (writtenRings to)) out
   pub lengths : outLengths′ ≡ over (lengthsOf (writtenRings to)) outLengths
 
--- the length of a ring that is not left out
+-- the lengths to write for a ring of n coordinates: none for a ring that is left out
 abbrev pub lengthUnlessNone : ℕ → List ℕ
 lengthUnlessNone zero = []
 lengthUnlessNone (suc n) = suc n ∷ []
@@ -40,7 +40,7 @@ pub record PutRoom (n : ℕ) (ring : List Float) (out outLengths : ℕ) (at : Pl
   pub output : at .numbers + 2 * n ≤ out
   pub lengths : at .rings < outLengths
 
--- its numbers, and its length if it has coordinates, are written there
+-- the ring was written there: its numbers, and its length if it has coordinates
 pub record Put (n : ℕ) (numbers : List Float) (at : Placed) (out : List Float) (outLengths : List ℕ) (r : Placed) (out′ : List Float)
     (outLengths′ : List ℕ) : Type 0 where
   pub output : out′ ≡ sets out (at .numbers) numbers
@@ -48,8 +48,9 @@ pub record Put (n : ℕ) (numbers : List Float) (at : Placed) (out : List Float)
   pub numbers-after : r .numbers ≡ at .numbers + 2 * n
   pub rings-after : r .rings ≡ at .rings + length (lengthUnlessNone n)
 
--- lent rings can be cut in two slices of these lengths, and have room behind what is written; closing closes them, as no first
--- coordinate holds a NaN
+-- Lent rings can be cut in two slices of the lengths a and b, and have room behind what is written. No first coordinate holds a NaN, so
+-- that
+-- closing closes every ring.
 pub record LentRingsRoom (lengths : List ℕ) (coords : List Float) (a b out outLengths : ℕ) (at : Placed) : Type 0 where
   pub measurable : Measurable lengths coords
   pub closes : allClosed (closedRings lengths coords) ≡ true
@@ -58,7 +59,7 @@ pub record LentRingsRoom (lengths : List ℕ) (coords : List Float) (a b out out
   pub output : at .numbers + 2 * total ringRoom (closedRings lengths coords) ≤ out
   pub room-lengths : at .rings + length lengths ≤ outLengths
 
--- the cut holes that are not left out are written there
+-- the cut holes that are not left out were written there
 pub record PutHoles (holes : List (List Coord)) (at : Placed) (out : List Float) (outLengths : List ℕ) (r : Placed) (out′ : List Float)
     (outLengths′ : List ℕ) : Type 0 where
   pub output : out′ ≡ sets out (at .numbers) (numbersOf holes)

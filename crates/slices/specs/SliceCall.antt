@@ -19,8 +19,7 @@ use Rattle.sutherland_hodgman.specs.RingCall.{refusalNumber, failsIf}
 use Rattle.rings.specs.LentRings.{mostRings, sum, closedRings, total, largest, ringRoom}
 use Rattle.clip.specs.declared.polygon.Flags.{Flags}
 use Rattle.clip.specs.declared.polygon.PolygonAnswer.{PolygonAnswer}
-use Rattle.clip.specs.declared.polygon.PolygonAnswer.the-variants as PolygonAnswers
-use Rattle.clip.specs.Polygon.{Routed, nothing, dropped, unchanged, cut, overlay, route, answerOf, guardCount, answerNumber, answerReason}
+use Rattle.clip.specs.Polygon.{Routed, nothing, dropped, unchanged, cut, overlay, route, answerOf, told}
 use Rattle.slices.specs.declared.call.SliceAnswer.{SliceAnswer}
 use Rattle.slices.specs.declared.call.SliceAnswer.the-variants.{Refused, Answered}
 
@@ -76,7 +75,7 @@ routeLent flags bounds buffer coords lengths = route flags (buffered bounds buff
 -- the answer has its guard count beside it: "a guard count in the answer"
 abbrev pub sliceAnswered : Check → Routed → SliceAnswer
 sliceAnswered (Fails refusal) to = Refused refusal
-sliceAnswered Passes to = Answered (answerOf to) (guardCount (answerOf to))
+sliceAnswered Passes to = Answered (answerOf to) (told (answerOf to) .guards)
 
 unfoldable pub sliceCallAnswer : Flags → TileBounds → Float → List Float → List ℕ → PolygonSlices → SliceAnswer
 sliceCallAnswer flags bounds buffer coords lengths lent =
@@ -114,17 +113,9 @@ sliceCallSlices flags bounds buffer coords lengths lent =
 
 -- ---- answers as numbers
 
--- "the answer tells how many rings"
-abbrev pub answerRings : PolygonAnswer → ℕ
-answerRings PolygonAnswers.Nothing = 0
-answerRings PolygonAnswers.Dropped = 0
-answerRings PolygonAnswers.Unchanged = 0
-answerRings (PolygonAnswers.Cut rings) = rings
-answerRings (PolygonAnswers.Overlay reason) = 0
-
 -- all of it in one number
 abbrev pub answerCode : PolygonAnswer → ℕ
-answerCode answer = answerNumber answer + 256 * answerReason answer + 65536 * answerRings answer
+answerCode answer = told answer .number + 256 * told answer .reason + 65536 * told answer .rings
 
 -- minus the refusal's number, or the answer's code
 abbrev pub sliceCallCode : SliceAnswer → ℤ

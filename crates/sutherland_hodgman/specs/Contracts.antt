@@ -1,5 +1,5 @@
--- What the passes and the ring cutter say to each other and to the crates above: no contract of an entry point reaches it, so a reader of
--- those can skip this file. Definitions only.
+-- What the functions of a pass and of the ring cutter say to each other and to the crates above. No contract of an entry point reaches it,
+-- so a reader of those can skip this file. Definitions only.
 use mathlib.Core.Path.{_≡_}
 use mathlib.Core.Bool.{Bool}
 use mathlib.Core.List.{List}
@@ -17,24 +17,30 @@ use Rattle.sutherland_hodgman.specs.Clip.{steps, pass, finish, clipRing}
 use Rattle.sutherland_hodgman.specs.Growth.{B}
 use Rattle.sutherland_hodgman.specs.Promise.{Promise}
 
+-- ---- a pass
+
+-- what stands for a vertex past the end of a ring
 abbrev pub noVertex : Coord
 noVertex = record { x = nan; y = nan }
 
--- the vertex before the i-th, around the ring
+-- the vertex before the i-th; before the first comes the last
 abbrev pub vertexBefore : List Coord → ℕ → Coord
 vertexBefore r zero = getD r (length r - 1) noVertex
 vertexBefore r (suc i) = getD r i noVertex
 
--- what the steps to the i-th vertex and on give, where the verdict on the vertex before it is v
+-- what is left of a pass: the vertices that the steps from the i-th vertex on give, v being the verdict on the vertex before it
 unfoldable pub stepsLeft : Edge → TileBounds → List Coord → Bool → ℕ → List Coord
 stepsLeft l b r v i = steps l b v (vertexBefore r i) (drop i r)
 
--- A stand is before the i-th vertex, with the verdict v on the one before it and k vertices written in d. Finishing the pass from one stand
--- and from the other gives the same count and the same slice.
+-- A pass that is before the i-th vertex, with the verdict v on the vertex before it and k vertices written to d, ends with the same count
+-- and
+-- the same slice as one that is before the i′-th, with the verdict v′ and k′ vertices written to d′.
 pub record SameRest (l : Edge) (b : TileBounds) (r : List Coord) (v : Bool) (i k : ℕ) (d : List Float) (v′ : Bool) (i′ k′ : ℕ)
     (d′ : List Float) : Type 0 where
   pub count : k + length (stepsLeft l b r v i) ≡ k′ + length (stepsLeft l b r v′ i′)
   pub numbers : sets d (2 * k) (flat (stepsLeft l b r v i)) ≡ sets d′ (2 * k′) (flat (stepsLeft l b r v′ i′))
+
+-- ---- the four passes
 
 -- the passes but the last
 unfoldable pub threePasses : TileBounds → List Coord → List Coord
@@ -46,7 +52,7 @@ pub record LastPassDone (b : TileBounds) (r : List Coord) (d : List Float) (k : 
   pub stands : Stands (finish (pass Top b r)) k d′
   pub rest : 4 ≤ length r → Written (finish (pass Top b r)) d k d′
 
--- a ring of n vertices at the front of a slice can be cut in two others: the lengths of the three
+-- a ring of n vertices at the front of a slice of length `ring` can be cut in two slices of the lengths a and b
 pub record CutterRoom (n ring a b : ℕ) : Type 0 where
   pub vertices : 2 * n ≤ ring
   pub first : 2 * B n ≤ a

@@ -106,7 +106,7 @@ fn previous(ring: &[f64], m: usize, i: usize) -> Coord
     coord_at(ring, i - 1)
 }
 
-// From a vertex that is in: copies the vertices that follow it as long as they are in, and stands before the first that is not.
+// From a vertex that is in: copies the vertices that follow it as long as they are in, up to the first that is not.
 fn copy_inside(
     ring: &[f64],
     m: usize,

@@ -1,5 +1,5 @@
--- What the functions on rings say to each other and to the crates above: no contract of an entry point reaches it, so a reader of those can
--- skip this file. Definitions only.
+-- What contracts on rings in slices cite besides: a coordinate by its position, and where a ring stands. No contract of an entry point
+-- reaches it, so a reader of those can skip this file. Definitions only.
 use mathlib.Core.Path.{_≡_}
 use mathlib.Core.List.{List, _++_}
 use Prim.Native.Nat.{ℕ, _+_, _*_}

@@ -6,7 +6,7 @@ use mathlib.Core.List.{List}
 use denote.Ref.{now}
 use borrow.Author.Needs.{needs}
 use lib.ListN.{length, drop}
-use Rattle.frame_bytes.specs.declared.room.RoomTo.{RoomTo}
+use Rattle.frame_bytes.specs.declared.room.MeasuredRoom.{MeasuredRoom}
 use Rattle.frame_bytes.specs.Frame.{headBytes, partCountOf, readPart}
 use Rattle.frame_bytes.specs.Room.{leastRoom, coordinateBytes, partRoom}
 use Rattle.frame_bytes.proofs.Readings.{part-reads}
@@ -16,7 +16,7 @@ use Rattle.frame_bytes.proofs.room.frame_room.Statement.{statement}
 use Rattle.frame_bytes.proofs.room.frame_room.Tie as tie
 
 -- the room of the whole frame, and where its parts end
-abbrev whole : List ℕ → RoomTo
+abbrev whole : List ℕ → MeasuredRoom
 whole frame =
     record {
       room = leastRoom + left readPart (partRoom coordinateBytes) frame headBytes (partCountOf frame) .room;
@@ -89,7 +89,7 @@ returns c =
     let f = now (a .args .frame) in
     let l = c .before .loop in
     let e = sum-end readPart (partRoom coordinateBytes) f (whole f) (l .room) (l .at) (l .left) (c .loop-test .left) (l .inv .1) in
-    rw (frame-passed f (a .pre)) (sym (ap (λ (p : RoomTo). p .room) e))
+    rw (frame-passed f (a .pre)) (sym (ap (λ (p : MeasuredRoom). p .room) e))
 
 pub frame-room-spec : {M : Type 1} → statement M
 frame-room-spec =

@@ -7,7 +7,7 @@ use borrow.Author.Needs.{needs}
 use lib.ListN.{length, drop}
 use Rattle.rings.specs.LentRings.{total, ringRoom}
 use Rattle.frame_bytes.specs.Frame.{readMany, readRing}
-use Rattle.frame_bytes.specs.Contracts.{passedOf}
+use Rattle.frame_bytes.specs.Contracts.{measuredRoom}
 use Rattle.frame_bytes.proofs.Readings.{ring-reads}
 use Rattle.frame_bytes.proofs.Rooms.{left, Summed, sum-here, sum-step, sum-end, rings-le}
 use Rattle.frame_bytes.proofs.room.rings_room.Statement.{statement}
@@ -16,7 +16,7 @@ use Rattle.frame_bytes.proofs.room.rings_room.Tie as tie
 abbrev Inv-loop : tie.InvT-loop
 Inv-loop frame start rings room₀ at₀ left₀ room at left =
     (left ≤ rings) × Summed readRing ringRoom frame
-    (passedOf (length frame) (total ringRoom) (readMany readRing rings (drop start frame))) room at left
+    (measuredRoom (length frame) (total ringRoom) (readMany readRing rings (drop start frame))) room at left
 
 abbrev μ-loop : tie.MeasureT-loop
 μ-loop frame start rings room₀ at₀ left₀ room at left = left
