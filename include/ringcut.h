@@ -49,7 +49,7 @@ extern "C" {
 #define RINGCUT_ROOM(n) \
     ((n) == 0 ? 0 : RINGCUT_HALF_GROWTH(RINGCUT_HALF_GROWTH(RINGCUT_HALF_GROWTH(RINGCUT_HALF_GROWTH(n)))) + 2)
 
-/* The bytes of output that are enough for every frame: proved by the law most-room, crates/frame_bytes/proofs/MostRoom.antt. */
+/* The bytes of output that are enough for every frame: proved by the law frame-most, crates/frame_bytes/proofs/MostRoom.antt. */
 #define RINGCUT_MOST_FRAME_OUTPUT 50077
 
 /*
