@@ -14,7 +14,7 @@ use Rattle.frames.specs.declared.entry.FrameAnswer.the-variants.{Refused, Answe
 use Rattle.frames.specs.Output.{outputOf, frameCallOutput}
 use Rattle.frames.specs.FrameCall.{answerOfReading, frameCallAnswer}
 use Rattle.lines.specs.Lines.{newline, lowerHex, hexLine, refusalBytes, readingBytes, frameAnswer}
-use Rattle.lines.specs.State.{answerRoom}
+use Rattle.lines.specs.LineStep.{answerRoom}
 use Rattle.lines.proofs.Hexadecimal.{length-lowerHex}
 
 refused-reading : (x : Reading Frame) (r : FrameRefusal) (out : List ℕ) → answerOfReading x ≡ Refused r

@@ -1,7 +1,7 @@
 -- The line step and the end of the input, case by case. Assumes nothing.
 use mathlib.Core.Path.{_≡_, refl, sym, _∙_, ap}
 use mathlib.Core.Bool.{Bool, true, false, not, cond, true≢false}
-use mathlib.Core.List.{List, [], _∷_, _++_, append-nil}
+use mathlib.Core.List.{List, [], _∷_, _++_, append-nil, append-assoc}
 use Prim.Native.Nat.{ℕ, zero, suc, _+_, _≤_, _<_}
 use native.Mathlib.Nat.{sub-zero, pos-of-ne-zero}
 use native.Mathlib.Numerals.{add-one}
@@ -15,11 +15,12 @@ use Rattle.binary64.proofs.Booleans.{both}
 use Rattle.frame_bytes.specs.Frame.{longest}
 use Rattle.lines.specs.declared.line.Line.{Line}
 use Rattle.lines.specs.declared.line.Line.the-variants as KnownLines
-use Rattle.lines.specs.Lines.{newline}
-use Rattle.lines.specs.State.{State, whole, start, endLine, endOfInput, stateAfter, printedBy, lineLength, stateOf, lineRoom}
-use Rattle.lines.specs.State.{slicesFit, Prints, Feeds}
-use Rattle.lines.specs.Contracts.{charsBetween, ReadsOn, Takes, notBegun}
-use Rattle.lines.proofs.Running.{state-append, printed-append}
+use Rattle.frame_bytes.specs.Encoding.{each}
+use Rattle.lines.specs.Lines.{newline, linesOf, lowerHex, printed}
+use Rattle.lines.specs.LineStep.{charsOf, Begins, ended, lineLength, lineRoom, slicesFit, printedNow, GoesOn, Prints, Feeds}
+use Rattle.lines.specs.Contracts.{State, whole, stateAfter, endLine, stateOf, notBegun, charsBetween, ReadsOn, Takes}
+use Rattle.lines.proofs.Characters.{ended-append, chars-no-newline, Bytes}
+use Rattle.lines.proofs.Printed.{endOfInput, printedLines, lines-after, printed-behind}
 
 -- ---- whether the slices have the lengths that are asked for
 
@@ -51,22 +52,55 @@ over-fits w out out′ written n o kept = omega (arith, n, kept, ap length o, le
 
 -- ---- feeding
 
-pub prints-nothing : (st : State) (out : List ℕ) → Prints [] st out 0 st out
-unfolding stateAfter printedBy
-prints-nothing st out = record { state = refl; count = refl; output = refl; room = omega arith }
+printed-none : printed [] ≡ []
+unfolding each linesOf
+printed-none = refl
+
+-- what is printed at once where there is no newline
+now-none : (line : Line) (kept x : List ℕ) → ended x ≡ [] → printedNow line kept x ≡ []
+now-none line kept x none =
+    let e : ended (charsOf line kept ++ x) ≡ [] = ended-append (charsOf line kept) x ∙ rw none (chars-no-newline line kept) in
+    ap printed e ∙ printed-none
+
+pub prints-nothing : (line : Line) (kept out : List ℕ) → Prints [] line kept out 0 line kept out
+unfolding ended
+prints-nothing line kept out =
+    let none : printedNow line kept [] ≡ [] = now-none line kept [] refl in
+    record { count = rw none; output = rw none; room = omega arith; goes-on = λ rest. rw none }
 
 pub feeds-nothing : (block : List ℕ) (line : Line) (kept out : List ℕ) → slicesFit kept out ≡ false
     → Feeds block line kept out 0 0 line kept out
-feeds-nothing block line kept out e = record {
-  first-line = rw e;
-  prints = prints-nothing (stateOf line kept) out;
-  untaken = λ _. (refl, refl);
-  free = refl;
-  proper = λ p. p;
-}
+feeds-nothing block line kept out e =
+    record { first-line = rw e; prints = prints-nothing line kept out; untaken = λ _. (refl, refl); free = refl }
 
 taken-only : {A : Type 0} {ready : Bool} → ready ≡ true → ready ≡ false → A
 taken-only t f = absurd (true≢false (sym t ∙ f))
+
+-- a line read on, by characters of which none is a newline
+module _ (line line₁ : Line) (kept kept₁ x : List ℕ) (bytes : Bytes kept) (none : ended x ≡ [])
+    (reached : stateOf line₁ kept₁ ≡ stateAfter (stateOf line kept) x) where
+  read-on : (rest : List ℕ) → printed (charsOf line kept ++ (x ++ rest)) ≡ printedLines (stateOf line₁ kept₁) (linesOf rest)
+  read-on rest =
+      printed-behind line kept (x ++ rest) bytes ∙ sym (lines-after x rest (stateOf line kept) none)
+      ∙ ap (λ (st : State). printedLines st (linesOf rest)) (sym reached)
+
+  goes-on-in-line : Bytes kept₁ → GoesOn x line kept line₁ kept₁
+  goes-on-in-line bytes₁ rest =
+      rw (now-none line kept x none) (read-on rest ∙ sym (printed-behind line₁ kept₁ rest bytes₁))
+
+  -- and then a newline
+  line-printed : printedNow line kept (x ++ newline ∷ []) ≡ endLine (stateOf line₁ kept₁)
+  unfolding ended linesOf printedLines each stateAfter
+  line-printed =
+      let chars = charsOf line kept in
+      let all : ended (chars ++ (x ++ newline ∷ [])) ≡ chars ++ (x ++ newline ∷ []) =
+      rw (← append-assoc chars x (newline ∷ [])) (ended-append (chars ++ x) (newline ∷ [])) in
+      ap printed all ∙ read-on (newline ∷ []) ∙ append-nil (endLine (stateOf line₁ kept₁))
+
+  goes-on-behind-line : (line′ : Line) → charsOf line′ kept₁ ≡ [] → GoesOn (x ++ newline ∷ []) line kept line′ kept₁
+  unfolding linesOf printedLines stateAfter
+  goes-on-behind-line line′ begins rest =
+      rw (line-printed, begins, append-assoc x (newline ∷ []) rest) (read-on (newline ∷ rest))
 
 -- from the front of a block
 module _ {block : List ℕ} {st st₁ : State} {at : ℕ} (p : ReadsOn block 0 st at st₁) where
@@ -76,24 +110,30 @@ module _ {block : List ℕ} {st st₁ : State} {at : ℕ} (p : ReadsOn block 0 s
   front-state : st₁ ≡ stateAfter st (take at block)
   front-state = p .reached ∙ ap (stateAfter st) whole-front
 
-  front-silent : printedBy st (take at block) ≡ []
-  front-silent = sym (ap (printedBy st) whole-front) ∙ p .silent
+  front-none : ended (take at block) ≡ []
+  front-none = sym (ap ended whole-front) ∙ p .no-newline
 
 -- up to the block's end, with no newline in it
-pub feeds-block : (block : List ℕ) (line line′ : Line) (kept kept′ out : List ℕ) (at : ℕ) → slicesFit kept out ≡ true
+pub feeds-block : (block : List ℕ) (line line′ : Line) (kept kept′ out : List ℕ) (at : ℕ) → Bytes kept → Bytes kept′
+    → slicesFit kept out ≡ true
     → Takes block 0 line kept at line′ kept′ → length block ≤ at → length kept′ ≡ length kept
     → Feeds block line kept out at 0 line′ kept′ out
 unfolding lineLength
-feeds-block block line line′ kept kept′ out at e t h free =
+feeds-block block line line′ kept kept′ out at bytes bytes′ e t h free =
     let p = t .passes in
     let none : drop at block ≡ [] = drop-of-length-le block h in
     let all : at ≡ lineLength block = omega (arith, p .in-line, ap lineLength none) in
+    let silent : printedNow line kept (take at block) ≡ [] = now-none line kept (take at block) (front-none p) in
     record {
       first-line = rw e all;
-      prints = record { state = front-state p; count = rw (front-silent p); output = rw (front-silent p); room = omega arith };
+      prints = record {
+        count = rw silent;
+        output = rw silent;
+        room = omega arith;
+        goes-on = goes-on-in-line line line′ kept kept′ (take at block) bytes (front-none p) (front-state p) bytes′;
+      };
       untaken = taken-only e;
       free = free;
-      proper = t .proper;
     }
 
 -- up to a newline
@@ -105,38 +145,30 @@ module _ (block : List ℕ) (at : ℕ) (h : at < length block) (e : getD block a
   with-newline : take (at + 1) block ≡ take at block ++ (newline ∷ [])
   with-newline = rw (add-one, take-suc block at 0 h, e)
 
-  line-state : (st : State) → stateAfter st (take (at + 1) block) ≡ start
-  unfolding stateAfter
-  line-state st = rw with-newline (state-append (take at block) (newline ∷ []) st)
-
-  line-printed : (st : State) → printedBy st (take at block) ≡ [] → printedBy st (take (at + 1) block) ≡ endLine
-      (stateAfter st (take at block))
-  unfolding printedBy
-  line-printed st none = rw with-newline (printed-append (take at block) (newline ∷ []) st ∙ rw none (append-nil _))
-
-pub feeds-line : (block : List ℕ) (line line₁ : Line) (kept kept′ out out′ : List ℕ) (at written : ℕ) → slicesFit kept out ≡ true
-    → Takes block 0 line kept at line₁ kept′ → at < length block → written ≡ length (endLine (stateOf line₁ kept′))
+pub feeds-line : (block : List ℕ) (line line₁ line′ : Line) (kept kept′ out out′ : List ℕ) (at written : ℕ) → Bytes kept
+    → slicesFit kept out ≡ true
+    → Takes block 0 line kept at line₁ kept′ → at < length block → Begins line′ → written ≡ length (endLine (stateOf line₁ kept′))
     → out′ ≡ over (endLine (stateOf line₁ kept′)) out → length out′ ≡ length out → length kept′ ≡ length kept
-    → Feeds block line kept out (at + 1) written (KnownLines.Whole 0) kept′ out′
-feeds-line block line line₁ kept kept′ out out′ at written e t h n o sized free =
+    → Feeds block line kept out (at + 1) written line′ kept′ out′
+feeds-line block line line₁ line′ kept kept′ out out′ at written bytes e t h begins n o sized free =
     let p = t .passes in
-    let st = stateOf line kept in
-    let st₁ = stateOf line₁ kept′ in
+    let x = take at block in
     let there = t .stops h in
-    let text : printedBy st (take (at + 1) block) ≡ endLine st₁ =
-    line-printed block at h there st (front-silent p) ∙ ap endLine (sym (front-state p)) in
+    let text : printedNow line kept (x ++ newline ∷ []) ≡ endLine (stateOf line₁ kept′) =
+    line-printed line line₁ kept kept′ x bytes (front-none p) (front-state p) in
+    let on : GoesOn (x ++ newline ∷ []) line kept line′ kept′ =
+    goes-on-behind-line line line₁ kept kept′ x bytes (front-none p) (front-state p) line′ (begins kept′) in
     let all : at + 1 ≡ lineLength block = omega (arith, p .in-line, last-of-line block at h there) in
     record {
       first-line = rw e all;
-      prints = record {
-        state = sym (line-state block at h there st);
+      prints = rw (with-newline block at h there) record {
         count = rw text n;
         output = rw text o;
-        room = over-fits (endLine st₁) out out′ written n o sized;
+        room = over-fits (endLine (stateOf line₁ kept′)) out out′ written n o sized;
+        goes-on = on;
       };
       untaken = taken-only e;
       free = free;
-      proper = λ _. (omega arith, omega arith);
     }
 
 -- so something is taken of every block that is not empty, and no more than it has
@@ -172,14 +204,20 @@ some-kept zero kept h k = absurd (omega arith)
 some-kept (suc n) [] h k = absurd (omega arith)
 some-kept (suc n) (b ∷ kept) h k = refl
 
-pub ends-begun : (line : Line) (kept : List ℕ) → longest ≤ length kept → notBegun line ≡ false
+begun-counts : (line : Line) (kept : List ℕ) → longest ≤ length kept → notBegun line ≡ false
     → endOfInput (stateOf line kept) ≡ endLine (stateOf line kept)
-ends-begun KnownLines.NotDigits kept h e = refl
-ends-begun (KnownLines.Whole n) kept h e = some-kept n kept (pos-of-ne-zero (eqb-false n 0 e)) (omega arith)
-ends-begun (KnownLines.Half n high) kept h e = refl
-ends-begun (KnownLines.Long odd) kept h e = refl
+begun-counts KnownLines.NotDigits kept h e = refl
+begun-counts (KnownLines.Whole n) kept h e = some-kept n kept (pos-of-ne-zero (eqb-false n 0 e)) (omega arith)
+begun-counts (KnownLines.Half n high) kept h e = refl
+begun-counts (KnownLines.Long odd) kept h e = refl
 
-pub ends-not-begun : (line : Line) (kept : List ℕ) → notBegun line ≡ true → endOfInput (stateOf line kept) ≡ []
+pub ends-begun : (line : Line) (kept : List ℕ) → Bytes kept → longest ≤ length kept → notBegun line ≡ false
+    → printed (charsOf line kept) ≡ endLine (stateOf line kept)
+unfolding linesOf printedLines
+ends-begun line kept bytes h e = rw append-nil at (printed-behind line kept [] bytes) ∙ begun-counts line kept h e
+
+pub ends-not-begun : (line : Line) (kept : List ℕ) → notBegun line ≡ true → printed (charsOf line kept) ≡ []
+unfolding lowerHex each linesOf
 ends-not-begun KnownLines.NotDigits kept e = absurd (true≢false (sym e))
 ends-not-begun (KnownLines.Whole zero) kept e = refl
 ends-not-begun (KnownLines.Whole (suc n)) kept e = absurd (omega (arith, eqb-true (suc n) 0 e))

@@ -1,5 +1,6 @@
 pub mod Answers
 pub mod Blocks
+pub mod Characters
 pub mod Feeding
 pub mod Hexadecimal
 pub mod Kept

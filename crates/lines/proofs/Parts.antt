@@ -1,14 +1,18 @@
 -- Parts of a block answered one behind the other. Assumes nothing.
 use mathlib.Core.Path.{_≡_, sym, _∙_, ap}
-use mathlib.Core.List.{List, [], _++_, append-nil, append-assoc}
+use mathlib.Core.List.{List, [], _∷_, _++_, append-nil, append-assoc}
 use Prim.Native.Nat.{ℕ, _+_, _-_, _≤_}
 use native.Mathlib.Omega.{arith}
 use lib.ListN.{length, take, drop, length-append, length-drop, drop-of-length-le, take-append-drop}
 use lib.Seq.{length-take-le, take-append-seam, drop-append-seam, drop-drop}
 use Rattle.binary64.specs.Slices.{over}
 use Rattle.binary64.proofs.Fill.{tail-part}
-use Rattle.lines.specs.State.{State, stateAfter, printedBy, Prints}
-use Rattle.lines.proofs.Running.{state-append, printed-append, take-both}
+use Rattle.frame_bytes.specs.Encoding.{each}
+use Rattle.lines.specs.declared.line.Line.{Line}
+use Rattle.lines.specs.Lines.{linesOf, printed}
+use Rattle.lines.specs.LineStep.{charsOf, ended, printedNow, GoesOn, Prints}
+use Rattle.lines.proofs.Characters.{joined, ended-append, chars-no-newline}
+use Rattle.lines.proofs.Running.{take-both}
 
 -- ---- written behind what was written before
 
@@ -23,25 +27,47 @@ module _ (x y out out₁ out₂ : List ℕ) (first : out₁ ≡ over x out) (fro
   over-then : out₂ ≡ over (x ++ y) out
   over-then = sym (take-append-drop (length x) out₂) ∙ rw (kept-front, rest-then) (sym (append-assoc x y _))
 
+-- ---- characters and more characters
+
+module _ (x : List ℕ) (line : Line) (kept : List ℕ) (line₁ : Line) (kept₁ : List ℕ) (on : GoesOn x line kept line₁ kept₁) (y : List ℕ) where
+  now-then : printedNow line kept (x ++ y) ≡ printedNow line kept x ++ printedNow line₁ kept₁ y
+  unfolding each linesOf
+  now-then =
+      rw (← append-assoc (charsOf line kept) x y, ended-append (charsOf line kept ++ x) y, ended-append (charsOf line₁ kept₁) y)
+      (by-end (ended y))
+    where
+      by-end : (e : List ℕ) → printed (joined (charsOf line kept ++ x) e) ≡ printedNow line kept x ++ printed
+          (joined (charsOf line₁ kept₁) e)
+      by-end [] = rw (chars-no-newline line₁ kept₁) (sym (append-nil (printedNow line kept x)))
+      by-end (b ∷ e) = rw (append-assoc (charsOf line kept) x (b ∷ e)) (on (b ∷ e))
+
+  pub goes-then : (line₂ : Line) (kept₂ : List ℕ) → GoesOn y line₁ kept₁ line₂ kept₂ → GoesOn (x ++ y) line kept line₂ kept₂
+  goes-then line₂ kept₂ next rest =
+      rw (append-assoc x y rest, now-then, append-assoc (printedNow line kept x) (printedNow line₁ kept₁ y) _)
+      (on (y ++ rest) ∙ ap (λ (l : List ℕ). printedNow line kept x ++ l) (next rest))
+
 -- an answer to the characters that follow, behind what was written before
-pub prints-then : {x y : List ℕ} {st st₁ st₂ : State} {out out₁ out₂ : List ℕ} {w v : ℕ} → Prints x st out w st₁ out₁
-    → Prints y st₁ (drop w out₁) v st₂ (drop w out₂)
-    → take w out₂ ≡ take w out₁ → length out₁ ≡ length out → Prints (x ++ y) st out (w + v) st₂ out₂
-prints-then {x} {y} {st} {st₁} {st₂} {out} {out₁} {out₂} {w} {v} p q front sized =
-    let text : printedBy st (x ++ y) ≡ printedBy st x ++ printedBy st₁ y = printed-append x y st ∙ rw (p .state) in
+pub prints-then : {x y : List ℕ} {line line₁ line₂ : Line} {kept kept₁ kept₂ out out₁ out₂ : List ℕ} {w v : ℕ}
+    → Prints x line kept out w line₁ kept₁ out₁
+    → Prints y line₁ kept₁ (drop w out₁) v line₂ kept₂ (drop w out₂)
+    → take w out₂ ≡ take w out₁ → length out₁ ≡ length out → Prints (x ++ y) line kept out (w + v) line₂ kept₂ out₂
+prints-then {x} {y} {line} {line₁} {line₂} {kept} {kept₁} {kept₂} {out} {out₁} {out₂} {w} {v} p q front sized =
+    let before = printedNow line kept x in
+    let behind = printedNow line₁ kept₁ y in
+    let text : printedNow line kept (x ++ y) ≡ before ++ behind = now-then x line kept line₁ kept₁ (p .goes-on) y in
     record {
-      state = q .state ∙ ap (λ (s : State). stateAfter s y) (p .state) ∙ sym (state-append x y st);
-      count = omega (arith, p .count, q .count, ap length text, length-append (printedBy st x) (printedBy st₁ y));
-      output = rw text (over-then (printedBy st x) (printedBy st₁ y) out out₁ out₂ (p .output) (rw (p .count) at front)
-          (rw (p .count) at q .output));
+      count = omega (arith, p .count, q .count, ap length text, length-append before behind);
+      output = rw text (over-then before behind out out₁ out₂ (p .output) (rw (p .count) at front) (rw (p .count) at q .output));
       room = omega (arith, p .room, q .room, length-drop w out₁);
+      goes-on = goes-then x line kept line₁ kept₁ (p .goes-on) y line₂ kept₂ (q .goes-on);
     }
 
 -- of a block, one part behind another
-pub parts-then : (block : List ℕ) (a b : ℕ) {st st₁ st₂ : State} {out out₁ out₂ : List ℕ} {w v : ℕ} → a ≤ length block
-    → Prints (take a block) st out w st₁ out₁
-    → Prints (take b (drop a block)) st₁ (drop w out₁) v st₂ (drop w out₂) → take w out₂ ≡ take w out₁ → length out₁ ≡ length out
-    → Prints (take (a + b) block) st out (w + v) st₂ out₂
+pub parts-then : (block : List ℕ) (a b : ℕ) {line line₁ line₂ : Line} {kept kept₁ kept₂ out out₁ out₂ : List ℕ} {w v : ℕ}
+    → a ≤ length block → Prints (take a block) line kept out w line₁ kept₁ out₁
+    → Prints (take b (drop a block)) line₁ kept₁ (drop w out₁) v line₂ kept₂ (drop w out₂) → take w out₂ ≡ take w out₁
+    → length out₁ ≡ length out
+    → Prints (take (a + b) block) line kept out (w + v) line₂ kept₂ out₂
 parts-then block a b h p q front sized = rw (take-both a b block h) (prints-then p q front sized)
 
 -- ---- what is left of a block, and the part of the output behind what waits there, as they are lent and put back
@@ -54,9 +80,11 @@ module _ (block out part out′ : List ℕ) (from waiting : ℕ) (h : waiting �
       let none : drop (length out - waiting) (drop waiting out) ≡ [] = drop-of-length-le (drop waiting out) l in
       put ∙ rw (none, append-nil)
 
-  pub part-prints : (taken : ℕ) {st st′ : State} {written : ℕ} → Prints (take taken (take (length block - from) (drop from block))) st
-      (take (length out - waiting) (drop waiting out)) written st′ part
-      → Prints (take taken (drop from block)) st (drop waiting out) written st′ (drop waiting out′) × (take waiting out′ ≡ take waiting out)
+  pub part-prints : (taken : ℕ) {line line′ : Line} {kept kept′ : List ℕ} {written : ℕ}
+      → Prints (take taken (take (length block - from) (drop from block))) line kept (take (length out - waiting) (drop waiting out))
+      written line′ kept′ part
+      → Prints (take taken (drop from block)) line kept (drop waiting out) written line′ kept′ (drop waiting out′)
+      × (take waiting out′ ≡ take waiting out)
   part-prints taken p =
       let n : length (take waiting out) ≡ waiting = length-take-le waiting out h in
       let there : drop waiting out′ ≡ part = rw put-back (let e = drop-append-seam (take waiting out) part in rw n at e) in
@@ -65,9 +93,8 @@ module _ (block out part out′ : List ℕ) (from waiting : ℕ) (h : waiting �
 
 -- ---- a block whose answers are written out in between
 
-pub state-then : (block : List ℕ) (at taken : ℕ) (st : State) {st₁ st₂ : State} → at ≤ length block
-    → st₁ ≡ stateAfter st (take at block) → st₂ ≡ stateAfter st₁ (take taken (drop at block))
-    → st₂ ≡ stateAfter st (take (at + taken) block)
-state-then block at taken st h e f =
-    f ∙ ap (λ (s : State). stateAfter s (take taken (drop at block))) e
-    ∙ sym (rw (take-both at taken block h) (state-append (take at block) (take taken (drop at block)) st))
+pub goes-on-then : (block : List ℕ) (at taken : ℕ) (line line₁ line₂ : Line) (kept kept₁ kept₂ : List ℕ) → at ≤ length block
+    → GoesOn (take at block) line kept line₁ kept₁ → GoesOn (take taken (drop at block)) line₁ kept₁ line₂ kept₂
+    → GoesOn (take (at + taken) block) line kept line₂ kept₂
+goes-on-then block at taken line line₁ line₂ kept kept₁ kept₂ h on next =
+    rw (take-both at taken block h) (goes-then (take at block) line kept line₁ kept₁ on (take taken (drop at block)) line₂ kept₂ next)

@@ -4,8 +4,9 @@ ghost use Prim.Native.Nat.{_≤_};
 ghost use lib.ListN.{length};
 ghost use Rattle.binary64.specs.Slices.{over};
 ghost use Rattle.frame_bytes.specs.Room.{leastRoom};
+ghost use Rattle.lines.specs.Contracts as Contracts;
+ghost use Rattle.lines.specs.LineStep as LineStep;
 ghost use Rattle.lines.specs.Lines as Lines;
-ghost use Rattle.lines.specs.State as State;
 use super::digits::to_line;
 use super::line::Line;
 use frame_bytes::reader::FrameRefusal;
@@ -33,7 +34,7 @@ fn refuse(out: &mut [u8], number: u8) -> usize
 }
 
 fn answer_frame(bytes: &[u8], out: &mut [u8]) -> usize
-    requires { ⌜ State.answerRoom ≤ length (now out) ⌝ }
+    requires { ⌜ LineStep.answerRoom ≤ length (now out) ⌝ }
     ensures answer { λ r. ⌜ r ≡ length (Lines.frameAnswer (now (bytes .entry))) ⌝ }
     ensures output { λ _. ⌜ now (out .exit) ≡ over (Lines.frameAnswer (now (bytes .entry))) (now (out .entry)) ⌝ }
 {
@@ -45,9 +46,9 @@ fn answer_frame(bytes: &[u8], out: &mut [u8]) -> usize
 
 // Writes the bytes that a line is answered where it ends.
 fn answer(line: Line, kept: &[u8], out: &mut [u8]) -> usize
-    requires { ⌜ State.answerRoom ≤ length (now out) ⌝ }
-    ensures answer { λ r. ⌜ r ≡ length (State.endAnswer (State.stateOf line (now (kept .entry)))) ⌝ }
-    ensures output { λ _. ⌜ now (out .exit) ≡ over (State.endAnswer (State.stateOf line (now (kept .entry)))) (now (out .entry)) ⌝ }
+    requires { ⌜ LineStep.answerRoom ≤ length (now out) ⌝ }
+    ensures answer { λ r. ⌜ r ≡ length (Contracts.endAnswer (Contracts.stateOf line (now (kept .entry)))) ⌝ }
+    ensures output { λ _. ⌜ now (out .exit) ≡ over (Contracts.endAnswer (Contracts.stateOf line (now (kept .entry)))) (now (out .entry)) ⌝ }
 {
     match line {
         Line::Whole(bytes) => {
@@ -69,9 +70,9 @@ fn answer(line: Line, kept: &[u8], out: &mut [u8]) -> usize
 
 // Writes that answer as a line, and answers how long it is.
 pub fn answer_line(line: Line, kept: &[u8], out: &mut [u8]) -> usize
-    requires { ⌜ State.lineRoom ≤ length (now out) ⌝ }
-    ensures answer { λ r. ⌜ r ≡ length (State.endLine (State.stateOf line (now (kept .entry)))) ⌝ }
-    ensures output { λ _. ⌜ now (out .exit) ≡ over (State.endLine (State.stateOf line (now (kept .entry)))) (now (out .entry)) ⌝ }
+    requires { ⌜ LineStep.lineRoom ≤ length (now out) ⌝ }
+    ensures answer { λ r. ⌜ r ≡ length (Contracts.endLine (Contracts.stateOf line (now (kept .entry)))) ⌝ }
+    ensures output { λ _. ⌜ now (out .exit) ≡ over (Contracts.endLine (Contracts.stateOf line (now (kept .entry)))) (now (out .entry)) ⌝ }
 {
     let count = answer(line, kept, &mut out[..ANSWER_ROOM]);
     to_line(out, count)

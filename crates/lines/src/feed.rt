@@ -3,8 +3,8 @@ ghost use mathlib.Core.Path.{_≡_};
 ghost use Prim.Native.Nat.{_+_, _<_, _≤_};
 ghost use lib.ListN.{length, take, drop};
 ghost use Rattle.frame_bytes.specs.Frame.{longest};
-ghost use Rattle.lines.specs.State as State;
 ghost use Rattle.lines.specs.Contracts as Contracts;
+ghost use Rattle.lines.specs.LineStep as LineStep;
 use super::answer::LINE_ROOM;
 use super::answer::answer_line;
 use super::line::Line;
@@ -29,14 +29,14 @@ pub enum Finished {
 // What is known of a line before an input is read.
 pub fn start() -> Line
     ensures empty { λ r. ⌜ r ≡ Line.Whole 0 ⌝ }
-    ensures begins { λ r. ⌜ State.Begins r ⌝ }
+    ensures begins { λ r. ⌜ LineStep.Begins r ⌝ }
 {
     Line::Whole(0)
 }
 
 // Whether the lent slices are as long as the line step asks: `kept` holds the longest frame, and `out` has room for a line.
 fn are_lent(kept: &[u8], out: &[u8]) -> bool
-    ensures lent { λ r. ⌜ r ≡ State.slicesFit (now (kept .entry)) (now (out .entry)) ⌝ }
+    ensures lent { λ r. ⌜ r ≡ LineStep.slicesFit (now (kept .entry)) (now (out .entry)) ⌝ }
 {
     if kept.len() < LONGEST {
         return false;
@@ -46,11 +46,10 @@ fn are_lent(kept: &[u8], out: &[u8]) -> bool
 
 // Takes a block up to its first newline, which is answered, or to its end. `kept` is 5,120 bytes or more that go with the line: those
 // past the line's own are free. Takes nothing where `kept` is shorter, or `out` is shorter than LINE_ROOM.
-// The line that is returned is settled where `line` is one that `start` or `feed` made. Where a caller made up another, it is left free
-// how far a count goes past the end of `kept`, and which multiple of 16 a digit's value has in it: what is answered then and later
-// depends on neither.
+// Of the line that is returned, and of its bytes in `kept`, it is said what is printed for an input that goes on behind them. Which of
+// those with the same answers they are is left free: what is answered later does not depend on it.
 pub fn feed(block: &[u8], line: Line, kept: &mut [u8], out: &mut [u8]) -> Fed
-    ensures feeds { λ r. ⌜ State.Feeds (now (block .entry)) line (now (kept .entry)) (now (out .entry))
+    ensures feeds { λ r. ⌜ LineStep.Feeds (now (block .entry)) line (now (kept .entry)) (now (out .entry))
         (r .taken) (r .written) (r .line) (now (kept .exit)) (now (out .exit)) ⌝ }
 {
     if !are_lent(kept, out) {
@@ -87,9 +86,9 @@ fn feed_from(
     out: &mut [u8],
     waiting: usize,
 ) -> Fed
-    requires { ⌜ (from < length (now block)) × (longest ≤ length (now kept)) × (waiting + State.lineRoom ≤ length (now out)) ⌝ }
-    ensures prints { λ r. ⌜ State.Prints (take (r .taken) (drop from (now (block .entry)))) (State.stateOf line (now (kept .entry)))
-        (drop waiting (now (out .entry))) (r .written) (State.stateOf (r .line) (now (kept .exit))) (drop waiting (now (out .exit))) ⌝ }
+    requires { ⌜ (from < length (now block)) × (longest ≤ length (now kept)) × (waiting + LineStep.lineRoom ≤ length (now out)) ⌝ }
+    ensures prints { λ r. ⌜ LineStep.Prints (take (r .taken) (drop from (now (block .entry)))) line (now (kept .entry))
+        (drop waiting (now (out .entry))) (r .written) (r .line) (now (kept .exit)) (drop waiting (now (out .exit))) ⌝ }
     ensures stays { λ _. ⌜ take waiting (now (out .exit)) ≡ take waiting (now (out .entry)) ⌝ }
     ensures taken { λ r. ⌜ (0 < r .taken) × (from + r .taken ≤ length (now (block .entry))) ⌝ }
 {
@@ -98,10 +97,9 @@ fn feed_from(
 
 // Answers every line that ends in the block, as long as the output has room for one more: a write for each would cost more than the answer.
 pub fn feed_lines(block: &[u8], line: Line, kept: &mut [u8], out: &mut [u8]) -> Fed
-    requires { ⌜ (longest ≤ length (now kept)) × (State.lineRoom ≤ length (now out)) ⌝ }
-    ensures feeds { λ r. ⌜ Contracts.FeedsLines (now (block .entry)) (State.stateOf line (now (kept .entry)))
-        (now (kept .entry)) (now (out .entry)) (r .taken) (r .written) (State.stateOf (r .line) (now (kept .exit)))
-        (now (kept .exit)) (now (out .exit)) ⌝ }
+    requires { ⌜ (longest ≤ length (now kept)) × (LineStep.lineRoom ≤ length (now out)) ⌝ }
+    ensures feeds { λ r. ⌜ Contracts.FeedsLines (now (block .entry)) line (now (kept .entry)) (now (out .entry))
+        (r .taken) (r .written) (r .line) (now (kept .exit)) (now (out .exit)) ⌝ }
 {
     let mut known = line;
     let mut from = 0usize;
@@ -140,9 +138,9 @@ fn is_not_begun(line: Line) -> bool
 // Writes what the end of the input prints, a last line without a newline. Where `feed` would take nothing it writes nothing, and says so:
 // then it may be called again with slices that are long enough, so that the last line is not lost.
 pub fn finish(line: Line, kept: &[u8], out: &mut [u8]) -> Finished
-    ensures answer { λ r. ⌜ r ≡ State.finishAnswer line (now (kept .entry)) (now (out .entry)) ⌝ }
-    ensures output { λ _. ⌜ now (out .exit) ≡ State.finishOutput line (now (kept .entry)) (now (out .entry)) ⌝ }
-    ensures room { λ r. ⌜ State.bytesWritten r ≤ length (now (out .entry)) ⌝ }
+    ensures answer { λ r. ⌜ r ≡ LineStep.finishAnswer line (now (kept .entry)) (now (out .entry)) ⌝ }
+    ensures output { λ _. ⌜ now (out .exit) ≡ LineStep.finishOutput line (now (kept .entry)) (now (out .entry)) ⌝ }
+    ensures room { λ r. ⌜ LineStep.bytesWritten r ≤ length (now (out .entry)) ⌝ }
 {
     if !are_lent(kept, out) {
         return Finished::TooShort;

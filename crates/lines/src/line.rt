@@ -4,7 +4,6 @@ ghost use Prim.Native.Nat.{_<_, _≤_};
 ghost use lib.ListN.{length, take};
 ghost use Rattle.frame_bytes.specs.Frame.{longest};
 ghost use Rattle.lines.specs.Contracts as Contracts;
-ghost use Rattle.lines.specs.State as State;
 use super::digits::NEWLINE;
 use super::digits::NOT_A_DIGIT;
 use super::digits::digit_of;
@@ -25,8 +24,7 @@ pub enum Line {
 
 fn take_digit(line: Line, d: u8, kept: &mut [u8]) -> Line
     requires { ⌜ (d < 16) × (longest ≤ length (now kept)) ⌝ }
-    ensures state { λ r. ⌜ State.stateOf r (now (kept .exit)) ≡ State.takeDigit (State.stateOf line (now (kept .entry))) d ⌝ }
-    ensures proper { λ r. ⌜ (State.Proper line → State.Proper r) ⌝ }
+    ensures state { λ r. ⌜ Contracts.stateOf r (now (kept .exit)) ≡ Contracts.takeDigit (Contracts.stateOf line (now (kept .entry))) d ⌝ }
 {
     match line {
         Line::NotDigits => Line::NotDigits,
@@ -44,8 +42,7 @@ fn take_digit(line: Line, d: u8, kept: &mut [u8]) -> Line
 
 fn take_char(line: Line, b: u8, values: &[u8; 256], kept: &mut [u8]) -> Line
     requires { ⌜ Contracts.DigitValues (now values) × (longest ≤ length (now kept)) ⌝ }
-    ensures state { λ r. ⌜ State.stateOf r (now (kept .exit)) ≡ State.after (State.stateOf line (now (kept .entry))) b ⌝ }
-    ensures proper { λ r. ⌜ (State.Proper line → State.Proper r) ⌝ }
+    ensures state { λ r. ⌜ Contracts.stateOf r (now (kept .exit)) ≡ Contracts.after (Contracts.stateOf line (now (kept .entry))) b ⌝ }
 {
     let d = digit_of(b, values);
     if d < NOT_A_DIGIT {
@@ -63,9 +60,8 @@ struct Pairs {
 // Takes pairs of digits from the front of a block, as long as there are any and a byte more is kept: nearly every line is such pairs.
 fn take_pairs(block: &[u8], bytes: usize, values: &[u8; 256], kept: &mut [u8]) -> Pairs
     requires { ⌜ Contracts.DigitValues (now values) × (longest ≤ length (now kept)) ⌝ }
-    ensures passes { λ r. ⌜ Contracts.ReadsOn (now (block .entry)) 0 (State.whole (take bytes (now (kept .entry))))
-        (r .at) (State.whole (take (r .bytes) (now (kept .exit)))) ⌝ }
-    ensures few { λ r. ⌜ (bytes ≤ longest → r .bytes ≤ longest) ⌝ }
+    ensures passes { λ r. ⌜ Contracts.ReadsOn (now (block .entry)) 0 (Contracts.whole (take bytes (now (kept .entry))))
+        (r .at) (Contracts.whole (take (r .bytes) (now (kept .exit)))) ⌝ }
 {
     let mut n = bytes;
     let mut at = 0usize;

@@ -2,11 +2,10 @@
 // Proved: the line step makes the bytes that are to be printed for a block, and what it knows of a line is carried from one block to the
 // next. No contract speaks of what is read or written, so not proved: that the blocks are read in order, that the bytes made are those
 // written, and that the last line is finished.
-ghost use mathlib.Core.Path.{_≡_};
 ghost use Prim.Native.Nat.{_≤_};
 ghost use lib.ListN.{length};
 ghost use Rattle.frame_bytes.specs.Frame.{longest};
-ghost use Rattle.lines.specs.State as State;
+ghost use Rattle.lines.specs.LineStep as LineStep;
 use frame_bytes::reader::LONGEST;
 use libc::STDIN_FILENO;
 use libc::STDOUT_FILENO;
@@ -32,9 +31,8 @@ fn write_out(out: &[u8], waiting: usize)
 
 // Answers every line that ends in the block, and writes the answers out: the next read may wait for more.
 fn feed_all(block: &[u8], line: Line, kept: &mut [u8], out: &mut [u8]) -> Line
-    requires { ⌜ (longest ≤ length (now kept)) × (State.lineRoom ≤ length (now out)) ⌝ }
-    ensures state { λ r. ⌜ State.stateOf r (now (kept .exit))
-        ≡ State.stateAfter (State.stateOf line (now (kept .entry))) (now (block .entry)) ⌝ }
+    requires { ⌜ (longest ≤ length (now kept)) × (LineStep.lineRoom ≤ length (now out)) ⌝ }
+    ensures goes_on { λ r. ⌜ LineStep.GoesOn (now (block .entry)) line (now (kept .entry)) r (now (kept .exit)) ⌝ }
 {
     let mut known = line;
     let mut from = 0usize;
@@ -48,7 +46,7 @@ fn feed_all(block: &[u8], line: Line, kept: &mut [u8], out: &mut [u8]) -> Line
 }
 
 fn read_block(line: Line, kept: &mut [u8], out: &mut [u8]) -> Turn
-    requires { ⌜ (longest ≤ length (now kept)) × (State.lineRoom ≤ length (now out)) ⌝ }
+    requires { ⌜ (longest ≤ length (now kept)) × (LineStep.lineRoom ≤ length (now out)) ⌝ }
 {
     let mut block = io::large_buffer();
     let got = libc::read(STDIN_FILENO, &mut block);
@@ -62,7 +60,7 @@ fn read_block(line: Line, kept: &mut [u8], out: &mut [u8]) -> Turn
 
 // A proved loop has to end, and nothing says that the input does: the turns are counted down from a number that no run uses up.
 fn read_all(kept: &mut [u8], out: &mut [u8]) -> Line
-    requires { ⌜ (longest ≤ length (now kept)) × (State.lineRoom ≤ length (now out)) ⌝ }
+    requires { ⌜ (longest ≤ length (now kept)) × (LineStep.lineRoom ≤ length (now out)) ⌝ }
 {
     let mut line = start();
     let mut turns = u64::MAX;

@@ -1,5 +1,5 @@
--- `feed_all` meets its contract. The invariant: what is known is what is known after the characters so far. Assumes nothing.
-use mathlib.Core.Path.{_≡_, refl, _∙_, ap}
+-- `feed_all` meets its contract. The invariant: the input goes on behind the characters so far. Assumes nothing.
+use mathlib.Core.Path.{_≡_, refl, ap}
 use mathlib.Core.List.{List}
 use Prim.Native.Nat.{ℕ, _+_, _-_, _<_, _≤_}
 use native.Mathlib.Omega.{arith}
@@ -8,33 +8,37 @@ use lib.ListN.{length, take, drop, length-drop}
 use lib.Seq.{take-all}
 use borrow.Author.Needs.{needs}
 use Rattle.binary64.proofs.Fill.{tail-part}
-use Rattle.lines.specs.State.{State, stateOf, stateAfter}
+use Rattle.lines.specs.declared.line.Line.{Line}
+use Rattle.lines.specs.LineStep.{GoesOn}
 use Rattle.lines.specs.Contracts.{FeedsLines}
-use Rattle.lines.proofs.Parts.{state-then}
+use Rattle.lines.proofs.Feeding.{prints-nothing}
+use Rattle.lines.proofs.Parts.{goes-on-then}
 use Rattle.ringcut.proofs.feed_all.Statement.{statement}
 use Rattle.ringcut.proofs.feed_all.Tie as tie
 
 -- what is left of the block, as it is lent
-module _ (block : List ℕ) (at : ℕ) {st₁ st₂ : State} {kept kept′ out out′ : List ℕ} {taken written : ℕ} (h : at ≤ length block)
-    (f : FeedsLines (take (length block - at) (drop at block)) st₁ kept out taken written st₂ kept′ out′) where
+module _ (block : List ℕ) (at : ℕ) {line₁ line₂ : Line} {kept₁ kept₂ out out′ : List ℕ} {taken written : ℕ} (h : at ≤ length block)
+    (f : FeedsLines (take (length block - at) (drop at block)) line₁ kept₁ out taken written line₂ kept₂ out′) where
   part-within : at + taken ≤ length block
   part-within = omega (arith, f .within, ap length (tail-part block at), length-drop at block)
 
-  part-state : (st : State) → st₁ ≡ stateAfter st (take at block) → st₂ ≡ stateAfter st (take (at + taken) block)
-  part-state st e = state-then block at taken st h e (rw (tail-part block at) at f .prints .state)
+  part-goes-on : (line : Line) (kept : List ℕ) → GoesOn (take at block) line kept line₁ kept₁
+      → GoesOn (take (at + taken) block) line kept line₂ kept₂
+  part-goes-on line kept on =
+      goes-on-then block at taken line line₁ line₂ kept kept₁ kept₂ h on (rw (tail-part block at) at f .prints .goes-on)
 
 abbrev Inv-loop : tie.InvT-loop
 Inv-loop block kept₀ out₀ known₀ from₀ kept out known from =
     (length kept ≡ length kept₀) × (length out ≡ length out₀) × (from ≤ length block)
-    × (stateOf known kept ≡ stateAfter (stateOf known₀ kept₀) (take from block))
+    × GoesOn (take from block) known₀ kept₀ known kept
 
 abbrev μ-loop : tie.MeasureT-loop
 μ-loop block kept₀ out₀ known₀ from₀ kept out known from = length block - from
 
 loop-holds : tie.Need-loop-holds Inv-loop μ-loop
-unfolding stateAfter
 loop-holds c =
-    (refl, refl, omega arith, refl)
+    let a = c .before .before .before .args in
+    (refl, refl, omega arith, prints-nothing (a .line) (now (a .kept)) (now (a .out)) .goes-on)
 
 sub-feed-lines : tie.Need-sub-feed-lines Inv-loop μ-loop
 sub-feed-lines c = search needs
@@ -69,11 +73,16 @@ loop-less c =
 
 loop-again : tie.Need-loop-again Inv-loop μ-loop
 loop-again c =
-    let block = now (c .before .before .before .before .before .before .before .before .before .before .before .before .before .before
-    .before .before .args .block) in
+    let a = c .before .before .before .before .before .before .before .before .before .before .before .before .before .before .before
+    .before .args in
+    let block = now (a .block) in
     let l = c .before .before .before .before .before .before .before .before .before .before .before .before .loop in
-    let f = c .before .before .before .before .before .before .before .feed-lines .ensures in
-    (search needs, search needs, part-within block (l .from) (l .inv .2) f, part-state block (l .from) (l .inv .2) f _ (l .inv .3))
+    let f = c .before .before .before .before .before .before .before .feed-lines .ensures in (
+      search needs,
+      search needs,
+      part-within block (l .from) (l .inv .2) f,
+      part-goes-on block (l .from) (l .inv .2) f (a .line) (now (a .kept)) (l .inv .3),
+    )
 
 same-length : tie.Need-same-length Inv-loop μ-loop
 same-length c = search needs
@@ -85,7 +94,7 @@ returns : tie.Need-returns Inv-loop μ-loop
 returns c =
     let a = c .before .before .before .before .before .args in
     let l = c .before .loop in
-    l .inv .3 ∙ rw (take-all (l .from) (now (a .block)) (omega arith))
+    rw (take-all (l .from) (now (a .block)) (omega arith)) at (l .inv .3)
 
 pub feed-all-spec : {M : Type 1} → statement M
 feed-all-spec =

@@ -1,7 +1,7 @@
 -- `main` is safe: what `finish` writes has room in the output. Assumes nothing.
 use mathlib.Core.Path.{ap}
 use borrow.Author.Needs.{needs}
-use Rattle.lines.specs.State.{bytesWritten}
+use Rattle.lines.specs.LineStep.{bytesWritten}
 use Rattle.ringcut.proofs.main.Statement.{statement}
 use Rattle.ringcut.proofs.main.Tie as tie
 

@@ -9,7 +9,8 @@ use borrow.Author.Needs.{needs}
 use lib.Seq.{length-take-le}
 use Rattle.binary64.specs.Slices.{over}
 use Rattle.lines.specs.Lines.{hexLine}
-use Rattle.lines.specs.State.{endAnswer, stateOf, answerRoom}
+use Rattle.lines.specs.LineStep.{answerRoom}
+use Rattle.lines.specs.Contracts.{endAnswer, stateOf}
 use Rattle.lines.proofs.Answers.{part-fits, part-over, answer-front, line-over}
 use Rattle.lines.proofs.answer.answer_line.Statement.{statement}
 use Rattle.lines.proofs.answer.answer_line.Tie as tie

@@ -1,4 +1,5 @@
 -- `feed` meets its contract. Assumes nothing.
+use native.Mathlib.Omega.{arith}
 use denote.Ref.{now}
 use borrow.Author.Needs.{needs}
 use Rattle.lines.proofs.Feeding.{lent-lengths, not-lent, is-lent, feeds-nothing, feeds-block, feeds-line}
@@ -57,9 +58,10 @@ returns-2 c =
     let t = c .before .before .before .before .before .before .before .before .before .take-line in
     let here = c .before .before .before .before .before .before .if2 .taken in
     let e = c .before .before .before .answer-line .ensures in
-    rw (c .start .ensures .0)
-    (feeds-line (now (a .block)) (a .line) _ (now (a .kept)) _ (now (a .out)) _ (t .result .at) _ ready (t .ensures) here (e .0) (e .1)
-    (search needs) (t .kept .1 .1 .0))
+    let byte = c .before .before .before .before .before .before .before .before .before .before .before .before .before .before .before
+    .before .slice-known .given in
+    feeds-line (now (a .block)) (a .line) _ _ (now (a .kept)) _ (now (a .out)) _ (t .result .at) _ (λ i. omega (arith, byte i)) ready
+    (t .ensures) here (c .start .ensures .1) (e .0) (e .1) (search needs) (t .kept .1 .1 .0)
 
 same-length-5 : tie.Need-same-length-5
 same-length-5 c = search needs
@@ -73,8 +75,10 @@ returns-3 c =
     let ready = is-lent (c .before .before .before .before .before .before .are-lent .result) (now (a .kept)) (now (a .out))
     (c .before .before .before .before .before .before .are-lent .ensures) (c .before .before .before .before .before .if1 .left) in
     let t = c .before .before .before .take-line in
-    feeds-block (now (a .block)) (a .line) _ (now (a .kept)) _ (now (a .out)) (t .result .at) ready (t .ensures) (c .if2 .left)
-    (t .kept .1 .1 .0)
+    let byte = c .before .before .before .before .before .before .before .before .before .before .slice-known .given in
+    let byte′ = c .before .slice-known3 .given in
+    feeds-block (now (a .block)) (a .line) _ (now (a .kept)) _ (now (a .out)) (t .result .at) (λ i. omega (arith, byte i))
+    (λ i. omega (arith, byte′ i)) ready (t .ensures) (c .if2 .left) (t .kept .1 .1 .0)
 
 pub feed-spec : {M : Type 1} → statement M
 feed-spec =

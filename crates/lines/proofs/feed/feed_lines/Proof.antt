@@ -6,7 +6,7 @@ use native.Mathlib.Omega.{arith}
 use denote.Ref.{now}
 use lib.ListN.{length, take, length-drop}
 use borrow.Author.Needs.{needs}
-use Rattle.lines.specs.State.{stateOf, Prints}
+use Rattle.lines.specs.LineStep.{Prints}
 use Rattle.lines.proofs.Feeding.{prints-nothing}
 use Rattle.lines.proofs.Parts.{parts-then}
 use Rattle.lines.proofs.feed.feed_lines.Statement.{statement}
@@ -15,7 +15,7 @@ use Rattle.lines.proofs.feed.feed_lines.Tie as tie
 abbrev Inv-loop : tie.InvT-loop
 Inv-loop block kept₀ out₀ known₀ from₀ waiting₀ kept out known from waiting =
     (length kept ≡ length kept₀) × (length out ≡ length out₀) × (from ≡ 0 → waiting ≡ 0) × (from ≤ length block)
-    × Prints (take from block) (stateOf known₀ kept₀) out₀ waiting (stateOf known kept) out
+    × Prints (take from block) known₀ kept₀ out₀ waiting known kept out
 
 abbrev μ-loop : tie.MeasureT-loop
 μ-loop block kept₀ out₀ known₀ from₀ waiting₀ kept out known from waiting = length block - from
@@ -23,7 +23,7 @@ abbrev μ-loop : tie.MeasureT-loop
 loop-holds : tie.Need-loop-holds Inv-loop μ-loop
 loop-holds c =
     let a = c .before .before .before .args in
-    (refl, refl, λ e. e, omega arith, prints-nothing (stateOf (a .line) (now (a .kept))) (now (a .out)))
+    (refl, refl, λ e. e, omega arith, prints-nothing (a .line) (now (a .kept)) (now (a .out)))
 
 sub-if1 : tie.Need-sub-if1 Inv-loop μ-loop
 sub-if1 c = search needs

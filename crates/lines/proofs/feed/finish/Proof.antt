@@ -4,7 +4,7 @@ use native.Mathlib.Omega.{arith}
 use denote.Ref.{now}
 use borrow.Author.Needs.{needs}
 use Rattle.lines.specs.declared.feed.Finished.the-variants.{Wrote}
-use Rattle.lines.specs.State.{endLine, stateOf}
+use Rattle.lines.specs.Contracts.{endLine, stateOf}
 use Rattle.lines.proofs.Feeding.{lent-lengths, not-lent, is-lent, over-fits, ends-begun, ends-not-begun}
 use Rattle.lines.proofs.feed.finish.Statement.{statement}
 use Rattle.lines.proofs.feed.finish.Tie as tie
@@ -51,7 +51,8 @@ returns-3 c =
     let l = c .before .before .before .before .before .before .before .are-lent in
     let ready = is-lent (l .result) (now (a .kept)) (now (a .out)) (l .ensures)
     (c .before .before .before .before .before .before .if1 .left) in
-    let begun = ends-begun (a .line) (now (a .kept)) (lent-lengths (now (a .kept)) (now (a .out)) ready .0)
+    let byte = c .before .before .before .before .before .before .before .before .before .before .shared-slice-known .given in
+    let begun = ends-begun (a .line) (now (a .kept)) (λ i. omega (arith, byte i)) (lent-lengths (now (a .kept)) (now (a .out)) ready .0)
     (sym (c .before .before .before .before .before .is-not-begun .ensures) ∙ c .before .before .before .before .if2 .left) in
     let e = c .before .before .answer-line .ensures in
     rw (ready, begun)

@@ -1,9 +1,7 @@
 -- `take_char` meets its contract. Assumes nothing.
-use mathlib.Core.Path.{refl}
-use native.Mathlib.Omega.{arith}
 use borrow.Author.Needs.{needs}
 use borrow.Author.Tests.{lt-ltb, le-ltb}
-use Rattle.lines.specs.State.{after}
+use Rattle.lines.specs.Contracts.{after}
 use Rattle.lines.proofs.line.take_char.Statement.{statement}
 use Rattle.lines.proofs.line.take_char.Tie as tie
 
@@ -24,7 +22,7 @@ returns c =
 
 returns-2 : tie.Need-returns-2
 unfolding after
-returns-2 c = rw (← c .before .digit-of .ensures, le-ltb _ _ (c .if1 .left)) (refl, λ p. (omega arith, omega arith))
+returns-2 c = rw (← c .before .digit-of .ensures, le-ltb _ _ (c .if1 .left))
 
 pub take-char-spec : {M : Type 1} → statement M
 take-char-spec =

@@ -1,12 +1,11 @@
--- `take_chars` meets its contract. The invariant: what is to be printed from here on is what was to be printed. Assumes nothing.
+-- `take_chars` meets its contract. The invariant: the characters so far are read on within the line. Assumes nothing.
 use mathlib.Core.Path.{_≡_, refl}
 use Prim.Native.Nat.{_-_}
 use native.Mathlib.Omega.{arith}
 use denote.Ref.{now}
 use lib.ListN.{length}
 use borrow.Author.Needs.{needs}
-use Rattle.lines.specs.State.{stateOf, Proper}
-use Rattle.lines.specs.Contracts.{ReadsOn}
+use Rattle.lines.specs.Contracts.{stateOf, ReadsOn}
 use Rattle.lines.proofs.Running.{passes-start, passes-then, passes-char}
 use Rattle.lines.proofs.line.take_chars.Statement.{statement}
 use Rattle.lines.proofs.line.take_chars.Tie as tie
@@ -14,7 +13,6 @@ use Rattle.lines.proofs.line.take_chars.Tie as tie
 abbrev Inv-loop : tie.InvT-loop
 Inv-loop block from values kept₀ reached₀ at₀ kept reached at =
     (length kept ≡ length kept₀) × ReadsOn block from (stateOf reached₀ kept₀) at (stateOf reached kept)
-    × (Proper reached₀ → Proper reached)
 
 abbrev μ-loop : tie.MeasureT-loop
 μ-loop block from values kept₀ reached₀ at₀ kept reached at = length block - at
@@ -22,7 +20,7 @@ abbrev μ-loop : tie.MeasureT-loop
 loop-holds : tie.Need-loop-holds Inv-loop μ-loop
 loop-holds c =
     let a = c .before .before .args in
-    (refl, passes-start (now (a .block)) (a .from) (stateOf (a .line) (now (a .kept))) (c .before .before .pre .0), λ p. p)
+    (refl, passes-start (now (a .block)) (a .from) (stateOf (a .line) (now (a .kept))) (c .before .before .pre .0))
 
 shared-slice-read-b : tie.Need-shared-slice-read-b Inv-loop μ-loop
 shared-slice-read-b c = search needs
@@ -31,7 +29,7 @@ same-length : tie.Need-same-length Inv-loop μ-loop
 same-length c = search needs
 
 returns : tie.Need-returns Inv-loop μ-loop
-returns c = let l = c .before .before .before .loop in record { passes = l .inv .1; stops = λ _. c .if1 .taken; proper = l .inv .2 }
+returns c = let l = c .before .before .before .loop in record { passes = l .inv .1; stops = λ _. c .if1 .taken }
 
 take-char-requires : tie.Need-take-char-requires Inv-loop μ-loop
 take-char-requires c κs = search needs
@@ -49,13 +47,13 @@ loop-again c =
     let e = c .before .before .take-char .ensures in
     let p = passes-char block (l .at) (stateOf (l .reached) (l .kept)) (c .before .before .before .before .before .before .loop-test .taken)
     (c .before .before .before .before .if1 .left) in
-    (search needs, rw (e .0) (passes-then (l .inv .1) p), λ h. e .1 (l .inv .2 h))
+    (search needs, rw e (passes-then (l .inv .1) p))
 
 same-length-2 : tie.Need-same-length-2 Inv-loop μ-loop
 same-length-2 c = search needs
 
 returns-2 : tie.Need-returns-2 Inv-loop μ-loop
-returns-2 c = let l = c .before .loop in record { passes = l .inv .1; stops = λ h. omega arith; proper = l .inv .2 }
+returns-2 c = let l = c .before .loop in record { passes = l .inv .1; stops = λ h. omega arith }
 
 pub take-chars-spec : {M : Type 1} → statement M
 take-chars-spec =

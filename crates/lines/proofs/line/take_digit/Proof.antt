@@ -1,7 +1,5 @@
 -- `take_digit` meets its contract: each arm knows its case. Assumes nothing.
-use mathlib.Core.Path.{refl}
 use Prim.Native.Nat.{_%_}
-use native.Mathlib.Omega.{arith}
 use denote.Ref.{now}
 use borrow.Author.Needs.{needs}
 use native.Mathlib.Nat.{mod-eq-of-lt}
@@ -37,10 +35,7 @@ returns : tie.Need-returns
 returns c =
     let a = c .before .before .before .before .args in
     let k = c .before .before .line2 .given in
-    rw (k .1) (
-      byte-kept (now (a .kept)) (k .0 .0) (k .0 .1 .0 % 16) (a .d) (c .before .before .before .before .pre .1) (c .if1 .taken),
-      λ p. (omega arith, omega arith),
-    )
+    rw (k .1) (byte-kept (now (a .kept)) (k .0 .0) (k .0 .1 .0 % 16) (a .d) (c .before .before .before .before .pre .1) (c .if1 .taken))
 
 enum-known-line-3 : tie.Need-enum-known-line-3
 enum-known-line-3 c = search needs
@@ -49,20 +44,16 @@ returns-2 : tie.Need-returns-2
 returns-2 c = search needs
 
 returns-3 : tie.Need-returns-3
-returns-3 c =
-    rw (c .before .line .given .1, mod-eq-of-lt (c .before .before .before .pre .0)) (refl, λ p. (p .0, c .before .before .before .pre .0))
+returns-3 c = rw (c .before .line .given .1, mod-eq-of-lt (c .before .before .before .pre .0))
 
 returns-4 : tie.Need-returns-4
 returns-4 c =
     let a = c .before .before .before .before .args in
     let k = c .before .before .line2 .given in
-    rw (k .1) (
-      no-byte-kept (now (a .kept)) (k .0 .0) (k .0 .1 .0 % 16) (a .d) (c .before .before .before .before .pre .1) (c .if1 .left),
-      λ p. (omega arith, omega arith),
-    )
+    rw (k .1) (no-byte-kept (now (a .kept)) (k .0 .0) (k .0 .1 .0 % 16) (a .d) (c .before .before .before .before .pre .1) (c .if1 .left))
 
 returns-5 : tie.Need-returns-5
-returns-5 c = rw (c .before .line3 .given .1) (refl, λ p. p)
+returns-5 c = rw (c .before .line3 .given .1)
 
 pub take-digit-spec : {M : Type 1} → statement M
 take-digit-spec =

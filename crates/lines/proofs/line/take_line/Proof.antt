@@ -1,5 +1,4 @@
 -- `take_line` meets its contract. Assumes nothing.
-use native.Mathlib.Omega.{arith}
 use borrow.Author.Needs.{needs}
 use Rattle.lines.proofs.Running.{passes-then}
 use Rattle.lines.proofs.line.take_line.Statement.{statement}
@@ -25,7 +24,7 @@ returns c =
     let e = c .before .before .take-chars .ensures in
     let p = c .before .before .before .before .before .before .before .take-pairs .ensures in
     rw (c .before .before .before .before .before .before .before .before .before .before .before .line .given .1)
-    record { passes = passes-then (p .0) (e .passes); stops = e .stops; proper = λ h. e .proper (p .1 (h .0), omega arith) }
+    record { passes = passes-then p (e .passes); stops = e .stops }
 
 take-chars-requires-2 : tie.Need-take-chars-requires-2
 take-chars-requires-2 c κs = search needs

@@ -1,4 +1,4 @@
--- `take_pairs` meets its contract. The invariant: what is to be printed from here on is what was to be printed. Assumes nothing.
+-- `take_pairs` meets its contract. The invariant: the characters so far are read on within the line. Assumes nothing.
 use mathlib.Core.Path.{_≡_, refl}
 use Prim.Native.Nat.{_+_, _-_, _≤_, _<_}
 use native.Mathlib.Omega.{arith}
@@ -7,15 +7,14 @@ use lib.ListN.{length, getD, take}
 use borrow.Author.Needs.{needs}
 use Rattle.frame_bytes.specs.Frame.{longest}
 use Rattle.lines.specs.Lines.{digit}
-use Rattle.lines.specs.State.{whole}
-use Rattle.lines.specs.Contracts.{ReadsOn}
+use Rattle.lines.specs.Contracts.{whole, ReadsOn}
 use Rattle.lines.proofs.Running.{passes-start, passes-then, passes-pair}
 use Rattle.lines.proofs.line.take_pairs.Statement.{statement}
 use Rattle.lines.proofs.line.take_pairs.Tie as tie
 
 abbrev Inv-loop : tie.InvT-loop
 Inv-loop block bytes values kept₀ n₀ at₀ kept n at =
-    (length kept ≡ length kept₀) × ReadsOn block 0 (whole (take bytes kept₀)) at (whole (take n kept)) × (bytes ≤ longest → n ≤ longest)
+    (length kept ≡ length kept₀) × ReadsOn block 0 (whole (take bytes kept₀)) at (whole (take n kept))
 
 abbrev μ-loop : tie.MeasureT-loop
 μ-loop block bytes values kept₀ n₀ at₀ kept n at = length block - at
@@ -23,7 +22,7 @@ abbrev μ-loop : tie.MeasureT-loop
 loop-holds : tie.Need-loop-holds Inv-loop μ-loop
 loop-holds c =
     let a = c .before .before .args in
-    (refl, passes-start (now (a .block)) 0 (whole (take (a .bytes) (now (a .kept)))) (omega arith), λ h. h)
+    (refl, passes-start (now (a .block)) 0 (whole (take (a .bytes) (now (a .kept)))) (omega arith))
 
 sub-loop : tie.Need-sub-loop Inv-loop μ-loop
 sub-loop c = search needs
@@ -47,19 +46,19 @@ same-length : tie.Need-same-length Inv-loop μ-loop
 same-length c = search needs
 
 returns : tie.Need-returns Inv-loop μ-loop
-returns c = let l = c .before .before .before .before .before .before .loop in (l .inv .1, l .inv .2)
+returns c = let l = c .before .before .before .before .before .before .loop in l .inv .1
 
 same-length-2 : tie.Need-same-length-2 Inv-loop μ-loop
 same-length-2 c = search needs
 
 returns-2 : tie.Need-returns-2 Inv-loop μ-loop
-returns-2 c = let l = c .before .before .before .before .before .before .before .loop in (l .inv .1, l .inv .2)
+returns-2 c = let l = c .before .before .before .before .before .before .before .loop in l .inv .1
 
 same-length-3 : tie.Need-same-length-3 Inv-loop μ-loop
 same-length-3 c = search needs
 
 returns-3 : tie.Need-returns-3 Inv-loop μ-loop
-returns-3 c = let l = c .before .before .before .before .before .before .before .before .loop in (l .inv .1, l .inv .2)
+returns-3 c = let l = c .before .before .before .before .before .before .before .before .loop in l .inv .1
 
 mul-kept : tie.Need-mul-kept Inv-loop μ-loop
 mul-kept c = search needs
@@ -89,13 +88,13 @@ loop-again c =
     let second : digit (getD block (l .at + 1) 0) < 16 = omega (arith, f) in
     let room : longest ≤ length (l .kept) = search needs in
     let p = passes-pair block (l .kept) (l .at) (l .n) room (omega arith) (omega arith) first second in
-    (search needs, rw (e, f) (passes-then (l .inv .1) p), λ _. search needs)
+    (search needs, rw (e, f) (passes-then (l .inv .1) p))
 
 same-length-4 : tie.Need-same-length-4 Inv-loop μ-loop
 same-length-4 c = search needs
 
 returns-4 : tie.Need-returns-4 Inv-loop μ-loop
-returns-4 c = let l = c .before .loop in (l .inv .1, l .inv .2)
+returns-4 c = let l = c .before .loop in l .inv .1
 
 pub take-pairs-spec : {M : Type 1} → statement M
 take-pairs-spec =
