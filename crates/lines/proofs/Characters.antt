@@ -16,16 +16,16 @@ use Rattle.lines.specs.LineStep.{longPairs, charsOf, inFrontOfSome, ende
 
 -- ---- up to the last newline
 
--- these characters, and others of which this much is up to the last newline
-abbrev pub joined : List ℕ → List ℕ → List ℕ
-joined x [] = ended x
-joined x (c ∷ l) = x ++ c ∷ l
+-- `x ++ y` up to its last newline, by what `y` has up to its own
+abbrev pub endedBehind : List ℕ → List ℕ → List ℕ
+endedBehind x [] = ended x
+endedBehind x (c ∷ l) = x ++ c ∷ l
 
-pub ended-append : (x y : List ℕ) → ended (x ++ y) ≡ joined x (ended y)
+pub ended-append : (x y : List ℕ) → ended (x ++ y) ≡ endedBehind x (ended y)
 unfolding ended
 ended-append [] y = none (ended y)
   where
-    none : (e : List ℕ) → e ≡ joined [] e
+    none : (e : List ℕ) → e ≡ endedBehind [] e
     none [] = refl
     none (c ∷ l) = refl
 ended-append (b ∷ x) y = rw (ended-append x y) (one-more (eqb b newline) (ended y) refl)
@@ -34,8 +34,8 @@ ended-append (b ∷ x) y = rw (ended-append x y) (one-more (eqb b newline) (ende
     some [] l c = refl
     some (a ∷ x) l c = refl
 
-    one-more : (t : Bool) (e : List ℕ) → eqb b newline ≡ t → cond (eqb b newline) (b ∷ joined x e) (inFrontOfSome b (joined x e))
-        ≡ joined (b ∷ x) e
+    one-more : (t : Bool) (e : List ℕ) → eqb b newline ≡ t → cond (eqb b newline) (b ∷ endedBehind x e) (inFrontOfSome b (endedBehind x e))
+        ≡ endedBehind (b ∷ x) e
     one-more t [] e = refl
     one-more true (c ∷ l) e = rw e
     one-more false (c ∷ l) e = rw e (some x l c)
@@ -123,6 +123,7 @@ behind-none : (d : Decoded) → d ≡ behind [] d
 behind-none notPairs = refl
 behind-none (pairsOf m) = refl
 
+-- each is a byte
 abbrev pub Bytes : List ℕ → Type 0
 Bytes l = (i : ℕ) → getD l i 0 < 256
 

@@ -11,7 +11,7 @@ use Rattle.frame_bytes.specs.Encoding.{each}
 use Rattle.lines.specs.declared.line.Line.{Line}
 use Rattle.lines.specs.Lines.{linesOf, printed}
 use Rattle.lines.specs.LineStep.{charsOf, ended, printedNow, GoesOn, Prints}
-use Rattle.lines.proofs.Characters.{joined, ended-append, chars-no-newline}
+use Rattle.lines.proofs.Characters.{endedBehind, ended-append, chars-no-newline}
 use Rattle.lines.proofs.Running.{take-both}
 
 -- ---- written behind what was written before
@@ -36,8 +36,8 @@ module _ (x : List ℕ) (line : Line) (kept : List ℕ) (line₁ : Line) (kept�
       rw (← append-assoc (charsOf line kept) x y, ended-append (charsOf line kept ++ x) y, ended-append (charsOf line₁ kept₁) y)
       (by-end (ended y))
     where
-      by-end : (e : List ℕ) → printed (joined (charsOf line kept ++ x) e) ≡ printedNow line kept x ++ printed
-          (joined (charsOf line₁ kept₁) e)
+      by-end : (e : List ℕ) → printed (endedBehind (charsOf line kept ++ x) e) ≡ printedNow line kept x ++ printed
+          (endedBehind (charsOf line₁ kept₁) e)
       by-end [] = rw (chars-no-newline line₁ kept₁) (sym (append-nil (printedNow line kept x)))
       by-end (b ∷ e) = rw (append-assoc (charsOf line kept) x (b ∷ e)) (on (b ∷ e))
 

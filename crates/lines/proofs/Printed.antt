@@ -169,7 +169,7 @@ unfolding printedLines each
 from-start [] = refl
 from-start (line ∷ others) = rw (line-answer line)
 
--- the same with characters read on, none of which is a newline
+-- Characters of which none is a newline, read on or in front of the lines that follow, print alike.
 pub lines-after : (x rest : List ℕ) (st : State) → ended x ≡ [] → printedLines (stateAfter st x) (linesOf rest) ≡ printedLines st
     (linesOf (x ++ rest))
 unfolding stateAfter linesOf
@@ -184,10 +184,10 @@ lines-after (b ∷ x) rest st e =
 Alike : State → List ℕ → Type 0
 Alike st chars = (line : List ℕ) → endAnswer (stateAfter st line) ≡ decodedAnswer (decode (chars ++ line))
 
--- one digit more
-alike-digit : (st : State) (chars : List ℕ) (b : ℕ) → Alike st chars → Alike (after st b) (chars ++ b ∷ [])
+-- one character more
+alike-char : (st : State) (chars : List ℕ) (b : ℕ) → Alike st chars → Alike (after st b) (chars ++ b ∷ [])
 unfolding Alike stateAfter
-alike-digit st chars b a line = rw (append-assoc chars (b ∷ []) line) (a (b ∷ line))
+alike-char st chars b a line = rw (append-assoc chars (b ∷ []) line) (a (b ∷ line))
 
 alike-whole : (l : List ℕ) → Bytes l → Alike (whole l) (lowerHex l)
 unfolding Alike
@@ -196,7 +196,7 @@ alike-whole l h line = rw (decode-behind l line h) (line-from line l)
 alike-half : (l : List ℕ) (d : ℕ) → d < 16 → Bytes l → Alike (half l d) (lowerHex l ++ hexDigit d ∷ [])
 alike-half l d h bytes =
     let e : after (whole l) (hexDigit d) ≡ half l d = digit-taken (whole l) (hexDigit d) (hex-is-digit d h) ∙ rw (digit-hex d h) in
-    rw e at (alike-digit (whole l) (lowerHex l) (hexDigit d) (alike-whole l bytes))
+    rw e at (alike-char (whole l) (lowerHex l) (hexDigit d) (alike-whole l bytes))
 
 long-behind : (l : List ℕ) (d : Decoded) → longest < length l → longAnswer d ≡ decodedAnswer (behind l d)
 unfolding longAnswer
@@ -213,16 +213,16 @@ alike-long line =
 alike-odd : Alike (long true) (longPairs ++ hexDigit 0 ∷ [])
 alike-odd =
     let e : after (long false) (hexDigit 0) ≡ long true = digit-taken (long false) (hexDigit 0) (hex-is-digit 0 (omega arith)) in
-    rw e at (alike-digit (long false) longPairs (hexDigit 0) alike-long)
+    rw e at (alike-char (long false) longPairs (hexDigit 0) alike-long)
 
--- a line of which a character was read counts at the end of the input
+-- A line of which characters were read counts at the end of the input.
 begun-after : (x : List ℕ) (st : State) → 0 < length x → endOfInput (stateAfter st x) ≡ endLine (stateAfter st x)
 unfolding stateAfter
 begun-after [] st h = absurd (omega arith)
 begun-after (b ∷ []) st h = begun st b (isDigit b) refl
 begun-after (b ∷ c ∷ x) st h = begun-after (c ∷ x) (after st b) (omega arith)
 
--- and at the end of the input
+-- A state and characters to which the end of the input is answered alike.
 EndAlike : State → List ℕ → Type 0
 EndAlike st chars = endOfInput st ≡ endOfInput (stateAfter start chars)
 
@@ -253,6 +253,7 @@ spoilt-end : EndAlike notDigits (noDigit ∷ [])
 unfolding EndAlike stateAfter
 spoilt-end = rw no-digit
 
+-- what the code holds, and the characters that stand for it
 stands : (line : Line) (kept : List ℕ) → Bytes kept → Alike (stateOf line kept) (charsOf line kept) × EndAlike (stateOf line kept)
     (charsOf line kept)
 stands KnownLines.NotDigits kept h = (spoilt-line, spoilt-end)

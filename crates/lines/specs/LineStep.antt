@@ -19,11 +19,12 @@ use Rattle.lines.specs.Lines.{newline, hexDigit, lowerHex, printed}
 abbrev pub noDigit : ℕ
 noDigit = 45
 
--- pairs of digits, one more than the longest frame has: any so long are answered alike
+-- pairs of digits, one more than the longest frame has bytes: which digits is all one, as every such line is refused
 unfoldable pub longPairs : List ℕ
 longPairs = lowerHex (replicate (longest + 1) 0)
 
--- These may be others than were read: a line that begins with either is answered alike. The bytes of a line stand in front in `kept`.
+-- They may be others than were read: whatever follows, a line that begins with the ones is answered as one that begins with the others.
+-- Its bytes stand at the front of `kept`.
 abbrev pub charsOf : Line → List ℕ → List ℕ
 charsOf KnownLines.NotDigits kept = noDigit ∷ []
 charsOf (KnownLines.Whole n) kept = lowerHex (take n kept)
@@ -68,11 +69,11 @@ slicesFit kept out = leb longest (length kept) && leb lineRoom (length out)
 
 -- ---- the line step
 
--- what is printed at once for characters that follow on a line: the answers to the lines that end in them
+-- what is printed at once for characters that follow on what is known of a line: the answers to the lines that end in them
 abbrev pub printedNow : Line → List ℕ → List ℕ → List ℕ
 printedNow line kept characters = printed (ended (charsOf line kept ++ characters))
 
--- The input goes on behind such characters: whatever follows, the rest of what is to be printed is what is printed behind the new line.
+-- The new line stands for what came before: whatever follows, what is still to be printed is what is printed behind its characters.
 -- So blocks of any sizes print `printed` of the whole input (proofs/Blocks.antt: `all-printed`).
 abbrev pub GoesOn : List ℕ → Line → List ℕ → Line → List ℕ → Type 0
 GoesOn characters line kept line′ kept′ =
@@ -92,8 +93,8 @@ pub record Feeds (block : List ℕ) (line : Line) (kept out : List ℕ) (taken w
   pub prints : Prints (take taken block) line kept out written line′ kept′ out′
   -- where a slice is too short the line and its bytes stay
   pub untaken : slicesFit kept out ≡ false → (line′ ≡ line) × (kept′ ≡ kept)
-  -- Otherwise free is which it is, of the lines with their bytes behind which the input goes on so. Every contract speaks of what is
-  -- printed behind a line, so no answer depends on that.
+  -- Otherwise no more is said of them than the length and `goes-on`: which they are is free among those behind which the input goes on
+  -- so. Every contract speaks of what is printed behind a line, so no answer depends on it.
   pub free : length kept′ ≡ length kept
 
 -- ---- the end of the input: "A last line without a newline counts", and where no character of it was read there is none

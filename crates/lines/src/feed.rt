@@ -46,8 +46,8 @@ fn are_lent(kept: &[u8], out: &[u8]) -> bool
 
 // Takes a block up to its first newline, which is answered, or to its end. `kept` is 5,120 bytes or more that go with the line: those
 // past the line's own are free. Takes nothing where `kept` is shorter, or `out` is shorter than LINE_ROOM.
-// Of the line that is returned, and of its bytes in `kept`, it is said what is printed for an input that goes on behind them. Which of
-// those with the same answers they are is left free: what is answered later does not depend on it.
+// Of the line that is returned, with its bytes in `kept`, it is said what is printed for an input that goes on behind it. Which it is of
+// those behind which the same is printed is left free: what is answered later does not depend on it.
 pub fn feed(block: &[u8], line: Line, kept: &mut [u8], out: &mut [u8]) -> Fed
     ensures feeds { λ r. ⌜ LineStep.Feeds (now (block .entry)) line (now (kept .entry)) (now (out .entry))
         (r .taken) (r .written) (r .line) (now (kept .exit)) (now (out .exit)) ⌝ }
