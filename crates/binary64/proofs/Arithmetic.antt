@@ -1,7 +1,6 @@
 -- The four operations on numbers of a format, in whole numbers of units: a sum and a difference are the exact one, rounded; the quotient of
--- a number by one that is
--- no nearer to zero, on its side, is from 0 to 1; and a product with a factor from 0 to 1 goes no further from zero than the other factor.
--- Assumes nothing.
+-- a number by one that is no nearer to zero, on its side, is from 0 to 1; and a product with a factor from 0 to 1 goes no further from zero
+-- than the other factor. Assumes nothing.
 use mathlib.Core.Path.{_≡_, refl, sym, ap, ap₂, _∙_}
 use mathlib.Core.Logic.{_⊎_, inl, inr}
 use mathlib.Core.Bool.{Bool, true, false, not, cond}

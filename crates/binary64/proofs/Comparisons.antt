@@ -13,7 +13,7 @@ use lib.Ieee.Compare.{differs-from-itself}
 use lib.Ieee.Scale.{finite}
 use lib.Ieee.Fits.{up-pos, down-pos}
 use borrow.Author.Tests.{lt-ltb, eq-eqb, ne-eqb}
-use Rattle.binary64.specs.Compare.{minimum, maximum, magnitude, tolerance, limit}
+use Rattle.binary64.specs.Compare.{minimum, maximum, magnitude, tolerance, overlayLimit}
 use Rattle.binary64.specs.Contracts.{lower, higher}
 
 -- a number differs from itself exactly if it is a NaN
@@ -87,14 +87,14 @@ pub tolerance-bits : tolerance ≡ ofBits binary64 0x3ddb7cdfd9d7bdbb
 unfolding tolerance ofBits
 tolerance-bits = refl
 
-pub limit-bits : limit ≡ ofBits binary64 0x5f138d352e5096af
-unfolding limit ofBits
+pub limit-bits : overlayLimit ≡ ofBits binary64 0x5f138d352e5096af
+unfolding overlayLimit ofBits
 limit-bits = refl
 
 pub near-test : (d : Float) → lt d tolerance && lt (neg tolerance) d ≡ lt (magnitude d) tolerance
 unfolding tolerance neg
 near-test d = magnitude-below 7737125245533626 (negsuc 85) d
 
-pub huge-test : (x : Float) → le limit x || le x (neg limit) ≡ le limit (magnitude x)
-unfolding limit neg
+pub huge-test : (x : Float) → le overlayLimit x || le x (neg overlayLimit) ≡ le overlayLimit (magnitude x)
+unfolding overlayLimit neg
 huge-test x = magnitude-reaches 5503284107318958 (pos 446) x

@@ -1,6 +1,5 @@
 -- A fraction rounded to a format, in units: `grid f a c` is a / c rounded, `rnd f n` is n units rounded. Rounding leaves what the format
--- holds, keeps the order,
--- and below 2 ^ (prec + k + 1) units it is at most 2 ^ k units off. Assumes nothing.
+-- holds, keeps the order, and below 2 ^ (prec + k + 1) units it is at most 2 ^ k units off. Assumes nothing.
 use mathlib.Core.Path.{_≡_, sym, ap, _∙_}
 use mathlib.Core.Bool.{Bool, false, not}
 use Prim.Native.Nat.{ℕ, suc, _+_, _*_, _/_, _%_, _^_, _≤_, _<_, compare, Ordering, Ordering·lt, Ordering·eq, Ordering·gt}

@@ -1,6 +1,5 @@
 -- Comparisons of doubles as document 01 uses them: minimum and maximum (its head), nearness ("Unchanged", "Overlay wanted"), size ("Overlay
--- wanted"). And the lower and the higher of two numbers, as the code computes them. Definitions only.
--- That a number is neither NaN nor infinite is `finite` of `lib.Ieee.Scale`.
+-- wanted"). That a number is neither NaN nor infinite is `finite` of `lib.Ieee.Scale`. Definitions only.
 use mathlib.Core.Bool.{Bool, false, _||_, cond}
 use Prim.Native.Nat.{_^_}
 use lib.Ieee.{Float, nan, inf, fin, binary64, isNan, lt, le, sub, round}
@@ -28,10 +27,10 @@ unfoldable pub near : Float → Float → Bool
 near a b = lt (magnitude (sub binary64 a b)) tolerance
 
 -- 1e150, the double nearest to it
-unfoldable pub limit : Float
+unfoldable pub overlayLimit : Float
 unfolding round
-limit = round binary64 false (10 ^ 150) 1
+overlayLimit = round binary64 false (10 ^ 150) 1
 
 -- "magnitude 1e150 or more" (document 01, "Overlay wanted")
 unfoldable pub huge : Float → Bool
-huge x = le limit (magnitude x)
+huge x = le overlayLimit (magnitude x)

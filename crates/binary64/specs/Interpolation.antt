@@ -1,11 +1,11 @@
--- What one line of the cutter works out of two coordinates: the test whether a vertex is in, and the crossing's free coordinate (document
--- 01, "Cut rings"). Definitions only.
+-- What one line of the cutter works out (document 01, "Cut rings"). A line fixes one coordinate, x for Left and Right, y for Bottom and
+-- Top;
+-- the other is free. Here are the test whether a vertex is in, and a crossing's free coordinate. Definitions only.
 use mathlib.Core.Bool.{Bool, true, false}
 use lib.Ieee.{Float, Format, add, sub, mul, div, le}
 
--- Whether v is in, by the line at c: a low line (Left, Bottom) keeps what is at c or above it, another (Right, Top) what is at c or below
--- it.
--- So on the line counts as in, and NaN is out.
+-- Whether v is in, by the line at c: a low line (Left, Bottom) keeps what is at c or above it, a high one (Right, Top) what is at c or
+-- below it. So on the line counts as in, and NaN is out.
 abbrev pub within : Bool → Float → Float → Bool
 within true c v = le c v
 within false c v = le v c

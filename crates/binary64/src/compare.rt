@@ -7,7 +7,7 @@ ghost use Rattle.binary64.specs.Contracts as Contracts;
 
 const TOLERANCE: f64 = 1e-10;
 
-const LIMIT: f64 = 1e150;
+const OVERLAY_LIMIT: f64 = 1e150;
 
 // The smaller of two: passes over a NaN, and of two equal numbers keeps the first.
 pub fn minimum(a: f64, b: f64) -> f64
@@ -75,5 +75,5 @@ pub fn is_near(a: f64, b: f64) -> bool
 pub fn is_huge(x: f64) -> bool
     ensures { λ r. ⌜ r ≡ Compare.huge x ⌝ }
 {
-    LIMIT <= x || x <= -LIMIT
+    OVERLAY_LIMIT <= x || x <= -OVERLAY_LIMIT
 }

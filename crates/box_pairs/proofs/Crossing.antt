@@ -11,7 +11,7 @@ use Rattle.binary64.proofs.Comparisons.{lower-minimum, higher-maximum}
 use Rattle.binary64.proofs.FloatOrder.{lt-not-above, lt-left, lt-right, lt-asym, sub-numbers, mul-numbers, ends, ends-order, ends-low}
 use Rattle.binary64.proofs.FloatOrder.{ends-high}
 use Rattle.tile.specs.declared.Coord.{Coord}
-use Rattle.box_pairs.specs.Cross.{crossProductSign, zero64, aboveBelow, splits, intersectProperly, short, apartOn, apart, cross}
+use Rattle.box_pairs.specs.Cross.{crossProductSign, zero64, aboveBelow, splits, intersectProperly, degenerate, apartOn, apart, cross}
 use Rattle.box_pairs.specs.Contracts.{separate}
 
 -- ---- symmetric
@@ -22,7 +22,7 @@ cross-mirror a1 a2 b1 b2 =
     rw (
       or-comm (lt (maximum (a1 .x) (a2 .x)) (minimum (b1 .x) (b2 .x))) (lt (maximum (b1 .x) (b2 .x)) (minimum (a1 .x) (a2 .x))),
       or-comm (lt (maximum (a1 .y) (a2 .y)) (minimum (b1 .y) (b2 .y))) (lt (maximum (b1 .y) (b2 .y)) (minimum (a1 .y) (a2 .y))),
-      or-comm (short a1 a2) (short b1 b2),
+      or-comm (degenerate a1 a2) (degenerate b1 b2),
       and-comm (splits b1 b2 a1 a2) (splits a1 a2 b1 b2),
     )
 
@@ -146,7 +146,7 @@ separate-apart a1 a2 b1 b2 n =
 
 pub not-properly : (a1 a2 b1 b2 : Coord) → intersectProperly a1 a2 b1 b2 ≡ false → cross a1 a2 b1 b2 ≡ false
 unfolding cross
-not-properly a1 a2 b1 b2 h = rw (h, and-false (not (short a1 a2 || short b1 b2))) (and-false (not (apart a1 a2 b1 b2)))
+not-properly a1 a2 b1 b2 h = rw (h, and-false (not (degenerate a1 a2 || degenerate b1 b2))) (and-false (not (apart a1 a2 b1 b2)))
 
 -- edges that the comparison finds apart in an axis do not cross
 pub apart-x : (a1 a2 b1 b2 : Coord) → separate (a1 .x) (a2 .x) (b1 .x) (b2 .x) ≡ true → cross a1 a2 b1 b2 ≡ false
@@ -174,13 +174,13 @@ apart-y a1 a2 b1 b2 h = go (intersectProperly a1 a2 b1 b2) refl
 -- edges that split each other, and whose boxes are not apart, cross if they are long enough
 pub cross-properly : (a1 a2 b1 b2 : Coord) → intersectProperly a1 a2 b1 b2 ≡ true
     → separate (a1 .x) (a2 .x) (b1 .x) (b2 .x) ≡ false → separate (a1 .y) (a2 .y) (b1 .y) (b2 .y) ≡ false
-    → cross a1 a2 b1 b2 ≡ not (short a1 a2 || short b1 b2)
+    → cross a1 a2 b1 b2 ≡ not (degenerate a1 a2 || degenerate b1 b2)
 unfolding cross apart
 cross-properly a1 a2 b1 b2 e hx hy =
     let n = properly-numbers a1 a2 b1 b2 e in
     let x : apartOn (a1 .x) (a2 .x) (b1 .x) (b2 .x) ≡ false = sym (separate-apart (a1 .x) (a2 .x) (b1 .x) (b2 .x) (n .0)) ∙ hx in
     let y : apartOn (a1 .y) (a2 .y) (b1 .y) (b2 .y) ≡ false = sym (separate-apart (a1 .y) (a2 .y) (b1 .y) (b2 .y) (n .1)) ∙ hy in
-    rw (x, y, e) (and-true (not (short a1 a2 || short b1 b2)))
+    rw (x, y, e) (and-true (not (degenerate a1 a2 || degenerate b1 b2)))
 
 -- "no crossing where a coordinate is NaN": edges that cross hold numbers only
 pub cross-numbers : (a1 a2 b1 b2 : Coord) → cross a1 a2 b1 b2 ≡ true → NoNan (a1 .x) (a2 .x) (b1 .x) (b2 .x)

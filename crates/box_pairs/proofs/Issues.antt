@@ -13,7 +13,7 @@ use Rattle.tile.specs.declared.Coord.{Coord}
 use Rattle.tile.specs.Contracts.{coordAt}
 use Rattle.tile.proofs.Rings.{front-at, length-front}
 use Rattle.box_pairs.specs.declared.Issue.the-variants.{Sound, Short, Repeated, Crossing}
-use Rattle.box_pairs.specs.Cross.{short}
+use Rattle.box_pairs.specs.Cross.{degenerate}
 use Rattle.box_pairs.specs.Contracts.{front}
 use Rattle.box_pairs.specs.Pairs.{selfIntersecting}
 use Rattle.box_pairs.specs.Issue.{repeated, issueOf}
@@ -27,14 +27,14 @@ few (p ∷ []) h = refl
 few (p ∷ q ∷ []) h = refl
 few (p ∷ q ∷ s ∷ l) h = absurd (omega arith)
 
-pub one-more : (l : List Coord) (k : ℕ) (z : Coord) → k + 2 < length l → repeated (drop k l) ≡ short (getD l k z) (getD l (k + 1) z) ||
+pub one-more : (l : List Coord) (k : ℕ) (z : Coord) → k + 2 < length l → repeated (drop k l) ≡ degenerate (getD l k z) (getD l (k + 1) z) ||
     repeated (drop (k + 1) l)
 unfolding repeated
 one-more l k z h =
     rw (add-one k, drop-cons l k z (omega arith), drop-cons l (suc k) z (omega arith), drop-cons l (suc (suc k)) z (omega arith))
 
 module _ (s : List Float) (n : ℕ) (room : 2 * n ≤ length s) where
-  pub repeated-next : (k : ℕ) → k + 2 < n → repeated (drop k (front s n)) ≡ short (coordAt s k) (coordAt s (k + 1)) || repeated
+  pub repeated-next : (k : ℕ) → k + 2 < n → repeated (drop k (front s n)) ≡ degenerate (coordAt s k) (coordAt s (k + 1)) || repeated
       (drop (k + 1) (front s n))
   repeated-next k l =
       let z : Coord = record { x = nan; y = nan } in

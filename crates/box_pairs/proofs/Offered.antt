@@ -8,7 +8,7 @@ use lib.ListN.{length, getD, drop}
 use borrow.Author.Tests.{lt-ltb, le-ltb}
 use Rattle.tile.specs.declared.Coord.{Coord}
 use Rattle.box_pairs.specs.declared.Issue.the-variants.{Sound, Repeated}
-use Rattle.box_pairs.specs.Cross.{short}
+use Rattle.box_pairs.specs.Cross.{degenerate}
 use Rattle.box_pairs.specs.Issue.{repeated, issueOf, hasIssue}
 use Rattle.box_pairs.proofs.Issues as issues
 
@@ -20,7 +20,7 @@ repeated-few = issues.few
 
 -- from a coordinate on: its segment is short, or one repeats from the next coordinate on
 pub repeated-from : (l : List Coord) (k : ℕ) (z : Coord) → k + 2 < length l
-    → repeated (drop k l) ≡ short (getD l k z) (getD l (k + 1) z) || repeated (drop (k + 1) l)
+    → repeated (drop k l) ≡ degenerate (getD l k z) (getD l (k + 1) z) || repeated (drop (k + 1) l)
 repeated-from = issues.one-more
 
 -- ---- the issue of an exterior that is assumed to be simple

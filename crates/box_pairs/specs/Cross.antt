@@ -26,8 +26,8 @@ unfoldable pub intersectProperly : Coord → Coord → Coord → Coord → Bool
 intersectProperly a1 a2 b1 b2 = splits b1 b2 a1 a2 && splits a1 a2 b1 b2
 
 -- "shorter than 1e-10 in both axes"; of neighbours: "differ by less than 1e-10 in x and in y"
-unfoldable pub short : Coord → Coord → Bool
-short a b = near (a .x) (b .x) && near (a .y) (b .y)
+unfoldable pub degenerate : Coord → Coord → Bool
+degenerate a b = near (a .x) (b .x) && near (a .y) (b .y)
 
 -- the boxes of two edges are apart in an axis, in which the edges run from a1 to a2 and from b1 to b2; boxes that touch are not apart
 unfoldable pub apartOn : Float → Float → Float → Float → Bool
@@ -38,4 +38,4 @@ apart a1 a2 b1 b2 = apartOn (a1 .x) (a2 .x) (b1 .x) (b2 .x) || apartOn (a1 .y) (
 
 -- "Two edges cross if their boxes are not apart, neither is shorter than 1e-10 in both axes, and `edges_intersect_properly` says so"
 unfoldable pub cross : Coord → Coord → Coord → Coord → Bool
-cross a1 a2 b1 b2 = not (apart a1 a2 b1 b2) && (not (short a1 a2 || short b1 b2) && intersectProperly a1 a2 b1 b2)
+cross a1 a2 b1 b2 = not (apart a1 a2 b1 b2) && (not (degenerate a1 a2 || degenerate b1 b2) && intersectProperly a1 a2 b1 b2)

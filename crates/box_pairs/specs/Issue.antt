@@ -6,7 +6,7 @@ use lib.ListN.{length}
 use Rattle.tile.specs.declared.Coord.{Coord}
 use Rattle.box_pairs.specs.declared.Issue.{Issue}
 use Rattle.box_pairs.specs.declared.Issue.the-variants.{Sound, Short, Repeated, Crossing}
-use Rattle.box_pairs.specs.Cross.{short}
+use Rattle.box_pairs.specs.Cross.{degenerate}
 use Rattle.box_pairs.specs.Pairs.{selfIntersecting}
 
 -- "two neighbours differ by less than 1e-10 in x and in y, the last segment excepted"
@@ -14,19 +14,15 @@ unfoldable pub repeated : List Coord → Bool
 repeated [] = false
 repeated (p ∷ []) = false
 repeated (p ∷ q ∷ []) = false
-repeated (p ∷ q ∷ s ∷ r) = short p q || repeated (q ∷ s ∷ r)
+repeated (p ∷ q ∷ s ∷ r) = degenerate p q || repeated (q ∷ s ∷ r)
 
 -- "An exterior has an issue if it has fewer than 4 coordinates; or two neighbours ..; or, unless `assume_simple` is set, two edges cross"
 unfoldable pub issueOf : Bool → List Coord → Issue
 issueOf simple r = cond (ltb (length r) 4) Short (cond (repeated r) Repeated (cond (not simple && selfIntersecting r) Crossing Sound))
 
--- whether an exterior whose issue is this one has an issue, in the words of the document
+-- whether document 01 calls it an issue: all but `Sound`
 unfoldable pub hasIssue : Issue → Bool
--- no issue
 hasIssue Sound = false
--- "fewer than 4 coordinates"
 hasIssue Short = true
--- "two neighbours differ by less than 1e-10 in x and in y, the last segment excepted"
 hasIssue Repeated = true
--- "two edges cross"
 hasIssue Crossing = true

@@ -36,8 +36,8 @@ fn edges_intersect_properly(a1: Coord, a2: Coord, b1: Coord, b2: Coord) -> bool
 }
 
 // Shorter than 1e-10 in both axes: the source's `degenerate`.
-pub fn is_short(a: Coord, b: Coord) -> bool
-    ensures { λ r. ⌜ r ≡ Cross.short a b ⌝ }
+pub fn is_degenerate(a: Coord, b: Coord) -> bool
+    ensures { λ r. ⌜ r ≡ Cross.degenerate a b ⌝ }
 {
     is_near(a.x, b.x) && is_near(a.y, b.y)
 }
@@ -63,10 +63,10 @@ pub fn crosses(a1: Coord, a2: Coord, b1: Coord, b2: Coord) -> bool
         return false;
     }
     if edges_intersect_properly(a1, a2, b1, b2) {
-        if is_short(a1, a2) {
+        if is_degenerate(a1, a2) {
             return false;
         }
-        return !is_short(b1, b2);
+        return !is_degenerate(b1, b2);
     }
     false
 }

@@ -41,7 +41,7 @@ fn has_repeated(ring: &[f64], n: usize) -> bool
     while k + 2 < n {
         let p = coord_at(ring, k);
         let q = coord_at(ring, k + 1);
-        if cross::is_short(p, q) {
+        if cross::is_degenerate(p, q) {
             return true;
         }
         k += 1;

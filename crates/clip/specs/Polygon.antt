@@ -56,8 +56,8 @@ routeCut flags b r =
     cond (ltb 0 (length (clipRing b r))) (overlayIfIssue issue (Reasons.Cut issue)
     (overlayIfBridge (bridgeUnlessSkipped flags b cut) (Routes.Cut (length cut)))) Routes.Nothing
 
--- "Rectangle and buffered bounds apart: nothing." "Reason 1: the input exterior has an issue." "No issue and rectangle inside the bounds
--- (edges included): unchanged."
+-- "Rectangle and buffered bounds apart: nothing." "Reason 1: the input exterior has an issue." "Holes are not checked." "No issue and
+-- rectangle inside the bounds (edges included): unchanged."
 unfoldable pub routeExterior : Flags → Rect → TileBounds → List Coord → Route
 routeExterior flags rect b r =
     let issue = issueOf (flags .«assume_simple») r in
@@ -66,10 +66,11 @@ routeExterior flags rect b r =
 
 -- ---- all rings
 
--- "A cut hole under 4 coordinates is left out." "Holes are not checked."
+-- "A cut hole under 4 coordinates is left out."
 abbrev pub leftOut : List Coord → Bool
 leftOut hole = ltb (length hole) 4
 
+-- a hole, cut and closed; none where it is left out
 unfoldable pub cutHole : TileBounds → List Coord → List Coord
 cutHole b r = cond (leftOut (clipRing b r)) [] (close (clipRing b r))
 
@@ -97,13 +98,14 @@ pub data Routed : Type 0 where
 unfoldable pub overlayOrDropped : List (List Coord) → Reason → Routed
 overlayOrDropped rings reason = cond (anyHugeRing rings) dropped (overlay reason)
 
+-- what the exterior decides, with all rings; how many coordinates a cut exterior has is told for the code alone
 abbrev pub routed : Route → TileBounds → List (List Coord) → Routed
 routed Routes.Nothing b rings = nothing
 routed Routes.Unchanged b rings = unchanged
 routed (Routes.Cut n) b rings = cut (cutRings b rings)
 routed (Routes.Overlay reason) b rings = overlayOrDropped rings reason
 
--- a polygon as if rect were its rectangle; `routeRect` gives it one of four numbers
+-- a polygon, rect being taken for its rectangle; `routeRect` asks it only where that is four numbers
 abbrev pub routeMeasured : Flags → Rect → TileBounds → List (List Coord) → Routed
 routeMeasured flags rect b rings = routed (routeExterior flags rect b (exterior rings)) b rings
 
@@ -141,7 +143,8 @@ answerOf (cut rings) = PolygonAnswers.Cut (length rings)
 answerOf (overlay reason) = PolygonAnswers.Overlay reason
 
 -- what an answer tells: the paper's number of it, "(0 nothing, 1 whole dropped, 2 whole unchanged, ..", "(2 unchanged, 4 cut, 5 overlay)";
--- the reason, "0 unless overlay"; of a cut "how many rings"; and the guard count, "dropped, guard count 1"
+-- the reason, "0 unless overlay"; of a cut "how many rings"; and the guard count, how many polygons were dropped: "dropped,
+-- guard count 1"
 pub record Told : Type 0 where
   pub number : ℕ
   pub reason : ℕ

@@ -18,10 +18,14 @@ use Rattle.sutherland_hodgman.proofs.Offered.{B-mono, B-none, B-closed}
 use Rattle.rings.specs.LentRings.{mostRings, total, ringRoom}
 use Rattle.frame_bytes.specs.Frame.{longest, headBytes, Reading, refused, read, readMany, countOf, coordsOf}
 use Rattle.frame_bytes.specs.Frame.{readRing, readPart, Frame, partCountOf, readFrame}
-use Rattle.frame_bytes.specs.Room.{leastRoom, coordinateBytes, partRoom, outputRoom, mostRoom, readCall}
+use Rattle.frame_bytes.specs.Room.{leastRoom, coordinateBytes, partRoom, outputRoom, readCall}
 use Rattle.frame_bytes.proofs.Coordinates.{close-grows}
 use Rattle.frame_bytes.proofs.Places.{no-more}
 use Rattle.frame_bytes.proofs.Readings.{many-first, ring-read, part-read, frame-read}
+
+-- the most output that an accepted frame asks for: with this much no frame is refused by 22
+abbrev pub mostRoom : ℕ
+mostRoom = 50077
 
 -- What is counted in bytes that were read, where so many of them are left: the rings with coordinates and those without, and the
 -- coordinates as they are lent. The room that they ask for is bounded by them.

@@ -15,10 +15,10 @@ use Rattle.tile.specs.declared.Coord.{Coord}
 use Rattle.tile.specs.Ring.{close}
 use Rattle.rings.specs.LentRings.{mostRings}
 use Rattle.frame_bytes.specs.declared.reader.FrameRefusal.{FrameRefusal}
-use Rattle.frame_bytes.specs.declared.reader.FrameRefusal.the-variants.{Size, Kind, Flags, PartCount, Truncated, RingCount}
+use Rattle.frame_bytes.specs.declared.reader.FrameRefusal.the-variants.{Size, Kind, FlagBits, PartCount, Truncated, RingCount}
 use Rattle.frame_bytes.specs.declared.reader.FrameRefusal.the-variants.{CoordinateCount, Trailing}
 use Rattle.frame_bytes.specs.Frame.{Reading, refused, read, refusedIf, andThen, readMany, countOf, coordsOf, readCount, readCoords}
-use Rattle.frame_bytes.specs.Frame.{readRing, readPart, wrongRingCount, mostInRing, shortest, longest, mostFlags, mostParts}
+use Rattle.frame_bytes.specs.Frame.{readRing, readPart, wrongRingCount, mostInRing, longest, mostFlags, mostParts}
 use Rattle.frame_bytes.specs.Frame.{headBytes, polygonKind, readParts, Frame, kindOf, flagsByte, partCountOf, headOf, wrongSize}
 use Rattle.frame_bytes.specs.Frame.{wrongKind, wrongPartCount, readFrame}
 use Rattle.frame_bytes.specs.Contracts.{Accepted}
@@ -228,7 +228,7 @@ unfolding readFrame
 frame-read l frame rest e =
     let size = not-refused (wrongSize (length l)) Size _ frame rest e in
     let kind = not-refused (wrongKind (kindOf l)) Kind _ frame rest (size .1) in
-    let flags = not-refused (ltb mostFlags (flagsByte l)) Flags _ frame rest (kind .1) in
+    let flags = not-refused (ltb mostFlags (flagsByte l)) FlagBits _ frame rest (kind .1) in
     let count = not-refused (wrongPartCount (kindOf l) (partCountOf l)) PartCount _ frame rest (flags .1) in
     let p = both (readParts (partCountOf l) (drop headBytes l)) _ frame rest (count .1) in
     let q = parts-read (partCountOf l) (drop headBytes l) (p .value) (p .rest) (p .first) in
@@ -236,9 +236,9 @@ frame-read l frame rest e =
     let whole = p .second in
     let bytes : p .rest ≡ rest = cc in
     let same : _≡_ {A = Frame} (record { head = headOf l; parts = p .value }) frame = cc in
-    let fits = neither (ltb (length l) shortest) (ltb longest (length l)) (size .0) in
+    let fits = neither (ltb (length l) headBytes) (ltb longest (length l)) (size .0) in
     record {
-      short = ltb-false (length l) shortest (fits .0);
+      short = ltb-false (length l) headBytes (fits .0);
       long = ltb-false longest (length l) (fits .1);
       kind = kind .0;
       flags = ltb-false mostFlags (flagsByte l) (flags .0);

@@ -10,7 +10,7 @@ use lib.ListN.{length, getD, drop, length-drop, List·getD-append}
 use lib.Seq.{drop-drop}
 use Rattle.tile.specs.declared.Coord.{Coord}
 use Rattle.tile.specs.Ring.{closed, close}
-use Rattle.box_pairs.specs.Cross.{short}
+use Rattle.box_pairs.specs.Cross.{degenerate}
 use Rattle.box_pairs.specs.Issue.{repeated, issueOf, hasIssue}
 use Rattle.box_pairs.proofs.Offered.{repeated-few, repeated-from, simple-short, simple-long}
 use Rattle.rings.specs.LentRings.{exterior}
@@ -48,7 +48,7 @@ module _ (frame : List ℕ) (at n : ℕ) where
       close-at (coordsOf n (drop at frame)) k (omega (arith, length-coordsOf n (drop at frame))) ∙ coords-at n (drop at frame) k h
       ∙ ap coordOf (drop-drop (16 * k) at frame)
 
-  pub repeated-next : (k : ℕ) → k + 2 < length ring → repeated (drop k ring) ≡ short (coordOf (drop (at + 16 * k) frame))
+  pub repeated-next : (k : ℕ) → k + 2 < length ring → repeated (drop k ring) ≡ degenerate (coordOf (drop (at + 16 * k) frame))
       (coordOf (drop (at + 16 * (k + 1)) frame)) || repeated (drop (k + 1) ring)
   repeated-next k h =
       let g = close-grows n (drop at frame) in

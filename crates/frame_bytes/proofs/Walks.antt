@@ -20,7 +20,7 @@ use Rattle.frame_bytes.specs.declared.reader.FrameCheck.the-variants.{Fa
 use Rattle.frame_bytes.specs.declared.reader.FrameWalk.{FrameWalk}
 use Rattle.frame_bytes.specs.declared.reader.FrameWalk.the-variants.{Stops, Reaches}
 use Rattle.frame_bytes.specs.Frame.{Reading, refused, read, refusedIf, andThen, readMany, countOf, coordsOf, readCount, readCoords}
-use Rattle.frame_bytes.specs.Frame.{readRing, readPart, wrongRingCount, mostInRing, readParts, Frame, headBytes, shortest, longest}
+use Rattle.frame_bytes.specs.Frame.{readRing, readPart, wrongRingCount, mostInRing, readParts, Frame, headBytes, longest}
 use Rattle.frame_bytes.specs.Frame.{mostFlags, kindOf, flagsByte, partCountOf, headOf, wrongSize, wrongKind, wrongPartCount}
 use Rattle.frame_bytes.specs.Frame.{readFrame}
 use Rattle.frame_bytes.specs.Contracts.{checkOf, walked}
@@ -148,4 +148,4 @@ check-parts l size kind flags parts = rw (size, kind, flags, parts) (check-with 
 
 -- a frame of a right size has a head
 pub head-fits : (size : ℕ) → wrongSize size ≡ false → headBytes ≤ size
-head-fits size e = ltb-false size shortest (neither (ltb size shortest) (ltb longest size) e .0)
+head-fits size e = ltb-false size headBytes (neither (ltb size headBytes) (ltb longest size) e .0)

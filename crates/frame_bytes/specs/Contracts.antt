@@ -59,8 +59,8 @@ measuredRoom size f (read a rest) = record { room = f a; next = size - length re
 
 -- the output that a frame asks for
 abbrev pub frameRoom : ℕ → Reading Frame → ℕ
-frameRoom coordinate (refused r) = 0
-frameRoom coordinate (read f rest) = outputRoom coordinate (f .parts)
+frameRoom size (refused r) = 0
+frameRoom size (read f rest) = outputRoom size (f .parts)
 
 -- ---- what is measured of a frame as it stands
 

@@ -13,13 +13,14 @@ use Rattle.tile.specs.Ring.{close}
 use Rattle.rings.specs.LentRings.{mostRings}
 use Rattle.frame_bytes.specs.declared.head.Head.{Head}
 use Rattle.frame_bytes.specs.declared.reader.FrameRefusal.{FrameRefusal}
-use Rattle.frame_bytes.specs.declared.reader.FrameRefusal.the-variants.{Size, Kind, Flags, PartCount, Truncated, RingCount}
+use Rattle.frame_bytes.specs.declared.reader.FrameRefusal.the-variants.{Size, Kind, FlagBits, PartCount, Truncated, RingCount}
 use Rattle.frame_bytes.specs.declared.reader.FrameRefusal.the-variants.{CoordinateCount, Trailing, Output}
 
 -- ---- limits and numbers
 
-abbrev pub shortest : ℕ
-shortest = 44
+-- the bytes of a head, which a frame has at least
+abbrev pub headBytes : ℕ
+headBytes = 44
 
 abbrev pub longest : ℕ
 longest = 5120
@@ -39,15 +40,11 @@ mostParts = 256
 abbrev pub mostInRing : ℕ
 mostInRing = 4096
 
--- bytes of what stands before the parts
-abbrev pub headBytes : ℕ
-headBytes = 44
-
 -- the paper's number of each refusal
 abbrev pub frameRefusalNumber : FrameRefusal → ℕ
 frameRefusalNumber Size = 11
 frameRefusalNumber Kind = 12
-frameRefusalNumber Flags = 13
+frameRefusalNumber FlagBits = 13
 frameRefusalNumber PartCount = 14
 frameRefusalNumber Truncated = 15
 frameRefusalNumber RingCount = 16
@@ -67,7 +64,7 @@ refusedIf true r x = refused r
 refusedIf false r x = x
 
 -- what comes next is read from the bytes that follow
-abbrev pub andThen : {A B : Type 0} → Reading A → (A → List ℕ → Reading B) → Reading B
+abbrev pub andThen : {A C : Type 0} → Reading A → (A → List ℕ → Reading C) → Reading C
 andThen (refused r) next = refused r
 andThen (read a rest) next = next a rest
 
@@ -148,7 +145,7 @@ headOf l = record {
 
 -- "11 when a frame is under 44 or over 5,120 bytes"
 abbrev pub wrongSize : ℕ → Bool
-wrongSize n = ltb n shortest || ltb longest n
+wrongSize n = ltb n headBytes || ltb longest n
 
 -- "12 when the kind is not 3 or 6"
 abbrev pub wrongKind : ℕ → Bool
@@ -163,6 +160,6 @@ unfoldable pub readFrame : List ℕ → Reading Frame
 readFrame l =
     refusedIf (wrongSize (length l)) Size
     (refusedIf (wrongKind (kindOf l)) Kind
-    (refusedIf (ltb mostFlags (flagsByte l)) Flags
+    (refusedIf (ltb mostFlags (flagsByte l)) FlagBits
     (refusedIf (wrongPartCount (kindOf l) (partCountOf l)) PartCount
     (andThen (readParts (partCountOf l) (drop headBytes l)) (λ parts. read (record { head = headOf l; parts = parts }))))))

@@ -15,17 +15,14 @@ leastRoom = 5
 abbrev pub coordinateBytes : ℕ
 coordinateBytes = 16
 
--- "for each part, 6 + 2 × rings + 16 × its sum of B": 16 is the bytes of a coordinate
+-- "for each part, 6 + 2 × rings + 16 × its sum of B": 16 is the bytes of a coordinate in an answer, a parameter since answers may come to
+-- say more of one
 unfoldable pub partRoom : ℕ → List (List Coord) → ℕ
-partRoom coordinate rings = 6 + 2 * length rings + coordinate * total ringRoom rings
+partRoom size rings = 6 + 2 * length rings + size * total ringRoom rings
 
 -- "for a frame, under 5 bytes plus" that for each part
 unfoldable pub outputRoom : ℕ → List (List (List Coord)) → ℕ
-outputRoom coordinate parts = leastRoom + total (partRoom coordinate) parts
-
--- the most that this is for a frame that is accepted (proofs/MostRoom.antt: `frame-most`): with so much output no frame is refused by 22
-abbrev pub mostRoom : ℕ
-mostRoom = 50077
+outputRoom size parts = leastRoom + total (partRoom size) parts
 
 -- "A frame call does 11 to 18 and 22": the frame, where an output of `out` bytes has the room
 unfoldable pub readCall : List ℕ → ℕ → Reading Frame

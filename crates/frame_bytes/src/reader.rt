@@ -11,9 +11,6 @@ use super::ring::COUNT;
 use super::ring::count_at;
 use rings::lent::MOST_RINGS;
 
-// A frame is at least its head.
-const SHORTEST: usize = HEAD;
-
 pub const LONGEST: usize = 5120;
 
 pub const POLYGON: u8 = 3;
@@ -30,7 +27,7 @@ const MOST_IN_RING: usize = 4096;
 pub enum FrameRefusal {
     Size,
     Kind,
-    Flags,
+    FlagBits,
     PartCount,
     Truncated,
     RingCount,
@@ -52,7 +49,7 @@ pub fn refusal_number(refusal: FrameRefusal) -> u8
     match refusal {
         FrameRefusal::Size => 11,
         FrameRefusal::Kind => 12,
-        FrameRefusal::Flags => 13,
+        FrameRefusal::FlagBits => 13,
         FrameRefusal::PartCount => 14,
         FrameRefusal::Truncated => 15,
         FrameRefusal::RingCount => 16,
@@ -71,7 +68,7 @@ enum FrameWalk {
 fn is_wrong_size(size: usize) -> bool
     ensures { λ r. ⌜ r ≡ Frames.wrongSize size ⌝ }
 {
-    size < SHORTEST || size > LONGEST
+    size < HEAD || size > LONGEST
 }
 
 fn is_wrong_kind(kind: u8) -> bool
@@ -175,7 +172,7 @@ fn pass_parts(frame: &[u8], start: usize, parts: usize) -> FrameWalk
 
 // The refusals of the parts and of what follows them.
 fn check_parts(frame: &[u8], parts: usize) -> FrameCheck
-    requires { ⌜ Frames.shortest ≤ length (now frame) ⌝ }
+    requires { ⌜ Frames.headBytes ≤ length (now frame) ⌝ }
     ensures { λ r. ⌜ r ≡ Contracts.checkOf (Frames.readParts parts (drop Frames.headBytes (now (frame .entry)))) ⌝ }
 {
     match pass_parts(frame, HEAD, parts) {
@@ -201,7 +198,7 @@ pub fn check_frame(frame: &[u8]) -> FrameCheck
         return FrameCheck::Fails(FrameRefusal::Kind);
     }
     if frame[1] > MOST_FLAGS {
-        return FrameCheck::Fails(FrameRefusal::Flags);
+        return FrameCheck::Fails(FrameRefusal::FlagBits);
     }
     let parts = count_at(frame, PART_COUNT);
     if is_wrong_part_count(kind, parts) {

@@ -12,7 +12,7 @@ use super::ring::COUNT;
 use super::ring::closed_count;
 use super::ring::coord_at;
 use super::ring::count_at;
-use box_pairs::cross::is_short;
+use box_pairs::cross::is_degenerate;
 
 // Whether two neighbours of the ring of n coordinates at `at`, closed to `count`, are near each other, the last segment excepted. Each
 // coordinate is read once.
@@ -24,7 +24,7 @@ fn has_repeated(frame: &[u8], at: usize, n: usize, count: usize) -> bool
     let mut k = 0usize;
     while k + 2 < count {
         let q = coord_at(frame, at + COORD * (k + 1));
-        if is_short(p, q) {
+        if is_degenerate(p, q) {
             return true;
         }
         p = q;

@@ -5,13 +5,13 @@ use mathlib.Core.List.{List, [], _∷_, _++_}
 use Prim.Native.Nat.{ℕ, _*_, _^_}
 use lib.Ieee.{nan, ofInt, ofBits, toBits, round, isNan, lt, le, eq, add, sub, mul, div}
 use Rattle.binary64.specs.Bytes.{Little, doubleBytes, fromLow, toLow}
-use Rattle.binary64.specs.Compare.{minimum, maximum, magnitude, tolerance, near, limit, huge}
+use Rattle.binary64.specs.Compare.{minimum, maximum, magnitude, tolerance, near, overlayLimit, huge}
 use Rattle.binary64.specs.Interpolation.{interpolate}
 use Rattle.tile.specs.declared.Coord.{Coord}
 use Rattle.tile.specs.Bounds.{newOf}
 use Rattle.tile.specs.Ring.{same, last, closed, close}
 use Rattle.tile.proofs.WholeNumbers.{num, at}
-use Rattle.box_pairs.specs.Cross.{crossProductSign, aboveBelow, splits, intersectProperly, short, apartOn, apart, cross}
+use Rattle.box_pairs.specs.Cross.{crossProductSign, aboveBelow, splits, intersectProperly, degenerate, apartOn, apart, cross}
 use Rattle.box_pairs.specs.Pairs.{anyBelow, anyPair, edgesCross, selfIntersecting}
 use Rattle.box_pairs.specs.Issue.{repeated, issueOf, hasIssue}
 use Rattle.sutherland_hodgman.specs.CuttingLines.{inside, crossing}
@@ -162,7 +162,8 @@ unfolding readFrame readParts readPart readRing readCoords readCount readMany co
     withParts listParts routePart answerBytes partBytes ringBytes each route routeRect routeExterior routeCut overlayOrDropped cutRings
     cutHoles cutHole bridgeUnlessSkipped firstBridge bridgeOf runsAlong withRings withRing withCoord intersectsBounds reaches
     isFullyInside liesBetween anyHugeRing anyHuge hugeCoord issueOf hasIssue repeated selfIntersecting anyPair anyBelow edgesCross cross
-    apart apartOn short intersectProperly splits aboveBelow crossProductSign clipRing finish passes pass around leaveOff steps inside
-    crossing interpolate same last closed close at nanX nanY num minimum maximum magnitude tolerance near limit huge ofInt ofBits toBits
+    apart apartOn degenerate intersectProperly splits aboveBelow crossProductSign clipRing finish passes pass around leaveOff steps inside
+    crossing interpolate same last closed close at nanX nanY num minimum maximum magnitude tolerance near overlayLimit huge
+    ofInt ofBits toBits
     round isNan lt le eq add sub mul div
 each-becomes = refl

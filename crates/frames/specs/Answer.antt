@@ -22,7 +22,8 @@ pub record Part : Type 0 where
   pub index : ℕ
   pub outcome : Polygon.Routed
 
--- "(0 nothing, 1 whole dropped, 2 whole unchanged, 3 listed), guard count", listed parts
+-- "(0 nothing, 1 whole dropped, 2 whole unchanged, 3 listed), guard count", listed parts: a number here is the guard count, which is 1
+-- where the whole is dropped and 0 where it is unchanged
 pub data Answer : Type 0 where
   Nothing : ℕ → Answer
   Dropped : Answer
@@ -40,8 +41,8 @@ ofPolygon (Polygon.overlay reason) = Listed 0 (record { index = 0; outcome = Pol
 
 -- ---- a multipolygon
 
--- "Otherwise part by part: no coordinate or apart, left out; inside, unchanged with no issue check; else as a polygon": of a part's
--- rectangle, and of what becomes of it as a polygon
+-- "Otherwise part by part: no coordinate or apart, left out; inside, unchanged with no issue check; else as a polygon": rect
+-- is the part's rectangle, and `as-polygon` what becomes of it as a polygon
 abbrev pub ofPart : Rect → TileBounds → Polygon.Routed → Polygon.Routed
 ofPart rect b as-polygon = cond (intersectsBounds rect b) (cond (isFullyInside rect b) Polygon.unchanged as-polygon) Polygon.nothing
 
@@ -63,7 +64,7 @@ listedBefore i (Polygon.overlay reason) parts = record { index = i; outcome = Po
 
 -- "Guard counts add up."
 abbrev pub addPart : ℕ → Polygon.Routed → Listing → Listing
-addPart i to l = record { guard = told (answerOf to) .guards + l .guard; parts = listedBefore i to (l .parts) }
+addPart i outcome l = record { guard = told (answerOf outcome) .guards + l .guard; parts = listedBefore i outcome (l .parts) }
 
 -- the parts from the i-th on
 unfoldable pub listParts : Flags → TileBounds → ℕ → List (List (List Coord)) → Listing

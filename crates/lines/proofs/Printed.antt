@@ -7,7 +7,7 @@ use native.Mathlib.Omega.{arith}
 use lib.Dec.{ltb}
 use lib.ListN.{length, take, replicate, length-append, length-replicate}
 use borrow.Author.Tests.{lt-ltb, le-ltb, ltb-false}
-use Rattle.frame_bytes.specs.Frame.{longest, shortest, readFrame, frameRefusalNumber}
+use Rattle.frame_bytes.specs.Frame.{longest, headBytes, readFrame, frameRefusalNumber}
 use Rattle.frame_bytes.specs.declared.reader.FrameRefusal.the-variants.{Size}
 use Rattle.frame_bytes.specs.Encoding.{each}
 use Rattle.lines.specs.declared.line.Line.{Line}
@@ -25,8 +25,8 @@ use Rattle.lines.proofs.Running.{state-append}
 too-long : (l : List ℕ) → longest < length l → refusalBytes (frameRefusalNumber Size) ≡ frameAnswer l
 unfolding frameAnswer readFrame
 too-long l h =
-    let n : shortest ≤ length l = omega arith in
-    rw (le-ltb (length l) shortest n, lt-ltb longest (length l) h)
+    let n : headBytes ≤ length l = omega arith in
+    rw (le-ltb (length l) headBytes n, lt-ltb longest (length l) h)
 
 -- ---- one line
 

@@ -19,12 +19,12 @@ use Rattle.lines.specs.Lines.{newline, hexDigit, lowerHex, printed}
 abbrev pub noDigit : ℕ
 noDigit = 45
 
--- pairs of digits, one more than the longest frame has bytes: which digits is all one, as every such line is refused
+-- pairs of digits, one more than the longest frame has bytes; which digits they are does not matter, as every such line is refused
 unfoldable pub longPairs : List ℕ
 longPairs = lowerHex (replicate (longest + 1) 0)
 
--- They may be others than were read: whatever follows, a line that begins with the ones is answered as one that begins with the others.
--- Its bytes stand at the front of `kept`.
+-- What is known of a line, as characters; its bytes stand at the front of `kept`. They may be others than were read: whatever follows, a
+-- line that begins with these is answered as one that begins with those.
 abbrev pub charsOf : Line → List ℕ → List ℕ
 charsOf KnownLines.NotDigits kept = noDigit ∷ []
 charsOf (KnownLines.Whole n) kept = lowerHex (take n kept)
@@ -55,7 +55,8 @@ lineLength (b ∷ rest) = cond (eqb b newline) 1 (suc (lineLength rest))
 
 -- ---- the lent slices
 
--- bytes for an answer: that to an accepted frame has at most 50,077 (`mostRoom` of `frame_bytes`), and a refusal five
+-- bytes for an answer: that to an accepted frame has at most 50,077 (`frame-most` in `frame_bytes/proofs/MostRoom.antt`), and a refusal
+-- five
 abbrev pub answerRoom : ℕ
 answerRoom = 10 * longest
 

@@ -38,7 +38,7 @@ pub record Negated (r : FrameRefusal) : Type 0 where
 pub negated : (r : FrameRefusal) → Negated r
 negated Frames.Size = record { fits = sfits-of (lit< tt); value = refl }
 negated Frames.Kind = record { fits = sfits-of (lit< tt); value = refl }
-negated Frames.Flags = record { fits = sfits-of (lit< tt); value = refl }
+negated Frames.FlagBits = record { fits = sfits-of (lit< tt); value = refl }
 negated Frames.PartCount = record { fits = sfits-of (lit< tt); value = refl }
 negated Frames.Truncated = record { fits = sfits-of (lit< tt); value = refl }
 negated Frames.RingCount = record { fits = sfits-of (lit< tt); value = refl }

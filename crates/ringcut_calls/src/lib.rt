@@ -87,7 +87,7 @@ fn is_set(flag: u8) -> bool
 }
 
 // The slice call: the answer's code, which tells the guard count too, or minus the refusal. A NaN stands exactly where the definition has
-// one, and its bits are free.
+// one, and its bits are free, also in a slice that is left as it was.
 #[no_mangle]
 pub extern "C" fn ringcut_polygon(
     assume_simple: u8,

@@ -6,7 +6,7 @@ use Rattle.tile.specs.declared.Coord.{Coord}
 use Rattle.tile.specs.declared.TileBounds.{TileBounds}
 use Rattle.tile.specs.declared.Edge.{Edge}
 use Rattle.tile.specs.declared.Edge.the-variants.{Left, Right, Bottom, Top}
-use Rattle.box_pairs.specs.Cross.{short}
+use Rattle.box_pairs.specs.Cross.{degenerate}
 use Rattle.sutherland_hodgman.specs.CuttingLines.{fixed, bound}
 use Rattle.rings.specs.declared.bridge.Bridge.{Bridge}
 use Rattle.rings.specs.declared.bridge.Bridge.the-variants.{None, Along}
@@ -18,7 +18,7 @@ runsAlong l b p q = near (fixed l p) (bound l b) && near (fixed l q) (bound l b)
 -- "an edge of the cut exterior, not shorter than 1e-10 in both axes, .. Left before Right before Bottom before Top"
 unfoldable pub bridgeOf : TileBounds → Coord → Coord → Bridge
 bridgeOf b p q =
-    cond (short p q) None
+    cond (degenerate p q) None
     (cond (runsAlong Left b p q) (Along Left)
     (cond (runsAlong Right b p q) (Along Right)
     (cond (runsAlong Bottom b p q) (Along Bottom)

@@ -7,7 +7,7 @@ ghost use Rattle.binary64.specs.Compare.{near};
 ghost use Rattle.tile.specs.Ring.{coords};
 ghost use Rattle.rings.specs.Bridge as Bridges;
 use binary64::compare::is_near;
-use box_pairs::cross::is_short;
+use box_pairs::cross::is_degenerate;
 use tile::Coord;
 use tile::Edge;
 use tile::TileBounds;
@@ -41,7 +41,7 @@ fn runs_along(p: Coord, q: Coord, edge: Edge, bounds: TileBounds) -> bool
 fn bridge_of(p: Coord, q: Coord, bounds: TileBounds) -> Bridge
     ensures { λ r. ⌜ r ≡ Bridges.bridgeOf bounds p q ⌝ }
 {
-    if is_short(p, q) {
+    if is_degenerate(p, q) {
         return Bridge::None;
     }
     if runs_along(p, q, Edge::Left, bounds) {

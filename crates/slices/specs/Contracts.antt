@@ -49,8 +49,7 @@ pub record Put (n : ℕ) (numbers : List Float) (at : Placed) (out : List Float)
   pub rings-after : r .rings ≡ at .rings + length (lengthUnlessNone n)
 
 -- Lent rings can be cut in two slices of the lengths a and b, and have room behind what is written. No first coordinate holds a NaN, so
--- that
--- closing closes every ring.
+-- that closing closes every ring.
 pub record LentRingsRoom (lengths : List ℕ) (coords : List Float) (a b out outLengths : ℕ) (at : Placed) : Type 0 where
   pub measurable : Measurable lengths coords
   pub closes : allClosed (closedRings lengths coords) ≡ true

@@ -25,7 +25,7 @@ use Rattle.slices.specs.declared.call.SliceAnswer.the-variants.{Refused,
 
 -- ---- refusals
 
--- not "no ring, over 64 rings, or lengths (in coordinates) whose sum times 2 is not the count of numbers lent"
+-- where this is false, 19: "no ring, over 64 rings, or lengths (in coordinates) whose sum times 2 is not the count of numbers lent"
 unfoldable pub lengthsFit : ℕ → List ℕ → Bool
 lengthsFit numbers lengths = ltb 0 (length lengths) && (leb (length lengths) mostRings && eqb (2 * sum lengths) numbers)
 
@@ -74,8 +74,8 @@ routeLent flags bounds buffer coords lengths = route flags (buffered bounds buff
 
 -- the answer has its guard count beside it: "a guard count in the answer"
 abbrev pub sliceAnswered : Check → Routed → SliceAnswer
-sliceAnswered (Fails refusal) to = Refused refusal
-sliceAnswered Passes to = Answered (answerOf to) (told (answerOf to) .guards)
+sliceAnswered (Fails refusal) outcome = Refused refusal
+sliceAnswered Passes outcome = Answered (answerOf outcome) (told (answerOf outcome) .guards)
 
 unfoldable pub sliceCallAnswer : Flags → TileBounds → Float → List Float → List ℕ → PolygonSlices → SliceAnswer
 sliceCallAnswer flags bounds buffer coords lengths lent =
@@ -102,10 +102,10 @@ lengthsOf (r ∷ rs) = length r ∷ lengthsOf rs
 -- "A refusal changes no lent buffer. A success fills scratch and order with zeros and leaves the output and the second length slice past
 -- the answer unchanged."
 abbrev pub polygonSlicesAfter : Check → Routed → PolygonSlices → PolygonSlices
-polygonSlicesAfter (Fails refusal) to lent = lent
-polygonSlicesAfter Passes to lent =
+polygonSlicesAfter (Fails refusal) outcome lent = lent
+polygonSlicesAfter Passes outcome lent =
     polygonSlices (zeros (length (lent .first))) (zeros (length (lent .second))) (replicate (length (lent .order)) 0)
-    (over (numbersOf (writtenRings to)) (lent .output)) (over (lengthsOf (writtenRings to)) (lent .outLengths))
+    (over (numbersOf (writtenRings outcome)) (lent .output)) (over (lengthsOf (writtenRings outcome)) (lent .outLengths))
 
 unfoldable pub sliceCallSlices : Flags → TileBounds → Float → List Float → List ℕ → PolygonSlices → PolygonSlices
 sliceCallSlices flags bounds buffer coords lengths lent =
@@ -122,7 +122,7 @@ abbrev pub sliceCallCode : SliceAnswer → ℤ
 sliceCallCode (Refused refusal) = negℤ (pos (refusalNumber refusal))
 sliceCallCode (Answered answer guards) = pos (answerCode answer)
 
--- the guard count of an answer; a refusal guards nothing
+-- the guard count of an answer; 0 for a refusal
 abbrev pub sliceCallGuards : SliceAnswer → ℕ
 sliceCallGuards (Refused refusal) = 0
 sliceCallGuards (Answered answer guards) = guards

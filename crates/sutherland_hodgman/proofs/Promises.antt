@@ -1,6 +1,5 @@
 -- Demand 3: with south at most north every latitude of a cut ring lies from south to north, whatever the floats; and where all numbers are
--- at most 256 in magnitude,
--- every longitude is finite and at most 2 ^ 1032 units (1 / 2 ^ 42) below west or above east. Assumes nothing.
+-- at most 256 in magnitude, every longitude is finite and at most 2 ^ 1032 units (1 / 2 ^ 42) below west or above east. Assumes nothing.
 use mathlib.Core.Path.{_≡_, refl}
 use mathlib.Core.Logic.{_⊎_, inl, inr}
 use mathlib.Core.Bool.{Bool, true, false, cond}

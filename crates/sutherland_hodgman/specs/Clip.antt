@@ -14,10 +14,10 @@ use Rattle.sutherland_hodgman.specs.CuttingLines.{inside, crossing}
 
 -- "In to in: the end. In to out: the crossing. Out to in: the crossing, then the end. Out to out: none."
 abbrev pub step : Bool → Bool → Coord → Coord → List Coord
-step true true cross end = end ∷ []
-step true false cross end = cross ∷ []
-step false true cross end = cross ∷ end ∷ []
-step false false cross end = []
+step true true crossed end = end ∷ []
+step true false crossed end = crossed ∷ []
+step false true crossed end = crossed ∷ end ∷ []
+step false false crossed end = []
 
 -- the steps from the vertex s, whose verdict is v, along the vertices that follow
 unfoldable pub steps : Edge → TileBounds → Bool → Coord → List Coord → List Coord

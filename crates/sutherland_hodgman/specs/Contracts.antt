@@ -33,8 +33,7 @@ unfoldable pub stepsLeft : Edge → TileBounds → List Coord → Bool → ℕ �
 stepsLeft l b r v i = steps l b v (vertexBefore r i) (drop i r)
 
 -- A pass that is before the i-th vertex, with the verdict v on the vertex before it and k vertices written to d, ends with the same count
--- and
--- the same slice as one that is before the i′-th, with the verdict v′ and k′ vertices written to d′.
+-- and the same slice as one that is before the i′-th, with the verdict v′ and k′ vertices written to d′.
 pub record SameRest (l : Edge) (b : TileBounds) (r : List Coord) (v : Bool) (i k : ℕ) (d : List Float) (v′ : Bool) (i′ k′ : ℕ)
     (d′ : List Float) : Type 0 where
   pub count : k + length (stepsLeft l b r v i) ≡ k′ + length (stepsLeft l b r v′ i′)

@@ -1,4 +1,5 @@
--- The four lines that a ring is cut at (document 01, "Cut rings"), the line as a parameter. Definitions only.
+-- The four lines that a ring is cut at (document 01, "Cut rings"), the line as a parameter. `Edge`, the source's name for such a line, is
+-- not an edge of a ring. Definitions only.
 use mathlib.Core.Bool.{Bool, true, false}
 use lib.Ieee.{Float, binary64}
 use Rattle.binary64.specs.Interpolation.{within, interpolate}

@@ -1,7 +1,6 @@
 -- Rings as lists of coordinates and as flat lists of x, y numbers; closing (document 01, the head: "The domain is .."). Definitions only.
 use mathlib.Core.Bool.{Bool, true, _&&_, cond}
 use mathlib.Core.List.{List, [], _∷_, _++_}
-use Prim.Native.Nat.{_+_}
 use lib.Ieee.{Float, eq}
 use Rattle.tile.specs.declared.Coord.{Coord}
 

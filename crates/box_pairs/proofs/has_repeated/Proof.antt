@@ -5,7 +5,7 @@ use native.Mathlib.Omega.{arith}
 use lib.ListN.{drop}
 use borrow.Author.Needs.{needs}
 use Rattle.tile.specs.Contracts.{coordAt}
-use Rattle.box_pairs.specs.Cross.{short}
+use Rattle.box_pairs.specs.Cross.{degenerate}
 use Rattle.box_pairs.specs.Contracts.{front}
 use Rattle.box_pairs.specs.Issue.{repeated}
 use Rattle.box_pairs.proofs.Issues.{repeated-next, repeated-end}
@@ -19,11 +19,11 @@ abbrev μ-loop : tie.MeasureT-loop
 μ-loop ring n k₀ k = n - k
 
 -- the verdict on the neighbours k and k + 1
-verdict : (c : tie.After-is-short Inv-loop μ-loop)
-    → c .is-short .result ≡ short (coordAt (c .before .before .before .before .before .before .args .ring .now)
+verdict : (c : tie.After-is-degenerate Inv-loop μ-loop)
+    → c .is-degenerate .result ≡ degenerate (coordAt (c .before .before .before .before .before .before .args .ring .now)
     (c .before .before .before .before .loop .k))
     (coordAt (c .before .before .before .before .before .before .args .ring .now) (c .before .before .before .before .loop .k + 1))
-verdict c = c .is-short .ensures ∙ rw (c .before .before .coord-at .ensures, c .before .coord-at2 .ensures)
+verdict c = c .is-degenerate .ensures ∙ rw (c .before .before .coord-at .ensures, c .before .coord-at2 .ensures)
 
 loop-holds : tie.Need-loop-holds Inv-loop μ-loop
 loop-holds c = (omega arith, refl)
@@ -40,8 +40,8 @@ add-coord-at c = search needs
 coord-at-requires-2 : tie.Need-coord-at-requires-2 Inv-loop μ-loop
 coord-at-requires-2 c κs = search needs
 
-is-short-requires : tie.Need-is-short-requires Inv-loop μ-loop
-is-short-requires c κs = search needs
+is-degenerate-requires : tie.Need-is-degenerate-requires Inv-loop μ-loop
+is-degenerate-requires c κs = search needs
 
 returns : tie.Need-returns Inv-loop μ-loop
 returns c =
@@ -82,7 +82,7 @@ has-repeated-spec =
     coord-at-requires
     add-coord-at
     coord-at-requires-2
-    is-short-requires
+    is-degenerate-requires
     returns
     add-k
     loop-less

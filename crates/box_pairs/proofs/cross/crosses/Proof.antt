@@ -26,8 +26,8 @@ returns-2 c =
 edges-intersect-properly-requires : tie.Need-edges-intersect-properly-requires
 edges-intersect-properly-requires c κs = search needs
 
-is-short-requires : tie.Need-is-short-requires
-is-short-requires c κs = search needs
+is-degenerate-requires : tie.Need-is-degenerate-requires
+is-degenerate-requires c κs = search needs
 
 returns-3 : tie.Need-returns-3
 returns-3 c =
@@ -38,10 +38,10 @@ returns-3 c =
     ∙ c .before .before .before .before .if2 .left)
     (sym (c .before .before .before .before .before .before .before .is-apart .ensures)
     ∙ c .before .before .before .before .before .before .if1 .left)
-    ∙ rw (← c .before .is-short .ensures, c .if4 .taken))
+    ∙ rw (← c .before .is-degenerate .ensures, c .if4 .taken))
 
-is-short-requires-2 : tie.Need-is-short-requires-2
-is-short-requires-2 c κs = search needs
+is-degenerate-requires-2 : tie.Need-is-degenerate-requires-2
+is-degenerate-requires-2 c κs = search needs
 
 returns-4 : tie.Need-returns-4
 returns-4 c =
@@ -52,7 +52,7 @@ returns-4 c =
     (sym (c .before .before .before .before .before .before .is-apart2 .ensures) ∙ c .before .before .before .before .before .if2 .left)
     (sym (c .before .before .before .before .before .before .before .before .is-apart .ensures)
     ∙ c .before .before .before .before .before .before .before .if1 .left)
-    ∙ rw (← c .before .before .is-short .ensures, c .before .if4 .left, ← c .is-short2 .ensures))
+    ∙ rw (← c .before .before .is-degenerate .ensures, c .before .if4 .left, ← c .is-degenerate2 .ensures))
 
 returns-5 : tie.Need-returns-5
 returns-5 c =
@@ -68,8 +68,8 @@ crosses-spec =
     is-apart-requires-2
     returns-2
     edges-intersect-properly-requires
-    is-short-requires
+    is-degenerate-requires
     returns-3
-    is-short-requires-2
+    is-degenerate-requires-2
     returns-4
     returns-5)

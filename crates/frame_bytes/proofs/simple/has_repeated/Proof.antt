@@ -7,7 +7,7 @@ use denote.Ref.{now}
 use lib.ListN.{drop}
 use borrow.Author.Needs.{needs}
 use Rattle.tile.specs.Ring.{close}
-use Rattle.box_pairs.specs.Cross.{short}
+use Rattle.box_pairs.specs.Cross.{degenerate}
 use Rattle.box_pairs.specs.Issue.{repeated}
 use Rattle.frame_bytes.specs.Frame.{coordOf, coordsOf}
 use Rattle.frame_bytes.proofs.Coordinates.{close-grows}
@@ -54,16 +54,16 @@ add-coord-at-2 c = search needs
 coord-at-requires-2 : tie.Need-coord-at-requires-2 Inv-loop μ-loop
 coord-at-requires-2 c κs = search needs
 
-is-short-requires : tie.Need-is-short-requires Inv-loop μ-loop
-is-short-requires c κs = search needs
+is-degenerate-requires : tie.Need-is-degenerate-requires Inv-loop μ-loop
+is-degenerate-requires c κs = search needs
 
 returns : tie.Need-returns Inv-loop μ-loop
 returns c =
     let a = c .before .before .before .before .before .before .before .args in
     let l = c .before .before .before .before .loop in
-    let e : c .before .is-short .result ≡ short (coordOf (drop (a .at + 16 * l .k) (now (a .frame))))
-    (coordOf (drop (a .at + 16 * (l .k + 1)) (now (a .frame)))) = c .before .is-short .ensures
-    ∙ ap₂ short (l .inv .2) (c .before .before .coord-at2 .ensures) in
+    let e : c .before .is-degenerate .result ≡ degenerate (coordOf (drop (a .at + 16 * l .k) (now (a .frame))))
+    (coordOf (drop (a .at + 16 * (l .k + 1)) (now (a .frame)))) = c .before .is-degenerate .ensures
+    ∙ ap₂ degenerate (l .inv .2) (c .before .before .coord-at2 .ensures) in
     sym (l .inv .3 ∙ repeated-next (now (a .frame)) (a .at) (a .n) (l .k)
     (rw (← c .before .before .before .before .before .before .before .pre .1) (c .before .before .before .loop-test .taken))
     ∙ rw (← e, c .if1 .taken))
@@ -78,9 +78,9 @@ loop-again : tie.Need-loop-again Inv-loop μ-loop
 loop-again c =
     let a = c .before .before .before .before .before .before .before .args in
     let l = c .before .before .before .before .loop in
-    let e : c .before .is-short .result ≡ short (coordOf (drop (a .at + 16 * l .k) (now (a .frame))))
-    (coordOf (drop (a .at + 16 * (l .k + 1)) (now (a .frame)))) = c .before .is-short .ensures
-    ∙ ap₂ short (l .inv .2) (c .before .before .coord-at2 .ensures) in (
+    let e : c .before .is-degenerate .result ≡ degenerate (coordOf (drop (a .at + 16 * l .k) (now (a .frame))))
+    (coordOf (drop (a .at + 16 * (l .k + 1)) (now (a .frame)))) = c .before .is-degenerate .ensures
+    ∙ ap₂ degenerate (l .inv .2) (c .before .before .coord-at2 .ensures) in (
       omega (arith, c .before .before .before .loop-test .taken),
       l .inv .1,
       c .before .before .coord-at2 .ensures,
@@ -109,7 +109,7 @@ has-repeated-spec =
     mul-coord-at
     add-coord-at-2
     coord-at-requires-2
-    is-short-requires
+    is-degenerate-requires
     returns
     add-k
     loop-less

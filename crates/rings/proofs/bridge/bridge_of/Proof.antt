@@ -4,12 +4,12 @@ use Rattle.rings.specs.Bridge.{bridgeOf}
 use Rattle.rings.proofs.bridge.bridge_of.Statement.{statement}
 use Rattle.rings.proofs.bridge.bridge_of.Tie as tie
 
-is-short-requires : tie.Need-is-short-requires
-is-short-requires c κs = search needs
+is-degenerate-requires : tie.Need-is-degenerate-requires
+is-degenerate-requires c κs = search needs
 
 returns : tie.Need-returns
 unfolding bridgeOf
-returns c = rw (← c .before .is-short .ensures, c .if1 .taken)
+returns c = rw (← c .before .is-degenerate .ensures, c .if1 .taken)
 
 runs-along-requires : tie.Need-runs-along-requires
 runs-along-requires c κs = search needs
@@ -17,7 +17,7 @@ runs-along-requires c κs = search needs
 returns-2 : tie.Need-returns-2
 unfolding bridgeOf
 returns-2 c =
-    rw (← c .before .before .before .is-short .ensures, c .before .before .if1 .left, ← c .before .runs-along .ensures, c .if2 .taken)
+    rw (← c .before .before .before .is-degenerate .ensures, c .before .before .if1 .left, ← c .before .runs-along .ensures, c .if2 .taken)
 
 runs-along-requires-2 : tie.Need-runs-along-requires-2
 runs-along-requires-2 c κs = search needs
@@ -26,7 +26,7 @@ returns-3 : tie.Need-returns-3
 unfolding bridgeOf
 returns-3 c =
     rw (
-      ← c .before .before .before .before .before .is-short .ensures,
+      ← c .before .before .before .before .before .is-degenerate .ensures,
       c .before .before .before .before .if1 .left,
       ←
           c .before .before .before .runs-along .ensures,
@@ -41,7 +41,7 @@ runs-along-requires-3 c κs = search needs
 returns-4 : tie.Need-returns-4
 unfolding bridgeOf
 returns-4 c = rw (
-  ← c .before .before .before .before .before .before .before .is-short .ensures,
+  ← c .before .before .before .before .before .before .before .is-degenerate .ensures,
   c .before .before .before .before .before .before .if1 .left,
   ← c .before .before .before .before .before .runs-along .ensures,
   c .before .before .before .before .if2 .left,
@@ -58,7 +58,7 @@ runs-along-requires-4 c κs = search needs
 returns-5 : tie.Need-returns-5
 unfolding bridgeOf
 returns-5 c = rw (
-  ← c .before .before .before .before .before .before .before .before .before .is-short .ensures,
+  ← c .before .before .before .before .before .before .before .before .before .is-degenerate .ensures,
   c .before .before .before .before .before .before .before .before .if1 .left,
   ←
       c .before .before .before .before .before .before .before .runs-along .ensures,
@@ -75,7 +75,7 @@ returns-5 c = rw (
 returns-6 : tie.Need-returns-6
 unfolding bridgeOf
 returns-6 c = rw (
-  ← c .before .before .before .before .before .before .before .before .before .is-short .ensures,
+  ← c .before .before .before .before .before .before .before .before .before .is-degenerate .ensures,
   c .before .before .before .before .before .before .before .before .if1 .left,
   ←
       c .before .before .before .before .before .before .before .runs-along .ensures,
@@ -93,7 +93,7 @@ pub bridge-of-spec : {M : Type 1} → statement M
 bridge-of-spec =
     tie.close
     (tie.spec
-    is-short-requires
+    is-degenerate-requires
     returns
     runs-along-requires
     returns-2
