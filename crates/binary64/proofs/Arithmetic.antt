@@ -16,8 +16,8 @@ use lib.Ieee.Positive.{num, den, first-pos}
 use lib.Ieee.Scale.{grid, overflow, round-same}
 use Rattle.binary64.specs.Scaled.{mag, aboveZero, belowZero}
 use Rattle.binary64.proofs.Order.{above, under}
-use Rattle.binary64.proofs.Value.{Number, Parts, Held, distance, held-zero, mag-whole}
-use Rattle.binary64.proofs.Rounding.{rnd, rnd-zero, round-parts, round-units, held-pow, grid-le-held}
+use Rattle.binary64.proofs.Value.{Number, Parts, InFormat, distance, in-format-zero, mag-whole}
+use Rattle.binary64.proofs.Rounding.{rnd, rnd-zero, round-parts, round-units, in-format-power, grid-le-in-format}
 
 -- a number over a denominator that is its own times d
 over : {f : Format} {x : Float} → Number f x → (d c : ℕ) → c ≡ den x * d → num x * d * 2 ^ low f ≡ mag f x * c
@@ -134,16 +134,16 @@ pub record AtMost (f : Format) (z : Float) (p n : ℕ) : Type 0 where
 weaken : {f : Format} {z : Float} {p n q m : ℕ} → AtMost f z p n → (p ≤ q) × (n ≤ m) → AtMost f z q m
 weaken h k = record { number = h .number; plus-le = le-trans (h .plus-le) (k .0); minus-le = le-trans (h .minus-le) (k .1) }
 
-held-above : {f : Format} {w : ℕ} (s : Bool) → Held f w → Held f (above s w)
-held-above {f} true h = held-zero f
-held-above false h = h
+in-format-above : {f : Format} {w : ℕ} (s : Bool) → InFormat f w → InFormat f (above s w)
+in-format-above {f} true h = in-format-zero f
+in-format-above false h = h
 
--- a fraction that is at most w units, w being held, rounds to at most w units
-round-at-most : {f : Format} {w : ℕ} (s : Bool) (X Y : ℕ) → 0 < Y → X * 2 ^ low f ≤ w * Y → Held f w
+-- a fraction that is at most w units, w being whole-in, rounds to at most w units
+round-at-most : {f : Format} {w : ℕ} (s : Bool) (X Y : ℕ) → 0 < Y → X * 2 ^ low f ≤ w * Y → InFormat f w
     → AtMost f (round f s X Y) (above s w) (under s w)
-round-at-most {f} {w} s X Y y h held =
-    let g : grid f X Y ≤ w = grid-le-held X Y y h held in
-    let r = round-parts f s X Y (lt-of-le-of-lt g (held .small)) in
+round-at-most {f} {w} s X Y y h whole-in =
+    let g : grid f X Y ≤ w = grid-le-in-format X Y y h whole-in in
+    let r = round-parts f s X Y (lt-of-le-of-lt g (whole-in .small)) in
     weaken (record { number = r .number; plus-le = le-of-eq (r .plus-is); minus-le = le-of-eq (r .minus-is) }) (side s (grid f X Y) g)
   where
     side : (s : Bool) (a : ℕ) → a ≤ w → (above s a ≤ above s w) × (under s a ≤ under s w)
@@ -182,7 +182,7 @@ not-zero n h = not-T (eqb n 0) (λ (t : T (eqb n 0)). let e : n ≡ 0 = eqb→eq
 ratio-of-sizes : (f : Format) (u : Bool) (X Y a b C : ℕ) → 0 < Y → X * 2 ^ low f ≡ a * C → Y * 2 ^ low f ≡ b * C → a ≤ above u b
     → Ratio f (round f u X Y)
 ratio-of-sizes f u X Y a b C y p q h =
-    weaken (round-at-most u X Y y (bound u h) (held-above u (held-pow f (low f) (omega arith)))) (side u)
+    weaken (round-at-most u X Y y (bound u h) (in-format-above u (in-format-power f (low f) (omega arith)))) (side u)
   where
     bound : (u : Bool) → a ≤ above u b → X * 2 ^ low f ≤ above u (2 ^ low f) * Y
     bound true h = let g : a * C ≤ 0 * C = mul-le-mul-right C h in omega arith
@@ -238,7 +238,7 @@ mul-shrinks {f} {t = fin s m e} {y = fin r n d} ht hy =
     (round-at-most (unlike s r) (m * up e * (n * up d)) (down e * down d) (mul-pos (down-pos e) (down-pos d))
     (product-le s (m * up e) (n * up d) (down e) (down d) (mag f (fin s m e)) b (2 ^ low f) (pow-pos (low f))
     (mag-whole (ht .number) .0) (mag-whole hy .0) (ht .plus-le) (ht .minus-le))
-    (held-above s (mag-whole hy .1)))
+    (in-format-above s (mag-whole hy .1)))
     (side s r b)
   where
     side : (s r : Bool) (b : ℕ) → (above (unlike s r) (above s b) ≤ above r b) × (under (unlike s r) (above s b) ≤ under r b)

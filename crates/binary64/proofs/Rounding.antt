@@ -17,7 +17,7 @@ use lib.Ieee.Order.{drop, kept, round-mono}
 use lib.Ieee.Scale.{grid, overflow, finite, round-under}
 use Rattle.binary64.proofs.Value.{Le}
 use Rattle.binary64.proofs.Order.{above, under, finite-between}
-use Rattle.binary64.proofs.Value.{Parts, Held, held-zero, parts-of-value, Le-of-le}
+use Rattle.binary64.proofs.Value.{Parts, InFormat, in-format-zero, parts-of-value, Le-of-le}
 
 pub rnd : Format → ℕ → ℕ
 rnd f n = grid f n (2 ^ low f)
@@ -42,9 +42,9 @@ finite-of-value (inf t) s a c h = absurd h
 finite-of-value (fin t m e) s a c h = tt
 
 -- ---- what the format holds stays
-rnd-held : {f : Format} {w : ℕ} → Held f w → rnd f w ≡ w
+rnd-in-format : {f : Format} {w : ℕ} → InFormat f w → rnd f w ≡ w
 unfolding rnd
-rnd-held {f} {w} h =
+rnd-in-format {f} {w} h =
     let l = 2 ^ low f in
     let x = round f false w l in
     let v : HasValue x false w l = round-exact f false w l (h .digits) (h .zeros) (pow-pos (low f)) (h .few) (rw (← h .is) (h .small))
@@ -53,10 +53,11 @@ rnd-held {f} {w} h =
     (round-fits f false w l) .plus-is
 
 pub rnd-zero : (f : Format) → rnd f 0 ≡ 0
-rnd-zero f = rnd-held (held-zero f)
+rnd-zero f = rnd-in-format (in-format-zero f)
 
-pub held-pow : (f : Format) (j : ℕ) → j < low f + suc (emax f) → Held f (2 ^ j)
-held-pow f j h = record { digits = 1; zeros = j; is = sym (one-mul (2 ^ j)); few = pow-lt (two-le-pos (prec f) (two f)); small = pow-lt h }
+pub in-format-power : (f : Format) (j : ℕ) → j < low f + suc (emax f) → InFormat f (2 ^ j)
+in-format-power f j h =
+    record { digits = 1; zeros = j; is = sym (one-mul (2 ^ j)); few = pow-lt (two-le-pos (prec f) (two f)); small = pow-lt h }
 
 -- ---- the order stays, as long as nothing overflows
 zero-finite : (f : Format) → T (finite (round f false 0 1))
@@ -85,20 +86,20 @@ unfolding rnd
 rnd-mono f a b h = let l = 2 ^ low f in grid-mono f a l b l (pow-pos (low f)) (pow-pos (low f)) (mul-le-mul-right l h)
 
 -- a fraction that is at most what the format holds rounds to at most that
-pub grid-le-held : {f : Format} {w : ℕ} (a c : ℕ) → 0 < c → a * 2 ^ low f ≤ w * c → Held f w → grid f a c ≤ w
+pub grid-le-in-format : {f : Format} {w : ℕ} (a c : ℕ) → 0 < c → a * 2 ^ low f ≤ w * c → InFormat f w → grid f a c ≤ w
 unfolding rnd
-grid-le-held {f} {w} a c C h held =
-    let e : grid f w (2 ^ low f) ≡ w = rnd-held held in
-    le-trans (grid-mono f a c w (2 ^ low f) C (pow-pos (low f)) h (lt-of-le-of-lt (le-of-eq e) (held .small))) (le-of-eq e)
+grid-le-in-format {f} {w} a c C h whole-in =
+    let e : grid f w (2 ^ low f) ≡ w = rnd-in-format whole-in in
+    le-trans (grid-mono f a c w (2 ^ low f) C (pow-pos (low f)) h (lt-of-le-of-lt (le-of-eq e) (whole-in .small))) (le-of-eq e)
 
 pub rnd-small : (f : Format) {n j : ℕ} → n ≤ 2 ^ j → j < low f + suc (emax f) → rnd f n < overflow f
 rnd-small f {n} {j} h l =
-    let held = held-pow f j l in
-    let e : rnd f (2 ^ j) ≡ 2 ^ j = rnd-held held in
-    lt-of-le-of-lt (le-trans (rnd-mono f n (2 ^ j) h (lt-of-le-of-lt (le-of-eq e) (held .small))) (le-of-eq e)) (held .small)
+    let whole-in = in-format-power f j l in
+    let e : rnd f (2 ^ j) ≡ 2 ^ j = rnd-in-format whole-in in
+    lt-of-le-of-lt (le-trans (rnd-mono f n (2 ^ j) h (lt-of-le-of-lt (le-of-eq e) (whole-in .small))) (le-of-eq e)) (whole-in .small)
 
 pub rnd-pos : (f : Format) (n : ℕ) → 0 < n → rnd f n < overflow f → 0 < rnd f n
-rnd-pos f n h o = le-trans (le-of-eq (sym (rnd-held (held-pow f 0 (omega arith))))) (rnd-mono f 1 n h o)
+rnd-pos f n h o = le-trans (le-of-eq (sym (rnd-in-format (in-format-power f 0 (omega arith))))) (rnd-mono f 1 n h o)
 
 -- ---- the error
 -- x and y are at most e apart

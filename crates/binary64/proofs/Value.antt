@@ -38,7 +38,7 @@ pub record Parts (f : Format) (x : Float) (p n : ℕ) : Type 0 where
   pub minus-is : belowZero f x ≡ n
 
 -- the format holds w units: they have at most prec digits, then zeros, and do not overflow
-pub record Held (f : Format) (w : ℕ) : Type 0 where
+pub record InFormat (f : Format) (w : ℕ) : Type 0 where
   pub digits : ℕ
   pub zeros : ℕ
   pub is : w ≡ digits * 2 ^ zeros
@@ -51,7 +51,7 @@ distance a b = a - b + (b - a)
 
 -- ---- a number of the format is a whole number of units that the format holds
 abbrev Whole : Format → ℕ → ℤ → Type 0
-Whole f m e = (w : ℕ) × (m * up e * 2 ^ low f ≡ w * down e) × Held f w
+Whole f m e = (w : ℕ) × (m * up e * 2 ^ low f ≡ w * down e) × InFormat f w
 
 exponent-le : (k l : ℕ) → 2 ^ k ≤ 2 ^ l → k ≤ l
 exponent-le k l h = le-of-suc-le-suc (lt-of-not-le (λ (g : suc l ≤ k). not-le-of-lt (pow-lt g) h))
@@ -83,12 +83,12 @@ whole-at f m (negsuc k) few fine small =
     ∙ sym (mul-assoc m (2 ^ j) (2 ^ suc k)) in
     (m * 2 ^ j, q, record { digits = m; zeros = j; is = refl; few = few; small = under-overflow f (m * 1) (m * 2 ^ j) (2 ^ suc k) q small })
 
-pub held-zero : (f : Format) → Held f 0
-held-zero f = record { digits = 0; zeros = 0; is = refl; few = pow-pos (prec f); small = pow-pos (low f + suc (emax f)) }
+pub in-format-zero : (f : Format) → InFormat f 0
+in-format-zero f = record { digits = 0; zeros = 0; is = refl; few = pow-pos (prec f); small = pow-pos (low f + suc (emax f)) }
 
 whole : (f : Format) (s : Bool) (m : ℕ) (e : ℤ) → T (fits f (fin s m e)) → Whole f m e
 unfolding fits
-whole f s zero e t = (0, ap (λ (x : ℕ). x * 2 ^ low f) (zero-mul (up e)) ∙ zero-mul (2 ^ low f) ∙ sym (zero-mul (down e)), held-zero f)
+whole f s zero e t = (0, ap (λ (x : ℕ). x * 2 ^ low f) (zero-mul (up e)) ∙ zero-mul (2 ^ low f) ∙ sym (zero-mul (down e)), in-format-zero f)
 whole f s (suc m) e t =
     let a : Bool = eqb (suc m % 2) 1 in
     let b : Bool = ltb (suc m) (2 ^ prec f) in
@@ -102,8 +102,8 @@ whole f s (suc m) e t =
 mag-is : (f : Format) (s : Bool) (m : ℕ) (e : ℤ) (w : ℕ) → m * up e * 2 ^ low f ≡ w * down e → mag f (fin s m e) ≡ w
 mag-is f s m e w h = ap (λ (x : ℕ). x / down e) h ∙ mul-div-cancel w (down-pos e)
 
--- so a number's size is whole, and held
-pub mag-whole : {f : Format} {x : Float} → Number f x → (num x * 2 ^ low f ≡ mag f x * den x) × Held f (mag f x)
+-- so a number's size is whole, and whole-in
+pub mag-whole : {f : Format} {x : Float} → Number f x → (num x * 2 ^ low f ≡ mag f x * den x) × InFormat f (mag f x)
 mag-whole {x = nan} h = absurd (h .is-finite)
 mag-whole {x = inf s} h = absurd (h .is-finite)
 mag-whole {f} {x = fin s m e} h =

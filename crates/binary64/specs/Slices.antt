@@ -10,6 +10,6 @@ use lib.ListN.{length, drop, replicate}
 abbrev pub zeros : ℕ → List Float
 zeros n = replicate n (fin false 0 (pos 0))
 
--- a list written from the front over another, which 22 sees to be long enough
+-- a list written from the front over another, which is long enough: 22 sees to it, and in the line step `slicesFit`
 abbrev pub over : {A : Type 0} → List A → List A → List A
 over new old = new ++ drop (length new) old

@@ -119,6 +119,8 @@ routeRect flags (Rects.Box w s e n) b rings = routeMeasured flags (Rects.Box w s
 unfoldable pub route : Flags → TileBounds → List (List Coord) → Routed
 route flags b rings = routeRect flags (rectangle rings) b rings
 
+-- ---- answers
+
 -- "Reasons 3 to 6: .. the Left, Right, Bottom or Top bound"
 abbrev pub edgeNumber : Edge → ℕ
 edgeNumber Left = 3
@@ -132,8 +134,6 @@ reasonNumber (Reasons.Input issue) = 1
 reasonNumber (Reasons.Cut issue) = 2
 reasonNumber (Reasons.Bridge edge) = edgeNumber edge
 
--- ---- answers
-
 -- the answer, without the rings of a cut
 abbrev pub answerOf : Routed → PolygonAnswer
 answerOf nothing = PolygonAnswers.Nothing
@@ -143,7 +143,7 @@ answerOf (cut rings) = PolygonAnswers.Cut (length rings)
 answerOf (overlay reason) = PolygonAnswers.Overlay reason
 
 -- what an answer tells: the paper's number of it, "(0 nothing, 1 whole dropped, 2 whole unchanged, ..", "(2 unchanged, 4 cut, 5 overlay)";
--- the reason, "0 unless overlay"; of a cut "how many rings"; and the guard count, how many polygons were dropped: "dropped,
+-- the reason, "0 unless overlay"; of a cut "how many rings", else 0; and the guard count, how many polygons were dropped: "dropped,
 -- guard count 1"
 pub record Told : Type 0 where
   pub number : ℕ

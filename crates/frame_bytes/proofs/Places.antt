@@ -17,7 +17,7 @@ pub record Step {A : Type 0} (f : List ℕ → Reading A) (frame : List ℕ) (at
   pub value : A
   pub others : List A
   pub next : ℕ
-  pub onward : at ≤ next
+  pub forward : at ≤ next
   pub within : next ≤ length frame
   pub first : f (drop at frame) ≡ read value (drop next frame)
   pub later : readMany f (k - 1) (drop next frame) ≡ read others rest
@@ -35,7 +35,7 @@ step f reads frame at (suc k) all rest h pos e =
       value = p .value;
       others = p .others;
       next = length frame - length (p .between);
-      onward = q .onward;
+      forward = q .forward;
       within = q .within;
       first = rw (← q .here) (p .first);
       later = rw (m, ← q .here) (p .later);

@@ -72,7 +72,7 @@ Reads {A} f = (l : List ℕ) (a : A) (rest : List ℕ) → f l ≡ read a rest �
 
 -- where the rest of a reading at a place of a frame stands
 pub record Placed (frame : List ℕ) (at : ℕ) (rest : List ℕ) : Type 0 where
-  pub onward : at ≤ length frame - length rest
+  pub forward : at ≤ length frame - length rest
   pub within : length frame - length rest ≤ length frame
   pub here : rest ≡ drop (length frame - length rest) frame
 
@@ -82,7 +82,7 @@ place frame at rest h p =
     let n : length rest ≡ length frame - (at + p .count) = rw e (length-drop (at + p .count) frame) in
     let f = p .fits in
     let k : length frame - length rest ≡ at + p .count = omega (arith, length-drop at frame) in
-    record { onward = omega arith; within = omega arith; here = rw k e }
+    record { forward = omega arith; within = omega arith; here = rw k e }
 
 -- ---- many
 

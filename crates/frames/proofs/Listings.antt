@@ -224,7 +224,7 @@ nextPlace frame at = measuredOf (length frame) Rects.Nothing (readPart (drop at 
 pub record NextPart (frame : List ℕ) (at k : ℕ) : Type 0 where
   pub accepted : Accepted (readPart (drop at frame))
   pub rect : measuredOf (length frame) Rects.Nothing (readPart (drop at frame)) .rect ≡ rectangle (partAt frame at)
-  pub onward : at ≤ nextPlace frame at
+  pub forward : at ≤ nextPlace frame at
   pub within : nextPlace frame at ≤ length frame
   pub here : partsFrom frame at k ≡ partAt frame at ∷ partsFrom frame (nextPlace frame at) (k - 1)
   pub later : Accepted (readMany readPart (k - 1) (drop (nextPlace frame at) frame))
@@ -244,7 +244,7 @@ next-part frame at k h pos a = let t = taken (readMany readPart k (drop at frame
         record {
           accepted = rw f;
           rect = ap (λ (x : Reading (List (List Coord))). measuredOf (length frame) Rects.Nothing x .rect) f ∙ rw p;
-          onward = rw n (s .onward);
+          forward = rw n (s .forward);
           within = rw n (s .within);
           here = ap allIn e ∙ s .whole ∙ rw (p, l);
           later = rw l;

@@ -80,7 +80,7 @@ module _ (frame : List ℕ) (m : ℕ) (small : length frame ≤ 47 + 16 * m) whe
         let here : partsFrom frame at (suc k) ≡ partAt frame at ∷ partsFrom frame to k = n .here ∙ rw p in
         let q′ : withParts (withRings r (partAt frame at)) (partsFrom frame to k) ≡ Rects.NotFinite
         → ⊥ = λ z. q (ap (withParts r) here ∙ z) in
-        let later = parts-fit k to (withRings r (partAt frame at)) (omega (arith, n .onward)) (n .within)
+        let later = parts-fit k to (withRings r (partAt frame at)) (omega (arith, n .forward)) (n .within)
         (subst (λ (j : ℕ). Accepted (readMany readPart j (drop to frame))) p (n .later)) q′ in
         let rs = part-rings frame at w (n .accepted) in
         let finite : withRings r (ringsFrom frame (at + 2) (countOf (drop at frame))) ≡ Rects.NotFinite

@@ -71,7 +71,7 @@ prints-nothing line kept out =
 pub feeds-nothing : (block : List ℕ) (line : Line) (kept out : List ℕ) → slicesFit kept out ≡ false
     → Feeds block line kept out 0 0 line kept out
 feeds-nothing block line kept out e =
-    record { first-line = rw e; prints = prints-nothing line kept out; untaken = λ _. (refl, refl); free = refl }
+    record { first-line = rw e; prints = prints-nothing line kept out; untaken = λ _. (refl, refl); kept-length = refl }
 
 taken-only : {A : Type 0} {ready : Bool} → ready ≡ true → ready ≡ false → A
 taken-only t f = absurd (true≢false (sym t ∙ f))
@@ -133,7 +133,7 @@ feeds-block block line line′ kept kept′ out at bytes bytes′ e t h free =
         goes-on = goes-on-in-line line line′ kept kept′ (take at block) bytes (front-none p) (front-state p) bytes′;
       };
       untaken = taken-only e;
-      free = free;
+      kept-length = free;
     }
 
 -- up to a newline
@@ -168,7 +168,7 @@ feeds-line block line line₁ line′ kept kept′ out out′ at written bytes e
         goes-on = on;
       };
       untaken = taken-only e;
-      free = free;
+      kept-length = free;
     }
 
 -- so something is taken of every block that is not empty, and no more than it has

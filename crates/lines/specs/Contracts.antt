@@ -1,5 +1,5 @@
--- What the functions that read a line say to each other and to the crates above: no contract of an entry point reaches it, so a reader of
--- those can skip this file. Definitions only.
+-- What the functions that read a line say to each other, and `FeedsLines`, which the program's loop over a block's lines promises. No
+-- contract of an entry point reaches it, so a reader of those can skip this file. Definitions only.
 use mathlib.Core.Path.{_≡_}
 use mathlib.Core.Bool.{Bool, true, false, not, cond}
 use mathlib.Core.List.{List, [], _∷_, _++_}
@@ -97,5 +97,5 @@ pub record FeedsLines (block : List ℕ) (line : Line) (kept out : List ℕ) (ta
   pub prints : Prints (take taken block) line kept out written line′ kept′ out′
   pub stops : taken < length block → length out < written + lineRoom
   pub some : 0 < length block → 0 < taken
-  -- free as in `Feeds`
-  pub free : length kept′ ≡ length kept
+  -- no more is said of line′ and kept′, as in `Feeds`
+  pub kept-length : length kept′ ≡ length kept

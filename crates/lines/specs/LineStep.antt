@@ -23,8 +23,9 @@ noDigit = 45
 unfoldable pub longPairs : List ℕ
 longPairs = lowerHex (replicate (longest + 1) 0)
 
--- What is known of a line, as characters; its bytes stand at the front of `kept`. They may be others than were read: whatever follows, a
--- line that begins with these is answered as one that begins with those.
+-- Characters that stand for what is known of a line, whose bytes are the first of `kept`. They need not be the ones that were read:
+-- `GoesOn` asks only that whatever follows is answered alike. A count over the length of `kept` stands for all of it, a digit's value for
+-- its rest by 16.
 abbrev pub charsOf : Line → List ℕ → List ℕ
 charsOf KnownLines.NotDigits kept = noDigit ∷ []
 charsOf (KnownLines.Whole n) kept = lowerHex (take n kept)
@@ -36,7 +37,7 @@ charsOf (KnownLines.Long true) kept = longPairs ++ hexDigit 0 ∷ []
 abbrev pub Begins : Line → Type 0
 Begins line = (kept : List ℕ) → charsOf line kept ≡ []
 
--- ---- the lines of an input that have ended
+-- ---- characters up to a newline
 
 -- a character in front of these, where there are any
 abbrev pub inFrontOfSome : ℕ → List ℕ → List ℕ
@@ -48,15 +49,16 @@ unfoldable pub ended : List ℕ → List ℕ
 ended [] = []
 ended (b ∷ rest) = cond (eqb b newline) (b ∷ ended rest) (inFrontOfSome b (ended rest))
 
--- how many characters the first line has, with its newline where that is there
+-- how many characters stand up to and with the first newline; all of them where there is none
 unfoldable pub lineLength : List ℕ → ℕ
 lineLength [] = 0
 lineLength (b ∷ rest) = cond (eqb b newline) 1 (suc (lineLength rest))
 
 -- ---- the lent slices
 
--- bytes for an answer: that to an accepted frame has at most 50,077 (`frame-most` in `frame_bytes/proofs/MostRoom.antt`), and a refusal
--- five
+-- bytes for an answer: 22 asks for at most 50,077 of any frame (`frame-most` in `frame_bytes/proofs/MostRoom.antt`), and a refusal has
+-- five.
+-- Any number from there on would do
 abbrev pub answerRoom : ℕ
 answerRoom = 10 * longest
 
@@ -74,12 +76,13 @@ slicesFit kept out = leb longest (length kept) && leb lineRoom (length out)
 abbrev pub printedNow : Line → List ℕ → List ℕ → List ℕ
 printedNow line kept characters = printed (ended (charsOf line kept ++ characters))
 
--- The new line stands for what came before: whatever follows, what is still to be printed is what is printed behind its characters.
--- So blocks of any sizes print `printed` of the whole input (proofs/Blocks.antt: `all-printed`).
+-- What is then known of the line, line′ with kept′, stands for all that was read: whatever `rest` follows, the whole prints `printedNow`,
+-- and then what the characters of line′ with `rest` behind them print. So blocks of any sizes print `printed` of the whole input
+-- (proofs/Blocks.antt: `all-printed`).
 abbrev pub GoesOn : List ℕ → Line → List ℕ → Line → List ℕ → Type 0
 GoesOn characters line kept line′ kept′ =
-    (rest : List ℕ) → printed (charsOf line kept ++ (characters ++ rest)) ≡ printedNow line kept characters ++ printed
-    (charsOf line′ kept′ ++ rest)
+    (rest : List ℕ) → printed (charsOf line kept ++ (characters ++ rest))
+    ≡ printedNow line kept characters ++ printed (charsOf line′ kept′ ++ rest)
 
 -- Answering characters: what they print stands at the front of the output, and the rest of the output stays.
 pub record Prints (characters : List ℕ) (line : Line) (kept out : List ℕ) (written : ℕ) (line′ : Line) (kept′ out′ : List ℕ) : Type 0 where
@@ -88,15 +91,16 @@ pub record Prints (characters : List ℕ) (line : Line) (kept out : List ℕ) (w
   pub room : written ≤ length out
   pub goes-on : GoesOn characters line kept line′ kept′
 
--- Feeding a block: its first line is taken, or nothing where a lent slice is shorter than `slicesFit` asks for.
+-- Feeding a block: it is taken up to and with its first newline, or whole where it has none; nothing is taken where a lent slice is shorter
+-- than `slicesFit` asks for.
 pub record Feeds (block : List ℕ) (line : Line) (kept out : List ℕ) (taken written : ℕ) (line′ : Line) (kept′ out′ : List ℕ) : Type 0 where
   pub first-line : taken ≡ cond (slicesFit kept out) (lineLength block) 0
   pub prints : Prints (take taken block) line kept out written line′ kept′ out′
   -- where a slice is too short the line and its bytes stay
   pub untaken : slicesFit kept out ≡ false → (line′ ≡ line) × (kept′ ≡ kept)
-  -- Otherwise no more is said of them than the length and `goes-on`: which they are is free among those behind which the input goes on
-  -- so. Every contract speaks of what is printed behind a line, so no answer depends on it.
-  pub free : length kept′ ≡ length kept
+  -- Where the slices fit, only `goes-on` and this length are said of line′ and kept′: which they are otherwise is free. No later answer
+  -- depends on it, if the next call is lent line′ with kept′ in the same length.
+  pub kept-length : length kept′ ≡ length kept
 
 -- ---- the end of the input: "A last line without a newline counts", and where no character of it was read there is none
 

@@ -65,7 +65,7 @@ hexLine l = lowerHex l ++ newline ∷ []
 abbrev pub refusalBytes : ℕ → List ℕ
 refusalBytes number = number ∷ 0 ∷ 0 ∷ 0 ∷ 0 ∷ []
 
--- the bytes of what a frame is answered; 22 does not arise, as the output that the program lends is never too short
+-- the bytes of what a frame is answered; 22 does not arise, as the line step lends `answerRoom` bytes
 abbrev pub readingBytes : Reading Frame → List ℕ
 readingBytes (refused r) = refusalBytes (frameRefusalNumber r)
 readingBytes (read f rest) = frameBytes f

@@ -26,7 +26,7 @@ pub enum Finished {
     Wrote(usize),
 }
 
-// What is known of a line before an input is read.
+// What is known of a line before an input is read: nothing, so that no character stands for it.
 pub fn start() -> Line
     ensures empty { λ r. ⌜ r ≡ Line.Whole 0 ⌝ }
     ensures begins { λ r. ⌜ LineStep.Begins r ⌝ }
@@ -35,8 +35,8 @@ pub fn start() -> Line
 }
 
 // Whether the lent slices are as long as the line step asks: `kept` holds the longest frame, and `out` has room for a line.
-fn are_lent(kept: &[u8], out: &[u8]) -> bool
-    ensures lent { λ r. ⌜ r ≡ LineStep.slicesFit (now (kept .entry)) (now (out .entry)) ⌝ }
+fn slices_fit(kept: &[u8], out: &[u8]) -> bool
+    ensures answer { λ r. ⌜ r ≡ LineStep.slicesFit (now (kept .entry)) (now (out .entry)) ⌝ }
 {
     if kept.len() < LONGEST {
         return false;
@@ -44,15 +44,16 @@ fn are_lent(kept: &[u8], out: &[u8]) -> bool
     out.len() >= LINE_ROOM
 }
 
-// Takes a block up to its first newline, which is answered, or to its end. `kept` is 5,120 bytes or more that go with the line: those
-// past the line's own are free. Takes nothing where `kept` is shorter, or `out` is shorter than LINE_ROOM.
-// Of the line that is returned, with its bytes in `kept`, it is said what is printed for an input that goes on behind it. Which it is of
-// those behind which the same is printed is left free: what is answered later does not depend on it.
+// Takes a block up to and with its first newline, and answers the line that ends there; or takes it to its end. `kept` needs 5,120 bytes
+// and `out` LINE_ROOM, 102,401: where one is shorter nothing is taken, so a loop over a block must stop where nothing was taken of some.
+// Write out the bytes written before the next call, and lend it the line that was returned and `kept` as it was left; only bytes past the
+// line's own may change. Of the returned line the contract says what is printed for an input that goes on from it: among lines of which
+// that is the same, which is returned is free.
 pub fn feed(block: &[u8], line: Line, kept: &mut [u8], out: &mut [u8]) -> Fed
     ensures feeds { λ r. ⌜ LineStep.Feeds (now (block .entry)) line (now (kept .entry)) (now (out .entry))
         (r .taken) (r .written) (r .line) (now (kept .exit)) (now (out .exit)) ⌝ }
 {
-    if !are_lent(kept, out) {
+    if !slices_fit(kept, out) {
         return Fed {
             line,
             taken: 0,
@@ -135,14 +136,14 @@ fn is_not_begun(line: Line) -> bool
     }
 }
 
-// Writes what the end of the input prints, a last line without a newline. Where `feed` would take nothing it writes nothing, and says so:
+// Writes what the end of the input prints, a last line without a newline. Where a slice is too short it writes nothing, and says so:
 // then it may be called again with slices that are long enough, so that the last line is not lost.
 pub fn finish(line: Line, kept: &[u8], out: &mut [u8]) -> Finished
     ensures answer { λ r. ⌜ r ≡ LineStep.finishAnswer line (now (kept .entry)) (now (out .entry)) ⌝ }
     ensures output { λ _. ⌜ now (out .exit) ≡ LineStep.finishOutput line (now (kept .entry)) (now (out .entry)) ⌝ }
     ensures room { λ r. ⌜ LineStep.bytesWritten r ≤ length (now (out .entry)) ⌝ }
 {
-    if !are_lent(kept, out) {
+    if !slices_fit(kept, out) {
         return Finished::TooShort;
     }
     if is_not_begun(line) {

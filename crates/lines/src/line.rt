@@ -10,7 +10,8 @@ use super::digits::digit_of;
 use super::digits::digit_values;
 use frame_bytes::reader::LONGEST;
 
-// What is known of a line. The bytes stand at the front of a slice that holds the longest frame, which goes with it.
+// What is known of a line. The bytes stand at the front of a slice that holds the longest frame, which goes with it: a count over the
+// slice's length means all of it, and a digit's value its rest by 16.
 pub enum Line {
     // A character that is no digit was read.
     NotDigits,

@@ -1,7 +1,8 @@
-// Reads frames from standard input, one a line in hexadecimal, and prints each answer as a line on standard output.
-// Proved: the line step makes the bytes that are to be printed for a block, and what it knows of a line is carried from one block to the
-// next. No contract speaks of what is read or written, so not proved: that the blocks are read in order, that the bytes made are those
-// written, and that the last line is finished.
+// Reads frames from standard input, one a line in hexadecimal, and prints each answer as a line on standard output. Proved: in `lines`,
+// which bytes are to be printed; and here, that the line which `feed_all` answers for a block goes on from the one that it was given. No
+// contract speaks of what is read or written, so not proved: that all of the input is read, in order, that the next block is fed with that
+// line and with `kept` as it was left, that the bytes made are those written, once and in order, and that the last line is finished. A read
+// that fails ends the input there: what was read of a line is answered as if it had ended.
 ghost use Prim.Native.Nat.{_≤_};
 ghost use lib.ListN.{length};
 ghost use Rattle.frame_bytes.specs.Frame.{longest};

@@ -113,7 +113,7 @@ sliceCallSlices flags bounds buffer coords lengths lent =
 
 -- ---- answers as numbers
 
--- all of it in one number
+-- number, reason and rings in one number, which tells the guard count too (`guardsIn`)
 abbrev pub answerCode : PolygonAnswer → ℕ
 answerCode answer = told answer .number + 256 * told answer .reason + 65536 * told answer .rings
 

@@ -29,8 +29,8 @@ use Rattle.sutherland_hodgman.specs.Contracts.{RingCut, threePasses, Las
 use Rattle.sutherland_hodgman.specs.RingCall.{failsIf, checkRing, RingSlices, ringSlices, ringCallCheck, ringAnswered, ringCallAnswer}
 use Rattle.sutherland_hodgman.specs.RingCall.{ringCallSlices}
 use Rattle.sutherland_hodgman.proofs.Growth.{clipRing-grows}
-use Rattle.sutherland_hodgman.proofs.Promises.{HeldBounds, held-front}
-use Rattle.sutherland_hodgman.proofs.LastPass.{topped-cut, topped-written}
+use Rattle.sutherland_hodgman.proofs.Promises.{FittingBounds, fitting-front}
+use Rattle.sutherland_hodgman.proofs.LastPass.{last-pass-cut, last-pass-written}
 
 -- ---- what passes the checks has room
 
@@ -85,12 +85,12 @@ module _ (ring : List Float) (bounds : TileBounds) (numbers : 2 * (length ring /
   whole-ring = rw (numbers, take-length ring)
 
   -- what the passes leave is the cut of the whole ring
-  pub lent-cut : (k : ℕ) (d d₀ d′ : List Float) (r : ℕ) → HeldBounds bounds → ((i : ℕ) → T (fits binary64 (getD ring i nan)))
+  pub lent-cut : (k : ℕ) (d d₀ d′ : List Float) (r : ℕ) → FittingBounds bounds → ((i : ℕ) → T (fits binary64 (getD ring i nan)))
       → Stands (threePasses bounds (coords (take (2 * (length ring / 2)) ring))) k d
       → LastPassDone bounds (coords (take (2 * k) d)) d₀ r d′ → RingCut bounds (coords ring) r d′
   lent-cut k d d₀ d′ r hb hr s t =
-      rw whole-ring at (topped-cut bounds (coords (take (2 * (length ring / 2)) ring)) k d d₀ d′ r hb
-      (held-front ring (length ring / 2) hr) s t)
+      rw whole-ring at (last-pass-cut bounds (coords (take (2 * (length ring / 2)) ring)) k d d₀ d′ r hb
+      (fitting-front ring (length ring / 2) hr) s t)
 
   -- what stands at the front of the slice
   cut-ring : (r : ℕ) (after : List Float) → RingCut bounds (coords ring) r after → coords (take (2 * r) after) ≡ clipRing
@@ -111,12 +111,12 @@ module _ (ring : List Float) (bounds : TileBounds) (numbers : 2 * (length ring /
       let w : Written (clipRing bounds (coords ring)) out r out′ = record { count = s .count; numbers = ho ∙ rw (s .numbers) } in
       record { written = w; promise = rw (written-front w, ← cut-ring r cut c) (c .promise) }
 
-  pub topped-clipped : (k : ℕ) (d out out′ : List Float) (r : ℕ) → HeldBounds bounds
+  pub last-pass-clipped : (k : ℕ) (d out out′ : List Float) (r : ℕ) → FittingBounds bounds
       → ((i : ℕ) → T (fits binary64 (getD ring i nan))) → 4 ≤ k
       → Stands (threePasses bounds (coords (take (2 * (length ring / 2)) ring))) k d → LastPassDone bounds (coords (take (2 * k) d)) out
       r out′ → ClippedTo ring bounds out r out′
-  topped-clipped k d out out′ r hb hr h s t = record {
-    written = rw whole-ring at (topped-written bounds (coords (take (2 * (length ring / 2)) ring)) k d out out′ r h s t);
+  last-pass-clipped k d out out′ r hb hr h s t = record {
+    written = rw whole-ring at (last-pass-written bounds (coords (take (2 * (length ring / 2)) ring)) k d out out′ r h s t);
     promise = lent-cut k d out out′ r hb hr s t .promise;
   }
 

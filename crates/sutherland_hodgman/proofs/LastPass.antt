@@ -23,7 +23,7 @@ use Rattle.sutherland_hodgman.specs.Clip.{step, steps, leaveOff, around,
 use Rattle.sutherland_hodgman.specs.Contracts.{threePasses, LastPassDone, RingCut}
 use Rattle.sutherland_hodgman.specs.Growth.{halfGrowth}
 use Rattle.sutherland_hodgman.proofs.Growth.{pass-grows}
-use Rattle.sutherland_hodgman.proofs.Promises.{HeldBounds, HeldCoord, promise}
+use Rattle.sutherland_hodgman.proofs.Promises.{FittingBounds, FittingCoord, promise}
 
 -- ---- the steps along a ring, by the verdict before them and the verdict on the last vertex
 module _ (l : Edge) (b : TileBounds) where
@@ -120,9 +120,9 @@ drop-past a d m n e h =
     let p : m + (n - m) ≡ n = omega arith in
     ap (λ k. drop k (a ++ drop m d)) q ∙ drop-append-add a (drop m d) (n - m) ∙ drop-drop (n - m) m d ∙ ap (λ k. drop k d) p
 
-pub topped : (b : TileBounds) (r : List Coord) (d d₁ d₂ : List Float) (k₁ k₂ : ℕ) → Written (pass Top b r) d k₁ d₁
+pub last-pass-done : (b : TileBounds) (r : List Coord) (d d₁ d₂ : List Float) (k₁ k₂ : ℕ) → Written (pass Top b r) d k₁ d₁
     → Written (finish (coords (take (2 * k₁) d₁))) d₁ k₂ d₂ → LastPassDone b r d k₂ d₂
-topped b r d d₁ d₂ k₁ k₂ w f =
+last-pass-done b r d d₁ d₂ k₁ k₂ w f =
     let P = pass Top b r in
     let g : Written (finish P) d₁ k₂ d₂ = rw (written-front w) at f in
     record {
@@ -151,16 +151,17 @@ top-room b r n k space e c h m =
     in (omega arith, λ t. omega (arith, m (some-grown n k (omega arith) t)))
 
 -- what the three passes and the last leave is the cut
-pub topped-cut : (b : TileBounds) (ring : List Coord) (k : ℕ) (d d₀ d′ : List Float) (r : ℕ) → HeldBounds b → Every HeldCoord ring
+pub last-pass-cut : (b : TileBounds) (ring : List Coord) (k : ℕ) (d d₀ d′ : List Float) (r : ℕ) → FittingBounds b → Every FittingCoord ring
     → Stands (threePasses b ring) k d → LastPassDone b (coords (take (2 * k) d)) d₀ r d′
     → RingCut b ring r d′
 unfolding clipRing passes threePasses
-topped-cut b ring k d d₀ d′ r hb hr s t =
+last-pass-cut b ring k d d₀ d′ r hb hr s t =
     let c : Stands (clipRing b ring) r d′ = rw (stands-front s) at (t .stands) in
     record { stands = c; promise = rw (stands-front c) (promise b ring hb hr) }
 
-pub topped-written : (b : TileBounds) (ring : List Coord) (k : ℕ) (d d₀ d′ : List Float) (r : ℕ) → 4 ≤ k → Stands (threePasses b ring) k
+pub last-pass-written : (b : TileBounds) (ring : List Coord) (k : ℕ) (d d₀ d′ : List Float) (r : ℕ) → 4 ≤ k → Stands (threePasses b ring) k
     d → LastPassDone b (coords (take (2 * k) d)) d₀ r d′
     → Written (clipRing b ring) d₀ r d′
 unfolding clipRing passes threePasses
-topped-written b ring k d d₀ d′ r h s t = let n = ap length (stands-front s) in rw (stands-front s) at (t .rest (omega (arith, s .count)))
+last-pass-written b ring k d d₀ d′ r h s t =
+    let n = ap length (stands-front s) in rw (stands-front s) at (t .rest (omega (arith, s .count)))

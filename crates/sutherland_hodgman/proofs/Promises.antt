@@ -200,32 +200,32 @@ vertices r = go (leb 3 (length r)) (leb→le 3 (length r))
     go true h = inr (le-trans (h tt) (length-close r))
     go false h = inl refl
 
--- ---- the demand, whole: what it asks of is held by doubles
-abbrev pub HeldBounds : TileBounds → Type 0
-HeldBounds b =
+-- ---- the demand, whole: what it asks of is fitting by doubles
+abbrev pub FittingBounds : TileBounds → Type 0
+FittingBounds b =
     T (fits binary64 (b .«lng_min»)) × T (fits binary64 (b .«lat_min»)) × T (fits binary64 (b .«lng_max»))
     × T (fits binary64 (b .«lat_max»))
 
-abbrev pub HeldCoord : Coord → Type 0
-HeldCoord p = T (fits binary64 (p .x)) × T (fits binary64 (p .y))
+abbrev pub FittingCoord : Coord → Type 0
+FittingCoord p = T (fits binary64 (p .x)) × T (fits binary64 (p .y))
 
 -- the numbers of a slice are doubles, and so are those of the ring at its front
-pub held-front : (s : List Float) (n : ℕ) → ((i : ℕ) → T (fits binary64 (getD s i nan))) → Every HeldCoord (coords (take (2 * n) s))
+pub fitting-front : (s : List Float) (n : ℕ) → ((i : ℕ) → T (fits binary64 (getD s i nan))) → Every FittingCoord (coords (take (2 * n) s))
 unfolding coords
-held-front s n h = rw (coords-take n s) (every-take HeldCoord n (coords s) (held s h))
+fitting-front s n h = rw (coords-take n s) (every-take FittingCoord n (coords s) (fitting s h))
   where
-    held : (s : List Float) → ((i : ℕ) → T (fits binary64 (getD s i nan))) → Every HeldCoord (coords s)
-    held [] h = tt
-    held (x ∷ []) h = tt
-    held (x ∷ y ∷ s) h = ((h 0, h 1), held s (λ i. h (suc (suc i))))
+    fitting : (s : List Float) → ((i : ℕ) → T (fits binary64 (getD s i nan))) → Every FittingCoord (coords s)
+    fitting [] h = tt
+    fitting (x ∷ []) h = tt
+    fitting (x ∷ y ∷ s) h = ((h 0, h 1), fitting s (λ i. h (suc (suc i))))
 
-pub promise : (b : TileBounds) (r : List Coord) → HeldBounds b → Every HeldCoord r → Promise b r (clipRing b r)
+pub promise : (b : TileBounds) (r : List Coord) → FittingBounds b → Every FittingCoord r → Promise b r (clipRing b r)
 unfolding clipRing
 promise b r hb hr = record {
   latitudes = λ h. latitudes b h r;
   vertices = vertices (passes b r);
   growth = clipRing-grows b r;
   longitudes = λ _ _ mb mr. longitudes b r (hb .0, mb .0) (hb .1, mb .1) (hb .2, mb .2) (hb .3, mb .3)
-      (every-map (λ p. HeldCoord p × CoordAtMost256 p) Fine r (λ p h. ((h .0 .0, h .1 .0), (h .0 .1, h .1 .1)))
-      (every-both HeldCoord CoordAtMost256 r hr mr));
+      (every-map (λ p. FittingCoord p × CoordAtMost256 p) Fine r (λ p h. ((h .0 .0, h .1 .0), (h .0 .1, h .1 .1)))
+      (every-both FittingCoord CoordAtMost256 r hr mr));
 }

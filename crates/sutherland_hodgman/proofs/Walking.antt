@@ -23,21 +23,21 @@ use Rattle.sutherland_hodgman.specs.Growth.{halfGrowth}
 use Rattle.sutherland_hodgman.proofs.Growth.{pass-grows}
 
 module _ (l : Edge) (b : TileBounds) (ring : List Coord) where
-  pub onward-here : (v : Bool) (i k : ℕ) (d : List Float) → SameRest l b ring v i k d v i k d
-  onward-here v i k d = record { count = refl; numbers = refl }
+  pub rest-here : (v : Bool) (i k : ℕ) (d : List Float) → SameRest l b ring v i k d v i k d
+  rest-here v i k d = record { count = refl; numbers = refl }
 
-  pub onward-then : {v v′ v″ : Bool} {i i′ i″ k k′ k″ : ℕ} {d d′ d″ : List Float} → SameRest l b ring v i k d v′ i′ k′ d′
+  pub rest-then : {v v′ v″ : Bool} {i i′ i″ k k′ k″ : ℕ} {d d′ d″ : List Float} → SameRest l b ring v i k d v′ i′ k′ d′
       → SameRest l b ring v′ i′ k′ d′ v″ i″ k″ d″
       → SameRest l b ring v i k d v″ i″ k″ d″
-  onward-then f g = record { count = f .count ∙ g .count; numbers = f .numbers ∙ g .numbers }
+  rest-then f g = record { count = f .count ∙ g .count; numbers = f .numbers ∙ g .numbers }
 
   -- past the last vertex nothing is left, whatever the verdict
   pub left-none : (v : Bool) (i : ℕ) → length ring ≤ i → stepsLeft l b ring v i ≡ []
   unfolding stepsLeft steps
   left-none v i h = rw (drop-of-length-le ring h)
 
-  pub onward-end : (v v′ : Bool) (i k : ℕ) (d : List Float) → length ring ≤ i → SameRest l b ring v i k d v′ i k d
-  onward-end v v′ i k d h = record { count = rw (left-none v i h, left-none v′ i h); numbers = rw (left-none v i h, left-none v′ i h) }
+  pub rest-end : (v v′ : Bool) (i k : ℕ) (d : List Float) → length ring ≤ i → SameRest l b ring v i k d v′ i k d
+  rest-end v v′ i k d h = record { count = rw (left-none v i h, left-none v′ i h); numbers = rw (left-none v i h, left-none v′ i h) }
 
   -- the step to the vertex e, whose verdict is f
   module _ (v f : Bool) (i : ℕ) (e : Coord) (h : i < length ring) (he : e ≡ getD ring i noVertex) (hf : inside l b e ≡ f) where
@@ -50,10 +50,10 @@ module _ (l : Edge) (b : TileBounds) (ring : List Coord) where
     step-room k space r =
         omega (arith, ap length left-step, length-append (step v f (crossing l b (vertexBefore ring i) e) e) (stepsLeft l b ring f (i + 1)))
 
-    pub onward-step : (s : Coord) (k : ℕ) (d : List Float) (k′ : ℕ) (d′ : List Float) → s ≡ vertexBefore ring i
+    pub rest-step : (s : Coord) (k : ℕ) (d : List Float) (k′ : ℕ) (d′ : List Float) → s ≡ vertexBefore ring i
         → k′ ≡ k + length (step v f (crossing l b s e) e)
         → d′ ≡ sets d (2 * k) (flat (step v f (crossing l b s e) e)) → SameRest l b ring v i k d f (i + 1) k′ d′
-    onward-step s k d k′ d′ hs hk hd =
+    rest-step s k d k′ d′ hs hk hd =
         let st = step v f (crossing l b s e) e in
         let r = stepsLeft l b ring f (i + 1) in
         let q : stepsLeft l b ring v i ≡ st ++ r = left-step ∙ rw hs in
@@ -77,9 +77,9 @@ module _ (l : Edge) (b : TileBounds) (ring : List Coord) where
           let w : inside l b (last p r) ≡ v = rw m at e in
           rw (m, ← q, w)
 
-  pub onward-skip : (i j k : ℕ) (d : List Float) → stepsLeft l b ring false i ≡ stepsLeft l b ring false j
+  pub rest-skip : (i j k : ℕ) (d : List Float) → stepsLeft l b ring false i ≡ stepsLeft l b ring false j
       → SameRest l b ring false i k d false j k d
-  onward-skip i j k d e = record { count = rw e; numbers = rw e }
+  rest-skip i j k d e = record { count = rw e; numbers = rw e }
 
   pub begun : (v v′ : Bool) (d : List Float) (i k : ℕ) (d′ : List Float) → around l b ring ≡ stepsLeft l b ring v 0
       → SameRest l b ring v 0 0 d v′ i k d′
@@ -156,7 +156,7 @@ module _ (l : Edge) (b : TileBounds) (s : List Float) (m : ℕ) (fits : 2 * m �
         → SameRest l b (coords (take (2 * m) s)) true i k d true (i + 1) (k + 1) d′
     unfolding flat
     in-in f e k d d′ he hd =
-        onward-step l b (coords (take (2 * m) s)) true true i (coordAt s i) in-ring the-vertex f _ k d (k + 1) d′ refl refl (hd ∙ rw he)
+        rest-step l b (coords (take (2 * m) s)) true true i (coordAt s i) in-ring the-vertex f _ k d (k + 1) d′ refl refl (hd ∙ rw he)
 
     -- a crossing x of the line between the vertex p before and the vertex e
     module _ (p e x : Coord) (hp : p ≡ vertexBefore (coords (take (2 * m) s)) i) (he : e ≡ coordAt s i) (hx : x ≡ crossing l b p e) where
@@ -165,7 +165,7 @@ module _ (l : Edge) (b : TileBounds) (s : List Float) (m : ℕ) (fits : 2 * m �
       unfolding flat
       in-out f k d d′ hd =
           let q : x ≡ crossing l b p (coordAt s i) = hx ∙ rw he in
-          onward-step l b (coords (take (2 * m) s)) true false i (coordAt s i) in-ring the-vertex f p k d (k + 1) d′ hp refl (hd ∙ rw q)
+          rest-step l b (coords (take (2 * m) s)) true false i (coordAt s i) in-ring the-vertex f p k d (k + 1) d′ hp refl (hd ∙ rw q)
 
       pub out-in : inside l b (coordAt s i) ≡ true → (k : ℕ) (d d₁ d₂ : List Float) → d₁ ≡ sets d (2 * k) (x .x ∷ x .y ∷ [])
           → d₂ ≡ sets d₁ (2 * (k + 1)) (e .x ∷ e .y ∷ [])
@@ -173,7 +173,7 @@ module _ (l : Edge) (b : TileBounds) (s : List Float) (m : ℕ) (fits : 2 * m �
       unfolding flat
       out-in f k d d₁ d₂ h₁ h₂ =
           let q : x ≡ crossing l b p (coordAt s i) = hx ∙ rw he in
-          onward-step l b (coords (take (2 * m) s)) false true i (coordAt s i) in-ring the-vertex f p k d (k + 2) d₂ hp refl
+          rest-step l b (coords (take (2 * m) s)) false true i (coordAt s i) in-ring the-vertex f p k d (k + 2) d₂ hp refl
           (h₂ ∙ rw (h₁, two-more k, he, q))
 
 -- what is judged is the vertex that was read

@@ -6,9 +6,9 @@ use lib.ListN.{take}
 use borrow.Author.Needs.{needs}
 use Rattle.tile.specs.Ring.{coords}
 use Rattle.tile.proofs.Rings.{length-front}
-use Rattle.sutherland_hodgman.proofs.Promises.{HeldBounds, held-front}
+use Rattle.sutherland_hodgman.proofs.Promises.{FittingBounds, fitting-front}
 use Rattle.sutherland_hodgman.proofs.Stages.{stage-three, stage-last}
-use Rattle.sutherland_hodgman.proofs.LastPass.{topped-cut}
+use Rattle.sutherland_hodgman.proofs.LastPass.{last-pass-cut}
 use Rattle.sutherland_hodgman.proofs.clip_ring.Statement.{statement}
 use Rattle.sutherland_hodgman.proofs.clip_ring.Tie as tie
 
@@ -34,9 +34,9 @@ returns : tie.Need-returns
 returns c =
     let a = c .before .before .before .before .before .before .before .before .before .before .before .before .before .before .before in
     let s = now (a .args .ring) in
-    let h : HeldBounds (a .args .bounds) = (search needs, search needs, search needs, search needs) in
-    topped-cut (a .args .bounds) (coords (take (2 * a .args .n) s)) _ _ _ _ _ h
-    (held-front s (a .args .n) (c .before .before .before .before .before .before .before .before .before .before .before .before
+    let h : FittingBounds (a .args .bounds) = (search needs, search needs, search needs, search needs) in
+    last-pass-cut (a .args .bounds) (coords (take (2 * a .args .n) s)) _ _ _ _ _ h
+    (fitting-front s (a .args .n) (c .before .before .before .before .before .before .before .before .before .before .before .before
     .before .before .shared-slice-known .given))
     (c .before .before .before .before .before .before .before .before .before .clip-three-edges .ensures)
     (c .before .before .clip-top .ensures)

@@ -9,7 +9,7 @@ use lib.ListN.{length, take}
 use Rattle.tile.specs.Ring.{coords}
 use Rattle.tile.proofs.Rings.{length-front}
 use Rattle.sutherland_hodgman.specs.Contracts.{SameRest}
-use Rattle.sutherland_hodgman.proofs.Walking.{onward-here, onward-then, starts, begun, judged, walk-end, past-end, pass-around}
+use Rattle.sutherland_hodgman.proofs.Walking.{rest-here, rest-then, starts, begun, judged, walk-end, past-end, pass-around}
 use Rattle.sutherland_hodgman.proofs.Walking.{pass-room, pass-none}
 use Rattle.sutherland_hodgman.proofs.clip_ring_against_edge.Statement.{statement}
 use Rattle.sutherland_hodgman.proofs.clip_ring_against_edge.Tie as tie
@@ -47,7 +47,7 @@ loop-holds c =
     let a = c .before .before .before .before .before .before in (
       search needs,
       refl,
-      onward-here (a .args .edge) (a .args .bounds)
+      rest-here (a .args .edge) (a .args .bounds)
           (coords (take (2 * c .before .before .before .left-off .result) (now (a .args .ring)))) _ _ _ _,
     )
 
@@ -76,7 +76,7 @@ loop-again c =
     (now (a .args .ring))) in (
       search needs,
       search needs,
-      onward-then (a .args .edge) (a .args .bounds) g
+      rest-then (a .args .edge) (a .args .bounds) g
           (c .before .before .before .before .before .before .loop .inv .2) (c .before .before .turn .ensures .2),
     )
 

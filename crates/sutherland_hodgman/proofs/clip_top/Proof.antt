@@ -6,7 +6,7 @@ use lib.ListN.{take}
 use borrow.Author.Needs.{needs}
 use Rattle.tile.specs.Ring.{coords}
 use Rattle.tile.proofs.Rings.{length-front}
-use Rattle.sutherland_hodgman.proofs.LastPass.{topped, top-room}
+use Rattle.sutherland_hodgman.proofs.LastPass.{last-pass-done, top-room}
 use Rattle.sutherland_hodgman.proofs.clip_top.Statement.{statement}
 use Rattle.sutherland_hodgman.proofs.clip_top.Tie as tie
 
@@ -25,7 +25,7 @@ same-length : tie.Need-same-length
 same-length c = search needs
 
 returns : tie.Need-returns
-returns c = let a = c .before .before .before .before .before .before .before .before .before .before in topped (a .args .bounds)
+returns c = let a = c .before .before .before .before .before .before .before .before .before .before in last-pass-done (a .args .bounds)
     (coords (take (2 * a .args .n) (now (a .args .ring)))) (now (a .args .out)) _ _ _ _
     (c .before .before .before .before .before .before .clip-ring-against-edge .ensures) (c .before .before .finish .ensures)
 

@@ -9,7 +9,7 @@ use denote.Ref.{now}
 use lib.ListN.{length, take}
 use Rattle.tile.specs.Ring.{coords}
 use Rattle.sutherland_hodgman.specs.Contracts.{stepsLeft, SameRest}
-use Rattle.sutherland_hodgman.proofs.Walking.{onward-here, onward-then, in-in, in-in-room, judged, wrote}
+use Rattle.sutherland_hodgman.proofs.Walking.{rest-here, rest-then, in-in, in-in-room, judged, wrote}
 use Rattle.sutherland_hodgman.proofs.copy_inside.Statement.{statement}
 use Rattle.sutherland_hodgman.proofs.copy_inside.Tie as tie
 
@@ -26,7 +26,7 @@ loop-holds c =
       search needs,
       search needs,
       refl,
-      onward-here (a .args .edge) (a .args .bounds)
+      rest-here (a .args .edge) (a .args .bounds)
           (coords (take (2 * a .args .m) (now (a .args .ring)))) true _ _ _,
     )
 
@@ -89,7 +89,7 @@ loop-again c =
       search needs,
       search needs,
       wrote (l .out) _ (l .len) _ (c .before .before .before .before .before .before .coord-at .result) p (l .inv .2),
-      onward-then (a .args .edge) (a .args .bounds) (coords (take (2 * m) s)) (l .inv .3)
+      rest-then (a .args .edge) (a .args .bounds) (coords (take (2 * m) s)) (l .inv .3)
           (in-in (a .args .edge) (a .args .bounds) s m (a .pre .0) (l .i)
           (c .before .before .before .before .before .before .before .loop-test .taken) f _ (l .len) (l .out) _
           (c .before .before .before .before .before .before .coord-at .ensures) p),

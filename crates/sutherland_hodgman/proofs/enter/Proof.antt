@@ -8,7 +8,7 @@ use denote.Ref.{now}
 use lib.ListN.{length, take}
 use Rattle.tile.specs.Ring.{coords}
 use Rattle.sutherland_hodgman.specs.Contracts.{stepsLeft}
-use Rattle.sutherland_hodgman.proofs.Walking.{onward-then, onward-end, onward-skip, out-in, out-in-room, past-end}
+use Rattle.sutherland_hodgman.proofs.Walking.{rest-then, rest-end, rest-skip, out-in, out-in-room, past-end}
 use Rattle.sutherland_hodgman.proofs.enter.Statement.{statement}
 use Rattle.sutherland_hodgman.proofs.enter.Tie as tie
 
@@ -23,9 +23,9 @@ returns c =
     let e = c .before .skip-outside .ensures in (
       search needs,
       search needs,
-      onward-then (a .args .edge) (a .args .bounds) (coords (take (2 * m) s))
-          (onward-skip (a .args .edge) (a .args .bounds) (coords (take (2 * m) s)) _ _ _ _ (e .3))
-          (onward-end (a .args .edge) (a .args .bounds) (coords (take (2 * m) s)) false true _ _ _
+      rest-then (a .args .edge) (a .args .bounds) (coords (take (2 * m) s))
+          (rest-skip (a .args .edge) (a .args .bounds) (coords (take (2 * m) s)) _ _ _ _ (e .3))
+          (rest-end (a .args .edge) (a .args .bounds) (coords (take (2 * m) s)) false true _ _ _
           (past-end s m (a .pre .0) _ (c .if1 .taken))),
     )
 
@@ -123,8 +123,8 @@ returns-2 c =
     .skip-outside .ensures in (
       search needs,
       search needs,
-      onward-then (a .args .edge) (a .args .bounds) (coords (take (2 * m) s))
-          (onward-skip (a .args .edge) (a .args .bounds) (coords (take (2 * m) s)) _ _ _ _ (e .3))
+      rest-then (a .args .edge) (a .args .bounds) (coords (take (2 * m) s))
+          (rest-skip (a .args .edge) (a .args .bounds) (coords (take (2 * m) s)) _ _ _ _ (e .3))
           (out-in (a .args .edge) (a .args .bounds) s m (a .pre .0) j
           (c .before .before .before .before .before .before .before .before .before .before .before .before .before .if1 .left) _ _
           _ (c .before .before .before .before .before .before .before .before .before .before .before .before .previous .ensures)

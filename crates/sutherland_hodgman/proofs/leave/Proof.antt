@@ -7,7 +7,7 @@ use denote.Ref.{now}
 use lib.ListN.{length, take}
 use Rattle.tile.specs.Ring.{coords}
 use Rattle.sutherland_hodgman.specs.Contracts.{stepsLeft}
-use Rattle.sutherland_hodgman.proofs.Walking.{onward-then, onward-end, in-out, in-out-room, past-end}
+use Rattle.sutherland_hodgman.proofs.Walking.{rest-then, rest-end, in-out, in-out-room, past-end}
 use Rattle.sutherland_hodgman.proofs.leave.Statement.{statement}
 use Rattle.sutherland_hodgman.proofs.leave.Tie as tie
 
@@ -25,8 +25,8 @@ returns c =
     let e = c .before .before .before .before .copy-inside .ensures in (
       search needs,
       search needs,
-      onward-then (a .args .edge) (a .args .bounds) (coords (take (2 * m) s)) (e .3)
-          (onward-end (a .args .edge) (a .args .bounds) (coords (take (2 * m) s)) true false _ _ _
+      rest-then (a .args .edge) (a .args .bounds) (coords (take (2 * m) s)) (e .3)
+          (rest-end (a .args .edge) (a .args .bounds) (coords (take (2 * m) s)) true false _ _ _
           (past-end s m (a .pre .0) _ (c .if1 .taken))),
     )
 
@@ -91,7 +91,7 @@ returns-2 c =
     .copy-inside .ensures in (
       search needs,
       search needs,
-      onward-then (a .args .edge) (a .args .bounds) (coords (take (2 * m) s)) (e .3)
+      rest-then (a .args .edge) (a .args .bounds) (coords (take (2 * m) s)) (e .3)
           (in-out (a .args .edge) (a .args .bounds) s m (a .pre .0) (to .i)
           (c .before .before .before .before .before .before .before .before .before .if1 .left) _ _ _
           (c .before .before .before .before .before .before .before .before .previous .ensures)

@@ -6,8 +6,8 @@ use Rattle.lines.proofs.Feeding.{lent-lengths, not-lent, is-lent, feeds
 use Rattle.lines.proofs.feed.feed.Statement.{statement}
 use Rattle.lines.proofs.feed.feed.Tie as tie
 
-are-lent-requires : tie.Need-are-lent-requires
-are-lent-requires c κs = search needs
+slices-fit-requires : tie.Need-slices-fit-requires
+slices-fit-requires c κs = search needs
 
 same-length : tie.Need-same-length
 same-length c = search needs
@@ -19,18 +19,18 @@ returns : tie.Need-returns
 returns c =
     let a = c .before .before .before .before .before .before .before .args in
     feeds-nothing (now (a .block)) (a .line) (now (a .kept)) (now (a .out))
-    (not-lent (c .before .are-lent .result) (now (a .kept)) (now (a .out)) (c .before .are-lent .ensures) (c .if1 .taken))
+    (not-lent (c .before .slices-fit .result) (now (a .kept)) (now (a .out)) (c .before .slices-fit .ensures) (c .if1 .taken))
 
 take-line-requires : tie.Need-take-line-requires
 take-line-requires c κs =
     let a = c .before .before .before .before .before .before .before .before .args in
-    lent-lengths (now (a .kept)) (now (a .out)) (is-lent (c .before .before .are-lent .result) (now (a .kept)) (now (a .out))
-    (c .before .before .are-lent .ensures) (c .before .if1 .left)) .0
+    lent-lengths (now (a .kept)) (now (a .out)) (is-lent (c .before .before .slices-fit .result) (now (a .kept)) (now (a .out))
+    (c .before .before .slices-fit .ensures) (c .before .if1 .left)) .0
 
 answer-line-requires : tie.Need-answer-line-requires
 answer-line-requires c κs =
     let a = c .before .before .before .before .before .before .before .before .before .before .before .before .before .before .args in
-    let l = c .before .before .before .before .before .before .before .before .are-lent in
+    let l = c .before .before .before .before .before .before .before .before .slices-fit in
     let ready = is-lent (l .result) (now (a .kept)) (now (a .out)) (l .ensures)
     (c .before .before .before .before .before .before .before .if1 .left) in
     lent-lengths (now (a .kept)) (now (a .out)) ready .1
@@ -51,9 +51,9 @@ returns-2 : tie.Need-returns-2
 returns-2 c =
     let a = c .before .before .before .before .before .before .before .before .before .before .before .before .before .before .before
     .before .before .before .args in
-    let ready = is-lent (c .before .before .before .before .before .before .before .before .before .before .before .before .are-lent
+    let ready = is-lent (c .before .before .before .before .before .before .before .before .before .before .before .before .slices-fit
     .result) (now (a .kept)) (now (a .out)) (c .before .before .before .before .before .before .before .before .before .before
-    .before .before .are-lent .ensures) (c .before .before .before .before .before .before .before .before .before .before .before
+    .before .before .slices-fit .ensures) (c .before .before .before .before .before .before .before .before .before .before .before
     .if1 .left) in
     let t = c .before .before .before .before .before .before .before .before .before .take-line in
     let here = c .before .before .before .before .before .before .if2 .taken in
@@ -72,8 +72,8 @@ same-length-6 c = search needs
 returns-3 : tie.Need-returns-3
 returns-3 c =
     let a = c .before .before .before .before .before .before .before .before .before .before .before .before .args in
-    let ready = is-lent (c .before .before .before .before .before .before .are-lent .result) (now (a .kept)) (now (a .out))
-    (c .before .before .before .before .before .before .are-lent .ensures) (c .before .before .before .before .before .if1 .left) in
+    let ready = is-lent (c .before .before .before .before .before .before .slices-fit .result) (now (a .kept)) (now (a .out))
+    (c .before .before .before .before .before .before .slices-fit .ensures) (c .before .before .before .before .before .if1 .left) in
     let t = c .before .before .before .take-line in
     let byte = c .before .before .before .before .before .before .before .before .before .before .slice-known .given in
     let byte′ = c .before .slice-known3 .given in
@@ -84,7 +84,7 @@ pub feed-spec : {M : Type 1} → statement M
 feed-spec =
     tie.close
     (tie.spec
-    are-lent-requires
+    slices-fit-requires
     same-length
     same-length-2
     returns

@@ -43,7 +43,7 @@ returns c =
       stops = λ _. omega arith;
       some =
           λ _. pos-of-ne-zero (λ e. let none = l .inv .2 e in omega (arith, none));
-      free = l .inv .0;
+      kept-length = l .inv .0;
     }
 
 feed-from-requires : tie.Need-feed-from-requires Inv-loop μ-loop
@@ -82,7 +82,7 @@ same-length-4 c = search needs
 returns-2 : tie.Need-returns-2 Inv-loop μ-loop
 returns-2 c =
     let l = c .before .loop in
-    record { within = l .inv .3; prints = l .inv .4; stops = λ h. absurd (omega arith); some = λ h. omega arith; free = l .inv .0 }
+    record { within = l .inv .3; prints = l .inv .4; stops = λ h. absurd (omega arith); some = λ h. omega arith; kept-length = l .inv .0 }
 
 pub feed-lines-spec : {M : Type 1} → statement M
 feed-lines-spec =

@@ -9,8 +9,8 @@ use Rattle.lines.proofs.Feeding.{lent-lengths, not-lent, is-lent, over-
 use Rattle.lines.proofs.feed.finish.Statement.{statement}
 use Rattle.lines.proofs.feed.finish.Tie as tie
 
-are-lent-requires : tie.Need-are-lent-requires
-are-lent-requires c κs = search needs
+slices-fit-requires : tie.Need-slices-fit-requires
+slices-fit-requires c κs = search needs
 
 same-length : tie.Need-same-length
 same-length c = search needs
@@ -18,7 +18,7 @@ same-length c = search needs
 returns : tie.Need-returns
 returns c =
     let a = c .before .before .before .before .before .args in
-    rw (not-lent (c .before .are-lent .result) (now (a .kept)) (now (a .out)) (c .before .are-lent .ensures) (c .if1 .taken))
+    rw (not-lent (c .before .slices-fit .result) (now (a .kept)) (now (a .out)) (c .before .slices-fit .ensures) (c .if1 .taken))
     (refl, (refl, omega arith))
 
 is-not-begun-requires : tie.Need-is-not-begun-requires
@@ -30,7 +30,7 @@ same-length-2 c = search needs
 returns-2 : tie.Need-returns-2
 returns-2 c =
     let a = c .before .before .before .before .before .before .before .args in
-    let l = c .before .before .before .are-lent in
+    let l = c .before .before .before .slices-fit in
     let ready = is-lent (l .result) (now (a .kept)) (now (a .out)) (l .ensures) (c .before .before .if1 .left) in
     rw (ready, ends-not-begun (a .line) (now (a .kept)) (sym (c .before .is-not-begun .ensures) ∙ c .if2 .taken))
     (refl, (refl, omega arith))
@@ -38,7 +38,7 @@ returns-2 c =
 answer-line-requires : tie.Need-answer-line-requires
 answer-line-requires c κs =
     let a = c .before .before .before .before .before .before .before .before .args in
-    let l = c .before .before .before .before .are-lent in
+    let l = c .before .before .before .before .slices-fit in
     let ready = is-lent (l .result) (now (a .kept)) (now (a .out)) (l .ensures) (c .before .before .before .if1 .left) in
     lent-lengths (now (a .kept)) (now (a .out)) ready .1
 
@@ -48,7 +48,7 @@ same-length-3 c = search needs
 returns-3 : tie.Need-returns-3
 returns-3 c =
     let a = c .before .before .before .before .before .before .before .before .before .before .before .args in
-    let l = c .before .before .before .before .before .before .before .are-lent in
+    let l = c .before .before .before .before .before .before .before .slices-fit in
     let ready = is-lent (l .result) (now (a .kept)) (now (a .out)) (l .ensures)
     (c .before .before .before .before .before .before .if1 .left) in
     let byte = c .before .before .before .before .before .before .before .before .before .before .shared-slice-known .given in
@@ -62,7 +62,7 @@ pub finish-spec : {M : Type 1} → statement M
 finish-spec =
     tie.close
     (tie.spec
-    are-lent-requires
+    slices-fit-requires
     same-length
     returns
     is-not-begun-requires

@@ -8,9 +8,9 @@ use borrow.Author.Needs.{needs}
 use Rattle.tile.specs.Ring.{coords}
 use Rattle.tile.proofs.Rings.{length-front}
 use Rattle.sutherland_hodgman.proofs.Growth.{B-le}
-use Rattle.sutherland_hodgman.proofs.Promises.{HeldBounds}
+use Rattle.sutherland_hodgman.proofs.Promises.{FittingBounds}
 use Rattle.sutherland_hodgman.proofs.Stages.{stage-three, stage-last}
-use Rattle.sutherland_hodgman.proofs.Calls.{passes-cuttable, lent-cut, cut-room, cut-clipped, topped-clipped}
+use Rattle.sutherland_hodgman.proofs.Calls.{passes-cuttable, lent-cut, cut-room, cut-clipped, last-pass-clipped}
 use Rattle.sutherland_hodgman.proofs.call.clip_lent.Statement.{statement}
 use Rattle.sutherland_hodgman.proofs.call.clip_lent.Tie as tie
 
@@ -35,7 +35,7 @@ mul-copy c =
     .before .before .before .before .before in
     let s = now (a .args .ring) in
     let p = passes-cuttable _ _ _ _ (a .pre) in
-    let h : HeldBounds (a .args .bounds) = (search needs, search needs, search needs, search needs) in
+    let h : FittingBounds (a .args .bounds) = (search needs, search needs, search needs, search needs) in
     let k = lent-cut s (a .args .bounds) (p .even) _ _ _ _ _ h
     (c .before .before .before .before .before .before .before .before .before .before .before .before .before .before .before
     .before .before .before .before .shared-slice-known .given)
@@ -49,7 +49,7 @@ copy-requires c κs =
     .before .before .before .before .before in
     let s = now (a .args .ring) in
     let p = passes-cuttable _ _ _ _ (a .pre) in
-    let h : HeldBounds (a .args .bounds) = (search needs, search needs, search needs, search needs) in
+    let h : FittingBounds (a .args .bounds) = (search needs, search needs, search needs, search needs) in
     let k = lent-cut s (a .args .bounds) (p .even) _ _ _ _ _ h
     (c .before .before .before .before .before .before .before .before .before .before .before .before .before .before .before
     .before .before .before .before .shared-slice-known .given)
@@ -73,7 +73,7 @@ returns c =
     .before .before .before .before .before .before .before .before in
     let s = now (a .args .ring) in
     let p = passes-cuttable _ _ _ _ (a .pre) in
-    let h : HeldBounds (a .args .bounds) = (search needs, search needs, search needs, search needs) in
+    let h : FittingBounds (a .args .bounds) = (search needs, search needs, search needs, search needs) in
     let k = lent-cut s (a .args .bounds) (p .even) _ _ _ _ _ h
     (c .before .before .before .before .before .before .before .before .before .before .before .before .before .before .before
     .before .before .before .before .before .before .before .shared-slice-known .given)
@@ -105,8 +105,8 @@ returns-2 c =
     let a = c .before .before .before .before .before .before .before .before .before .before .before .before .before .before .before
     .before .before .before in
     let p = passes-cuttable _ _ _ _ (a .pre) in
-    let h : HeldBounds (a .args .bounds) = (search needs, search needs, search needs, search needs) in
-    topped-clipped (now (a .args .ring)) (a .args .bounds) (p .even) _ _ (now (a .args .out)) _ _ h
+    let h : FittingBounds (a .args .bounds) = (search needs, search needs, search needs, search needs) in
+    last-pass-clipped (now (a .args .ring)) (a .args .bounds) (p .even) _ _ (now (a .args .out)) _ _ h
     (c .before .before .before .before .before .before .before .before .before .before .before .before .before .before .before
     .before .before .shared-slice-known .given) (c .before .before .before .before .before .if1 .left)
     (c .before .before .before .before .before .before .before .before .before .before .before .clip-three-edges .ensures)
