@@ -22,7 +22,7 @@ pub fn read_u16(b: &[u8], at: usize) -> u64
     low + 256 * high
 }
 
-fn read_u32(b: &[u8], at: usize) -> u64
+pub fn read_u32(b: &[u8], at: usize) -> u64
     requires { ⌜ at + 4 ≤ length (now b) ⌝ }
     ensures { λ r. ⌜ (r ≡ Bytes.numberOf Bytes.Little (take 4 (drop at (now (b .entry))))) × (r < 2 ^ 32) ⌝ }
 {

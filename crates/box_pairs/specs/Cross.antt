@@ -4,6 +4,7 @@ use lib.Ieee.{Float, binary64, lt, sub, mul, ofBits}
 use Rattle.binary64.specs.Compare.{minimum, maximum, near}
 use Rattle.tile.specs.declared.Coord.{Coord}
 
+-- 0.0
 abbrev pub zero64 : Float
 zero64 = ofBits binary64 0
 

@@ -16,7 +16,7 @@ abbrev pub answerOfReading : Reading Frame → FrameAnswer
 answerOfReading (refused r) = Refused r
 answerOfReading (read f rest) = Answered (length (frameBytes f))
 
--- of a frame's bytes and the output
+-- what a frame call answers, by the frame's bytes and the output as it is lent
 abbrev pub frameCallAnswer : List ℕ → List ℕ → FrameAnswer
 frameCallAnswer frame out = answerOfReading (readCall frame (length out))
 

@@ -31,8 +31,8 @@ module _ (coordinate : Coord → List ℕ) where
   -- "A listed part: index from 0, 2 bytes; 1 byte (2 unchanged, 4 cut, 5 overlay); reason, 1 byte, 0 unless overlay"
   unfoldable pub partBytes : Part → List ℕ
   partBytes part =
-      countBytes (part .index) ++ (told (answerOf (part .outcome)) .number ∷ told (answerOf (part .outcome)) .reason ∷ cutBytes
-      (part .outcome))
+      countBytes (part .index)
+      ++ (told (answerOf (part .outcome)) .number ∷ told (answerOf (part .outcome)) .reason ∷ cutBytes (part .outcome))
 
   -- a whole that is dropped has "guard count 1"
   unfoldable pub answerBytes : Answer → List ℕ
@@ -50,6 +50,6 @@ abbrev pub outputOf : Reading Frame → List ℕ → List ℕ
 outputOf (refused r) out = out
 outputOf (read f rest) out = over (frameBytes f) out
 
--- of a frame's bytes and the output
+-- what the output holds after a frame call, by the frame's bytes and the output as it was lent
 abbrev pub frameCallOutput : List ℕ → List ℕ → List ℕ
 frameCallOutput frame out = outputOf (readCall frame (length out)) out

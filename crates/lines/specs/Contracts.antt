@@ -13,7 +13,7 @@ use Rattle.lines.specs.declared.line.Line.the-variants as KnownLines
 use Rattle.lines.specs.Lines.{newline, digit, isDigit, hexLine, refusalBytes, frameAnswer, notPairsNumber}
 use Rattle.lines.specs.LineStep.{ended, lineLength, lineRoom, Prints}
 
--- a table of these values
+-- a table of the values of all characters as digits
 abbrev pub DigitValues : List ℕ → Type 0
 DigitValues values = (b : ℕ) → b < 256 → getD values b 0 ≡ digit b
 

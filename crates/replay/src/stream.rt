@@ -1,9 +1,11 @@
 // Vectors as they stand on standard input: little-endian numbers, taken from the front. What is not there, or has no room, is said to be
-// missing.
+// missing. No contract speaks of what is read, so the functions that read promise nothing; those on bytes that were read do.
+ghost use mathlib.Core.Path.{_≡_};
 ghost use Prim.Native.Nat.{_+_, _*_, _≤_};
-ghost use lib.ListN.{length};
+ghost use lib.ListN.{length, take, drop};
+ghost use Rattle.binary64.specs.Bytes.{Little, numberOf};
 use binary64::bytes::read_f64;
-use binary64::bytes::read_u16;
+use binary64::bytes::read_u32;
 use binary64::bytes::read_u64;
 use libc::STDIN_FILENO;
 
@@ -35,14 +37,14 @@ pub fn is_at_end() -> bool {
 
 fn whole_at(bytes: &[u8], at: usize) -> u32
     requires { ⌜ at + 4 ≤ length (now bytes) ⌝ }
+    ensures { λ r. ⌜ r ≡ numberOf Little (take 4 (drop at (now (bytes .entry)))) ⌝ }
 {
-    let low = read_u16(bytes, at);
-    let high = read_u16(bytes, at + 2);
-    (low + 65536 * high) as u32
+    read_u32(bytes, at) as u32
 }
 
 pub fn count_at(bytes: &[u8], at: usize) -> usize
     requires { ⌜ at + 4 ≤ length (now bytes) ⌝ }
+    ensures { λ r. ⌜ r ≡ numberOf Little (take 4 (drop at (now (bytes .entry)))) ⌝ }
 {
     whole_at(bytes, at) as usize
 }
