@@ -55,35 +55,6 @@ feed-lines-requires c κs = search needs
 write-out-requires : tie.Need-write-out-requires Inv-loop μ-loop
 write-out-requires c κs = search (needs, c .before .before .before .before .before .feed-lines .ensures .prints .room)
 
-add-from : tie.Need-add-from Inv-loop μ-loop
-add-from c =
-    let block = now (c .before .before .before .before .before .before .before .before .before .before .before .before .before .before
-    .before .before .args .block) in
-    let l = c .before .before .before .before .before .before .before .before .before .before .before .before .loop in
-    search (needs, part-within block (l .from) (l .inv .2) (c .before .before .before .before .before .before .before .feed-lines .ensures))
-
-loop-less : tie.Need-loop-less Inv-loop μ-loop
-loop-less c =
-    let block = now (c .before .before .before .before .before .before .before .before .before .before .before .before .before .before
-    .before .before .args .block) in
-    let l = c .before .before .before .before .before .before .before .before .before .before .before .before .loop in
-    let f = c .before .before .before .before .before .before .before .feed-lines .ensures in
-    let some : 0 < c .before .before .before .before .before .before .before .feed-lines .result .taken = f .some (search needs) in
-    search (needs, some, part-within block (l .from) (l .inv .2) f)
-
-loop-again : tie.Need-loop-again Inv-loop μ-loop
-loop-again c =
-    let a = c .before .before .before .before .before .before .before .before .before .before .before .before .before .before .before
-    .before .args in
-    let block = now (a .block) in
-    let l = c .before .before .before .before .before .before .before .before .before .before .before .before .loop in
-    let f = c .before .before .before .before .before .before .before .feed-lines .ensures in (
-      search needs,
-      search needs,
-      part-within block (l .from) (l .inv .2) f,
-      part-goes-on block (l .from) (l .inv .2) f (a .line) (now (a .kept)) (l .inv .3),
-    )
-
 same-length : tie.Need-same-length Inv-loop μ-loop
 same-length c = search needs
 
@@ -91,7 +62,43 @@ same-length-2 : tie.Need-same-length-2 Inv-loop μ-loop
 same-length-2 c = search needs
 
 returns : tie.Need-returns Inv-loop μ-loop
-returns c =
+returns c = tt
+
+add-from : tie.Need-add-from Inv-loop μ-loop
+add-from c =
+    let fed = c .before .before .before .before .before .before .before .before in
+    let l = fed .before .before .before .before .before .loop in
+    let a = fed .before .before .before .before .before .before .before .before .before .args in
+    search (needs, part-within (now (a .block)) (l .from) (l .inv .2) (fed .feed-lines .ensures))
+
+loop-less : tie.Need-loop-less Inv-loop μ-loop
+loop-less c =
+    let fed = c .before .before .before .before .before .before .before .before in
+    let l = fed .before .before .before .before .before .loop in
+    let a = fed .before .before .before .before .before .before .before .before .before .args in
+    let some : 0 < fed .feed-lines .result .taken = fed .feed-lines .ensures .some (search needs) in
+    search (needs, some, part-within (now (a .block)) (l .from) (l .inv .2) (fed .feed-lines .ensures))
+
+loop-again : tie.Need-loop-again Inv-loop μ-loop
+loop-again c =
+    let fed = c .before .before .before .before .before .before .before .before in
+    let l = fed .before .before .before .before .before .loop in
+    let a = fed .before .before .before .before .before .before .before .before .before .args in
+    let f = fed .feed-lines .ensures in (
+      search needs,
+      search needs,
+      part-within (now (a .block)) (l .from) (l .inv .2) f,
+      part-goes-on (now (a .block)) (l .from) (l .inv .2) f (a .line) (now (a .kept)) (l .inv .3),
+    )
+
+same-length-3 : tie.Need-same-length-3 Inv-loop μ-loop
+same-length-3 c = search needs
+
+same-length-4 : tie.Need-same-length-4 Inv-loop μ-loop
+same-length-4 c = search needs
+
+returns-2 : tie.Need-returns-2 Inv-loop μ-loop
+returns-2 c =
     let a = c .before .before .before .before .before .args in
     let l = c .before .loop in
     rw (take-all (l .from) (now (a .block)) (omega arith)) at (l .inv .3)
@@ -108,9 +115,12 @@ feed-all-spec =
     part-feed-lines-end
     feed-lines-requires
     write-out-requires
+    same-length
+    same-length-2
+    returns
     add-from
     loop-less
     loop-again
-    same-length
-    same-length-2
-    returns)
+    same-length-3
+    same-length-4
+    returns-2)

@@ -20,11 +20,8 @@ loop-holds c = search needs
 read-block-requires : tie.Need-read-block-requires Inv-loop μ-loop
 read-block-requires c κs = search needs
 
-enum-known-next : tie.Need-enum-known-next Inv-loop μ-loop
-enum-known-next c = search needs
-
-enum-told : tie.Need-enum-told Inv-loop μ-loop
-enum-told c = search needs
+enum-known-turn : tie.Need-enum-known-turn Inv-loop μ-loop
+enum-known-turn c = search needs
 
 same-length : tie.Need-same-length Inv-loop μ-loop
 same-length c = search needs
@@ -62,8 +59,7 @@ read-all-spec =
     start-requires
     loop-holds
     read-block-requires
-    enum-known-next
-    enum-told
+    enum-known-turn
     same-length
     same-length-2
     returns

@@ -1,9 +1,9 @@
--- `main` is safe: what `finish` writes has room in the output. Assumes nothing.
+-- `answer_input` is safe: what `finish` writes has room in the output. Assumes nothing.
 use mathlib.Core.Path.{ap}
 use borrow.Author.Needs.{needs}
 use Rattle.lines.specs.LineStep.{bytesWritten}
-use Rattle.ringcut.proofs.main.Statement.{statement}
-use Rattle.ringcut.proofs.main.Tie as tie
+use Rattle.ringcut.proofs.answer_input.Statement.{statement}
+use Rattle.ringcut.proofs.answer_input.Tie as tie
 
 slice-aggregate-read-all : tie.Need-slice-aggregate-read-all
 slice-aggregate-read-all c = search needs
@@ -13,6 +13,9 @@ slice-aggregate-read-all-2 c = search needs
 
 read-all-requires : tie.Need-read-all-requires
 read-all-requires c κs = search needs
+
+enum-known-line : tie.Need-enum-known-line
+enum-known-line c = search needs
 
 slice-aggregate-finish : tie.Need-slice-aggregate-finish
 slice-aggregate-finish c = search needs
@@ -43,13 +46,17 @@ returns c = search needs
 returns-2 : tie.Need-returns-2
 returns-2 c = search needs
 
-pub main-spec : {M : Type 1} → statement M
-main-spec =
+returns-3 : tie.Need-returns-3
+returns-3 c = search needs
+
+pub answer-input-spec : {M : Type 1} → statement M
+answer-input-spec =
     tie.close
     (tie.spec
     slice-aggregate-read-all
     slice-aggregate-read-all-2
     read-all-requires
+    enum-known-line
     slice-aggregate-finish
     slice-aggregate-finish-2
     finish-requires
@@ -58,4 +65,5 @@ main-spec =
     write-out-requires
     enum-told
     returns
-    returns-2)
+    returns-2
+    returns-3)

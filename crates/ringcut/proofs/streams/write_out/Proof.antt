@@ -1,0 +1,78 @@
+-- `write_out` is safe and ends: the turns are counted down, and no more is written than waits. Assumes nothing.
+use Prim.Native.Nat.{_≤_}
+use borrow.Author.Needs.{needs}
+use Rattle.ringcut.proofs.streams.write_out.Statement.{statement}
+use Rattle.ringcut.proofs.streams.write_out.Tie as tie
+
+abbrev Inv-loop : tie.InvT-loop
+Inv-loop out waiting done₀ turns₀ t7 done turns = done ≤ waiting
+
+abbrev μ-loop : tie.MeasureT-loop
+μ-loop out waiting done₀ turns₀ t7 done turns = turns
+
+loop-holds : tie.Need-loop-holds Inv-loop μ-loop
+loop-holds c = search needs
+
+returns : tie.Need-returns Inv-loop μ-loop
+returns c = search needs
+
+sub-left : tie.Need-sub-left Inv-loop μ-loop
+sub-left c = search needs
+
+part-left-start : tie.Need-part-left-start Inv-loop μ-loop
+part-left-start c = search needs
+
+part-left-end : tie.Need-part-left-end Inv-loop μ-loop
+part-left-end c = search needs
+
+write-requires : tie.Need-write-requires Inv-loop μ-loop
+write-requires c κs = search needs
+
+slice-aggregate-is-repeated : tie.Need-slice-aggregate-is-repeated Inv-loop μ-loop
+slice-aggregate-is-repeated c = search needs
+
+is-repeated-requires : tie.Need-is-repeated-requires Inv-loop μ-loop
+is-repeated-requires c κs = search needs
+
+returns-2 : tie.Need-returns-2 Inv-loop μ-loop
+returns-2 c = search needs
+
+count-requires : tie.Need-count-requires Inv-loop μ-loop
+count-requires c κs = search needs
+
+add-done : tie.Need-add-done Inv-loop μ-loop
+add-done c = search needs
+
+sub-turns : tie.Need-sub-turns Inv-loop μ-loop
+sub-turns c = search needs
+
+loop-less : tie.Need-loop-less Inv-loop μ-loop
+loop-less c = search needs
+
+loop-again : tie.Need-loop-again Inv-loop μ-loop
+loop-again c = search needs
+
+returns-3 : tie.Need-returns-3 Inv-loop μ-loop
+returns-3 c = search needs
+
+pub write-out-spec : {M : Type 1} → statement M
+write-out-spec =
+    tie.close
+    (tie.spec
+    Inv-loop
+    μ-loop
+    loop-holds
+    returns
+    sub-left
+    part-left-start
+    part-left-end
+    write-requires
+    slice-aggregate-is-repeated
+    is-repeated-requires
+    returns-2
+    count-requires
+    add-done
+    sub-turns
+    loop-less
+    loop-again
+    returns-3)

@@ -1,0 +1,13 @@
+-- What the program's functions say to each other. Definitions only.
+use mathlib.Core.List.{List}
+use Prim.Native.Nat.{ℕ}
+use Rattle.lines.specs.declared.line.Line.{Line}
+use Rattle.lines.specs.LineStep.{GoesOn}
+use Rattle.ringcut.specs.declared.Turn.{Turn}
+use Rattle.ringcut.specs.declared.Turn.the-variants.{More, Ended, Failed}
+
+-- Where all answers to characters were written, the line that is left goes on from the one before.
+abbrev pub GoesOnIfMore : List ℕ → Line → List ℕ → Turn → List ℕ → Type 0
+GoesOnIfMore characters line kept (More next) kept′ = GoesOn characters line kept next kept′
+GoesOnIfMore characters line kept (Ended next) kept′ = Unit {0}
+GoesOnIfMore characters line kept Failed kept′ = Unit {0}
