@@ -1,4 +1,5 @@
 //! Links the static library: from the folder that RINGCUT_LIB_DIR names, or from where the repository's own build leaves it.
+//! Refuses every target but those that the library is for.
 
 use std::env;
 use std::path::{Path, PathBuf};
@@ -8,10 +9,7 @@ const FOLDER: &str = "RINGCUT_LIB_DIR";
 
 fn main() {
     println!("cargo:rerun-if-env-changed={FOLDER}");
-    let arch = env::var("CARGO_CFG_TARGET_ARCH").unwrap_or_default();
-    if arch != "x86_64" {
-        stop(&format!("the library is for x86-64 programs, and this one is built for {arch}"));
-    }
+    refuse_other_targets();
     let folder = match env::var_os(FOLDER) {
         Some(named) => PathBuf::from(named),
         None => Path::new(&env::var_os("CARGO_MANIFEST_DIR").unwrap()).join("../../target/staticlib"),
@@ -30,6 +28,22 @@ fn main() {
     }
     println!("cargo:rustc-link-search=native={}", folder.display());
     println!("cargo:rustc-link-lib=static=ringcut_calls");
+}
+
+/// Elsewhere a call puts its arguments in other places than where the library reads them, so that a pointer would be any number.
+fn refuse_other_targets() {
+    let cfg = |name: &str| env::var(format!("CARGO_CFG_TARGET_{name}")).unwrap_or_default();
+    let is_x86_64_linux = cfg("ARCH") == "x86_64" && cfg("OS") == "linux" && cfg("POINTER_WIDTH") == "64";
+    let has_sse2 = cfg("FEATURE").split(',').any(|feature| feature == "sse2");
+    // rustc takes this flag with a warning, and no cfg tells that it was given.
+    let is_soft_float = env::var("CARGO_ENCODED_RUSTFLAGS").is_ok_and(|flags| flags.contains("+soft-float"));
+    if !is_x86_64_linux || !has_sse2 || is_soft_float {
+        let target = env::var("TARGET").unwrap_or_default();
+        stop(&format!(
+            "the target {target} is refused: \
+             the library is for x86-64 Linux, with 64-bit pointers and doubles in SSE2 registers"
+        ));
+    }
 }
 
 fn stop(why: &str) -> ! {

@@ -14,11 +14,21 @@
 //! writes nothing where it leaves a buffer as it was, so the bits of a NaN stay there too: the tests see that, and no
 //! contract says it.
 //!
+//! It is for x86-64 Linux, with 64-bit pointers and doubles in SSE2 registers; a build for another target is refused.
+//!
 //! The functions here panic only if the library answers what its contract rules out, which is proved not to happen: a panic
 //! says that another library was linked.
 
 #![no_std]
 #![warn(missing_docs)]
+
+// build.rs refuses other targets by name, but rustc alone, without cargo, runs no build.rs. That the flag +soft-float was given
+// no cfg tells: rustc itself warns of it.
+#[cfg(not(all(target_arch = "x86_64", target_os = "linux", target_pointer_width = "64", target_feature = "sse2")))]
+compile_error!(
+    "ringcut: this target is refused: \
+     the library is for x86-64 Linux, with 64-bit pointers and doubles in SSE2 registers"
+);
 
 mod answer;
 pub mod raw;

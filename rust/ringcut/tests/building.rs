@@ -1,0 +1,104 @@
+//! What cargo and rustc say of the crate where it can't be linked: for other targets.
+
+use std::fs;
+use std::path::{Path, PathBuf};
+use std::process::Command;
+
+/// What stands in the message of build.rs, and in that of src/lib.rs.
+const WHAT_FOR: &str = "the library is for x86-64 Linux, with 64-bit pointers and doubles in SSE2 registers";
+
+const TAKEN: [&str; 2] = ["x86_64-unknown-linux-gnu", "x86_64-unknown-linux-musl"];
+const REFUSED: [&str; 6] = [
+    "x86_64-unknown-none",
+    "x86_64-unknown-linux-gnux32",
+    "aarch64-unknown-linux-gnu",
+    "x86_64-pc-windows-gnu",
+    "x86_64-apple-darwin",
+    "i686-unknown-linux-gnu",
+];
+
+/// A new folder for one test. The blanks in its name are there to be met.
+fn new_folder(name: &str) -> PathBuf {
+    let folder = Path::new(env!("CARGO_TARGET_TMPDIR")).join(name);
+    if folder.exists() {
+        fs::remove_dir_all(&folder).unwrap();
+    }
+    fs::create_dir_all(&folder).unwrap();
+    folder
+}
+
+/// A command of cargo's, as it is where the caller has set nothing, with the folder that it builds in.
+fn cargo(command: &str, built: &Path) -> Command {
+    let mut cargo = Command::new(env!("CARGO"));
+    cargo.args([command, "--offline", "--manifest-path", concat!(env!("CARGO_MANIFEST_DIR"), "/Cargo.toml")]);
+    cargo.arg("--target-dir").arg(built);
+    for name in ["RINGCUT_LIB_DIR", "RUSTFLAGS", "CARGO_ENCODED_RUSTFLAGS", "CARGO_BUILD_TARGET"] {
+        cargo.env_remove(name);
+    }
+    cargo
+}
+
+/// Whether the command succeeds, and what it prints to standard error.
+fn run(command: &mut Command) -> (bool, String) {
+    let output = command.output().unwrap();
+    (output.status.success(), String::from_utf8(output.stderr).unwrap())
+}
+
+fn assert_fails(command: &mut Command, sentence: &str) {
+    let (succeeds, said) = run(command);
+    assert!(!succeeds && said.contains(sentence), "{command:?} does not fail with {sentence:?}:\n{said}");
+}
+
+/// A build script runs before its crate is compiled: so no target has to be installed.
+#[test]
+fn other_targets_are_refused_by_name() {
+    let built = new_folder("other targets");
+    for target in REFUSED {
+        let sentence = format!("ringcut: the target {target} is refused: {WHAT_FOR}\n");
+        assert_fails(cargo("check", &built).args(["--target", target]), &sentence);
+    }
+    for target in TAKEN {
+        // It fails where the target is not installed, but not by the build script.
+        let (_, said) = run(cargo("check", &built).args(["--target", target]));
+        assert!(!said.contains("refused"), "{said}");
+    }
+}
+
+/// The flags move doubles to other registers, or leave none for them.
+#[test]
+fn flags_that_move_doubles_are_refused() {
+    let built = new_folder("other flags");
+    let target = TAKEN[0];
+    let sentence = format!("ringcut: the target {target} is refused: {WHAT_FOR}\n");
+    for flag in ["-sse2", "+soft-float"] {
+        let flags = format!("-C target-feature={flag}");
+        assert_fails(cargo("check", &built).args(["--target", target]).env("RUSTFLAGS", flags), &sentence);
+    }
+}
+
+/// Of other targets rustc alone says that their `core` is not installed, before it reads the crate. Without SSE2 it reads it.
+#[test]
+fn rustc_by_hand_is_refused_too() {
+    let mut rustc = Command::new("rustc");
+    rustc.args(["--edition", "2021", "--crate-type", "lib", "--crate-name", "ringcut", "--emit", "metadata"]);
+    rustc.arg("--out-dir").arg(new_folder("by hand without sse2"));
+    rustc.args(["-C", "target-feature=-sse2", concat!(env!("CARGO_MANIFEST_DIR"), "/src/lib.rs")]);
+    assert_fails(&mut rustc, &format!("ringcut: this target is refused: {WHAT_FOR}\n"));
+}
+
+/// So what src/lib.rs asks of a target is held to what rustc says of each.
+#[test]
+fn the_source_asks_what_tells_the_targets_apart() {
+    let source = include_str!("../src/lib.rs");
+    let (_, guard) = source.split_once("#[cfg(not(all(").unwrap();
+    let (conditions, _) = guard.split_once(")))]\ncompile_error!").unwrap();
+    let conditions: Vec<String> = conditions.split(',').map(|condition| condition.replace(' ', "")).collect();
+    let is_taken = |target: &str| {
+        let output = Command::new("rustc").args(["--print", "cfg", "--target", target]).output().unwrap();
+        let cfg = String::from_utf8(output.stdout).unwrap();
+        assert!(output.status.success());
+        conditions.iter().all(|condition| cfg.lines().any(|line| line == condition))
+    };
+    assert_eq!(TAKEN.map(is_taken), [true; TAKEN.len()]);
+    assert_eq!(REFUSED.map(is_taken), [false; REFUSED.len()]);
+}
