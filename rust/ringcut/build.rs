@@ -10,24 +10,15 @@ const FOLDER: &str = "RINGCUT_LIB_DIR";
 fn main() {
     println!("cargo:rerun-if-env-changed={FOLDER}");
     refuse_other_targets();
-    let folder = match env::var_os(FOLDER) {
-        Some(named) => PathBuf::from(named),
-        None => Path::new(&env::var_os("CARGO_MANIFEST_DIR").unwrap()).join("../../target/staticlib"),
-    };
-    // A build script runs in its crate's folder, so a relative path would not mean what it meant to whoever set it.
-    if folder.is_relative() {
-        stop(&format!("{FOLDER} is {}: give the folder's full path", folder.display()));
-    }
+    let folder = folder();
     let archive = folder.join("libringcut_calls.a");
     println!("cargo:rerun-if-changed={}", archive.display());
-    if !archive.is_file() {
-        stop(&format!(
-            "{} is missing: build it with `rt staticlib ringcut_calls`, or set {FOLDER} to the full path of its folder",
-            archive.display()
-        ));
+    if archive.is_file() {
+        println!("cargo:rustc-link-search=native={}", folder.display());
+        println!("cargo:rustc-link-lib=static=ringcut_calls");
+    } else {
+        ask_for(&archive);
     }
-    println!("cargo:rustc-link-search=native={}", folder.display());
-    println!("cargo:rustc-link-lib=static=ringcut_calls");
 }
 
 /// Elsewhere a call puts its arguments in other places than where the library reads them, so that a pointer would be any number.
@@ -44,6 +35,34 @@ fn refuse_other_targets() {
              the library is for x86-64 Linux, with 64-bit pointers and doubles in SSE2 registers"
         ));
     }
+}
+
+fn folder() -> PathBuf {
+    let Some(named) = env::var_os(FOLDER).map(PathBuf::from) else {
+        return Path::new(&env::var_os("CARGO_MANIFEST_DIR").unwrap()).join("../../target/staticlib");
+    };
+    if named.as_os_str().is_empty() {
+        stop(&format!("{FOLDER} is empty: give the full path of the library's folder, or unset it"));
+    }
+    // A build script runs in its crate's folder, so a relative path would not mean what it meant to whoever set it.
+    if named.is_relative() {
+        stop(&format!("{FOLDER} is {}: give the folder's full path", named.display()));
+    }
+    named
+}
+
+/// Has rustc stop with a sentence once it needs the missing library. `cargo check` and `cargo doc` don't need it, and a build
+/// script can't tell them from `cargo build`: so the sentence is given as the name of a library, which rustc will not find.
+fn ask_for(archive: &Path) {
+    let sentence = format!(
+        "{} (build it with 'rt staticlib ringcut_calls', or set {FOLDER} to the full path of its folder)",
+        archive.display()
+    );
+    // In the name of a library a colon means something else to rustc.
+    if sentence.contains(':') {
+        stop(&format!("could not find {sentence}"));
+    }
+    println!("cargo:rustc-link-lib=static:+verbatim={sentence}");
 }
 
 fn stop(why: &str) -> ! {

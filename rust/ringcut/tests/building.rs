@@ -1,5 +1,7 @@
-//! What cargo and rustc say of the crate where it can't be linked: for other targets.
+//! What cargo and rustc say of the crate where it can't be linked: for other targets, without the library, and where
+//! RINGCUT_LIB_DIR names no folder.
 
+use std::ffi::OsStr;
 use std::fs;
 use std::path::{Path, PathBuf};
 use std::process::Command;
@@ -47,6 +49,11 @@ fn run(command: &mut Command) -> (bool, String) {
 fn assert_fails(command: &mut Command, sentence: &str) {
     let (succeeds, said) = run(command);
     assert!(!succeeds && said.contains(sentence), "{command:?} does not fail with {sentence:?}:\n{said}");
+}
+
+fn assert_succeeds(command: &mut Command) {
+    let (succeeds, said) = run(command);
+    assert!(succeeds && !said.contains("warning"), "{command:?} fails or warns:\n{said}");
 }
 
 /// A build script runs before its crate is compiled: so no target has to be installed.
@@ -101,4 +108,47 @@ fn the_source_asks_what_tells_the_targets_apart() {
     };
     assert_eq!(TAKEN.map(is_taken), [true; TAKEN.len()]);
     assert_eq!(REFUSED.map(is_taken), [false; REFUSED.len()]);
+}
+
+#[test]
+fn only_a_build_needs_the_library() {
+    let (built, folder) = (new_folder("without the library"), new_folder("no library"));
+    let archive = folder.join("libringcut_calls.a");
+    let cargo = |command: &str| {
+        let mut cargo = cargo(command, &built);
+        cargo.env("RINGCUT_LIB_DIR", &folder);
+        cargo
+    };
+    assert_succeeds(&mut cargo("check"));
+    assert_succeeds(&mut cargo("doc"));
+    let sentence = format!(
+        "{} (build it with 'rt staticlib ringcut_calls', or set RINGCUT_LIB_DIR to the full path of its folder)",
+        archive.display()
+    );
+    assert_fails(&mut cargo("build"), &format!("error: could not find native static library `{sentence}`"));
+    // Here rustc or the linker says it, whichever comes first.
+    assert_fails(cargo("test").arg("--no-run"), &sentence);
+    // An archive of nothing: what it holds is looked at where a program is linked.
+    fs::write(&archive, "!<arch>\n").unwrap();
+    assert_succeeds(&mut cargo("build"));
+    fs::remove_file(&archive).unwrap();
+    assert_fails(&mut cargo("build"), &sentence);
+    assert_succeeds(&mut cargo("check"));
+}
+
+#[test]
+fn the_folder_is_named_by_its_full_path() {
+    let built = new_folder("folders");
+    let without_library = new_folder("a:colon");
+    let missing = format!("ringcut: could not find {}/libringcut_calls.a (build it with", without_library.display());
+    for (named, sentence) in [
+        (
+            OsStr::new(""),
+            "ringcut: RINGCUT_LIB_DIR is empty: give the full path of the library's folder, or unset it\n",
+        ),
+        (OsStr::new("target/staticlib"), "ringcut: RINGCUT_LIB_DIR is target/staticlib: give the folder's full path\n"),
+        (without_library.as_os_str(), &missing),
+    ] {
+        assert_fails(cargo("check", &built).env("RINGCUT_LIB_DIR", named), sentence);
+    }
 }
