@@ -64,8 +64,10 @@ extern "C" {
  * if cut, ring count and rings as in a frame. NaN is written with bits 7ff8000000000000.
  *
  * out needs 5 bytes and, for each part, 6, 2 for each ring and 16 * RINGCUT_ROOM of its coordinates. A ring whose last
- * coordinate doesn't equal its first is closed, which makes one more; a NaN equals nothing. The call keeps up to 100 KiB on
- * the stack.
+ * coordinate doesn't equal its first is closed, which makes one more; a NaN equals nothing.
+ *
+ * Every frame of 44 to 5,120 bytes takes about 64 KiB of the stack, however few its coordinates, and refused or not; 100 KiB
+ * are enough. For the other calls 4 KiB are.
  */
 int64_t ringcut_frame(const uint8_t *frame, size_t frame_len, uint8_t *out, size_t out_len);
 

@@ -98,7 +98,10 @@ pub struct PolygonBuffers<'a> {
 /// Cuts the frame's polygon or multipolygon and answers how many bytes of `out` the answer takes.
 ///
 /// `out` needs 5 bytes and, for each part, 6, 2 for each ring and 16 × [`room_for_ring`] of its coordinates, the closing one
-/// counted; [`MOST_FRAME_OUTPUT`] bytes are always enough. The call keeps up to 100 KiB on the stack.
+/// counted; [`MOST_FRAME_OUTPUT`] bytes are always enough.
+///
+/// Every frame of 44 to 5,120 bytes takes about 64 KiB of the stack, however few its coordinates, and refused or not; 100 KiB
+/// are enough.
 ///
 /// A frame, numbers little-endian: kind, 1 byte (3 polygon, 6 multipolygon); flags, 1 byte (1 `assume_simple`,
 /// 2 `skip_boundary_fallback`, summed); west, south, east, north and buffer, 8 bytes each; part count, 2 bytes. Each part:
