@@ -1,6 +1,6 @@
 /*
- * The C interface of the static library libringcut_calls.a, which cuts licence areas to a map tile. It is for x86-64 programs,
- * and needs no other library: of C's own it uses functions such as memset.
+ * The C interface of the static library libringcut_calls.a, which cuts licence areas to a map tile. It is for x86-64 Linux, and
+ * needs no other library: of C's own it uses functions such as memset.
  *
  * What every call answers. A count or a code from 0 up, or minus the number of a refusal:
  *
@@ -35,6 +35,11 @@
 
 #ifndef RINGCUT_H
 #define RINGCUT_H
+
+/* Elsewhere a call puts its arguments in other places than where the library reads them, so that a pointer would be any number. */
+#if !defined(__linux__) || !defined(__x86_64__) || !defined(__LP64__) || !defined(__SSE2__)
+#error "ringcut.h: this target is refused: the library is for x86-64 Linux, with 64-bit pointers and doubles in SSE2 registers"
+#endif
 
 #include <stddef.h>
 #include <stdint.h>
