@@ -1,8 +1,9 @@
 // Reads frames from standard input, one a line in hexadecimal, and prints each answer as a line on standard output. Proved: in `lines`,
 // which bytes are to be printed; and here, that the line which `feed_all` answers for a block goes on from the one that it was given. No
 // contract speaks of what is read or written, so not proved: that all of the input is read, in order, that the next block is fed with that
-// line and with `kept` as it was left, that the bytes made are those written, once and in order, and that the last line is finished. The
-// first read or write that fails ends the work and is told on standard error; a line that a failed read cut off gets no answer.
+// line and with `kept` as it was left, that the bytes made are those written, once and in order, and that the last line is finished; nor
+// that the first read or write that fails ends the work and is told on standard error (rust/program tests it). A line that a failed read
+// cut off gets no answer: it is not the line that was sent.
 mod streams;
 
 ghost use Prim.Native.Nat.{_≤_};
@@ -17,8 +18,8 @@ use lines::feed::feed_lines;
 use lines::feed::finish;
 use lines::feed::start;
 use lines::line::Line;
-use streams::is_repeated;
 use streams::say;
+use streams::try_again;
 use streams::write_out;
 
 // Room for the longest line, and for some answers that wait to be written: a write for each would cost more than the answer.
@@ -58,7 +59,7 @@ fn read_block(line: Line, kept: &mut [u8], out: &mut [u8]) -> Turn
         return Turn::Ended(line);
     }
     if got < 0 {
-        if is_repeated(b"ringcut: stopped, standard input can't be read") {
+        if try_again(b"ringcut: stopped, standard input can't be read") {
             return Turn::More(line);
         }
         return Turn::Failed;

@@ -25,9 +25,9 @@ fn wait_a_millisecond() {
     libc::nanosleep(&asked, &mut left);
 }
 
-// Whether the call that has just failed is to be made again: a signal came before it moved a byte, or the descriptor is one that does not
-// wait, and was not ready. Where not, `failed` is told with the system's reason.
-pub fn is_repeated(failed: &[u8]) -> bool {
+// Whether to make the call again that has just failed: a signal came before it moved a byte, or the descriptor is one that does not wait,
+// and was not ready. If not, `failed` is told with the system's reason.
+pub fn try_again(failed: &[u8]) -> bool {
     let error = os::errno();
     if error == EINTR {
         return true;
@@ -54,7 +54,7 @@ pub fn write_out(out: &[u8], waiting: usize) -> bool
         let left = &out[done..waiting];
         let put = libc::write(STDOUT_FILENO, left);
         if put <= 0 {
-            if !is_repeated(b"ringcut: stopped, standard output can't be written") {
+            if !try_again(b"ringcut: stopped, standard output can't be written") {
                 return false;
             }
         }

@@ -28,11 +28,11 @@ part-left-end c = search needs
 write-requires : tie.Need-write-requires Inv-loop μ-loop
 write-requires c κs = search needs
 
-slice-aggregate-is-repeated : tie.Need-slice-aggregate-is-repeated Inv-loop μ-loop
-slice-aggregate-is-repeated c = search needs
+slice-aggregate-try-again : tie.Need-slice-aggregate-try-again Inv-loop μ-loop
+slice-aggregate-try-again c = search needs
 
-is-repeated-requires : tie.Need-is-repeated-requires Inv-loop μ-loop
-is-repeated-requires c κs = search needs
+try-again-requires : tie.Need-try-again-requires Inv-loop μ-loop
+try-again-requires c κs = search needs
 
 returns-2 : tie.Need-returns-2 Inv-loop μ-loop
 returns-2 c = search needs
@@ -67,8 +67,8 @@ write-out-spec =
     part-left-start
     part-left-end
     write-requires
-    slice-aggregate-is-repeated
-    is-repeated-requires
+    slice-aggregate-try-again
+    try-again-requires
     returns-2
     count-requires
     add-done
