@@ -18,7 +18,9 @@ use lines::feed::feed_lines;
 use lines::feed::finish;
 use lines::feed::start;
 use lines::line::Line;
+use streams::close_out;
 use streams::say;
+use streams::tell;
 use streams::try_again;
 use streams::write_out;
 
@@ -59,9 +61,10 @@ fn read_block(line: Line, kept: &mut [u8], out: &mut [u8]) -> Turn
         return Turn::Ended(line);
     }
     if got < 0 {
-        if try_again(b"ringcut: stopped, standard input can't be read") {
+        if try_again() {
             return Turn::More(line);
         }
+        tell(b"ringcut: stopped, standard input can't be read");
         return Turn::Failed;
     }
     let n = io::count(got, &block);
@@ -91,7 +94,9 @@ fn answer_input() {
     if let Turn::Ended(line) = read_all(&mut kept, &mut out) {
         // Both slices are as long as `finish` asks, so it never answers that one is too short.
         if let Finished::Wrote(waiting) = finish(line, &kept, &mut out) {
-            write_out(&out, waiting);
+            if write_out(&out, waiting) {
+                close_out();
+            }
         }
     }
 }

@@ -37,6 +37,9 @@ write-out-requires c κs =
     let k = c .before .before .waiting .given in
     search (needs, ap bytesWritten (k .1), c .before .before .before .before .before .finish .ensures .1 .1)
 
+close-out-requires : tie.Need-close-out-requires
+close-out-requires c κs = search needs
+
 enum-told : tie.Need-enum-told
 enum-told c = search needs
 
@@ -48,6 +51,9 @@ returns-2 c = search needs
 
 returns-3 : tie.Need-returns-3
 returns-3 c = search needs
+
+returns-4 : tie.Need-returns-4
+returns-4 c = search needs
 
 pub answer-input-spec : {M : Type 1} → statement M
 answer-input-spec =
@@ -63,7 +69,9 @@ answer-input-spec =
     enum-known-waiting
     slice-aggregate-write-out
     write-out-requires
+    close-out-requires
     enum-told
     returns
     returns-2
-    returns-3)
+    returns-3
+    returns-4)

@@ -1,78 +1,36 @@
--- `write_out` is safe and ends: the turns are counted down, and no more is written than waits. Assumes nothing.
-use Prim.Native.Nat.{_≤_}
+-- `write_out` is safe: as many bytes are lent as there are. Assumes nothing.
+use mathlib.Core.Path.{sym}
+use native.Mathlib.Omega.{arith}
+use lib.Seq.{length-take-le}
 use borrow.Author.Needs.{needs}
 use Rattle.ringcut.proofs.streams.write_out.Statement.{statement}
 use Rattle.ringcut.proofs.streams.write_out.Tie as tie
 
-abbrev Inv-loop : tie.InvT-loop
-Inv-loop out waiting done₀ turns₀ t7 done turns = done ≤ waiting
+slice-aggregate-write-to : tie.Need-slice-aggregate-write-to
+slice-aggregate-write-to c = sym (length-take-le _ _ (omega arith))
 
-abbrev μ-loop : tie.MeasureT-loop
-μ-loop out waiting done₀ turns₀ t7 done turns = turns
+write-to-requires : tie.Need-write-to-requires
+write-to-requires c κs = search needs
 
-loop-holds : tie.Need-loop-holds Inv-loop μ-loop
-loop-holds c = search needs
+slice-aggregate-tell : tie.Need-slice-aggregate-tell
+slice-aggregate-tell c = search needs
 
-returns : tie.Need-returns Inv-loop μ-loop
+tell-requires : tie.Need-tell-requires
+tell-requires c κs = search needs
+
+returns : tie.Need-returns
 returns c = search needs
 
-sub-left : tie.Need-sub-left Inv-loop μ-loop
-sub-left c = search needs
-
-part-left-start : tie.Need-part-left-start Inv-loop μ-loop
-part-left-start c = search needs
-
-part-left-end : tie.Need-part-left-end Inv-loop μ-loop
-part-left-end c = search needs
-
-write-requires : tie.Need-write-requires Inv-loop μ-loop
-write-requires c κs = search needs
-
-slice-aggregate-try-again : tie.Need-slice-aggregate-try-again Inv-loop μ-loop
-slice-aggregate-try-again c = search needs
-
-try-again-requires : tie.Need-try-again-requires Inv-loop μ-loop
-try-again-requires c κs = search needs
-
-returns-2 : tie.Need-returns-2 Inv-loop μ-loop
+returns-2 : tie.Need-returns-2
 returns-2 c = search needs
-
-count-requires : tie.Need-count-requires Inv-loop μ-loop
-count-requires c κs = search needs
-
-add-done : tie.Need-add-done Inv-loop μ-loop
-add-done c = search needs
-
-sub-turns : tie.Need-sub-turns Inv-loop μ-loop
-sub-turns c = search needs
-
-loop-less : tie.Need-loop-less Inv-loop μ-loop
-loop-less c = search needs
-
-loop-again : tie.Need-loop-again Inv-loop μ-loop
-loop-again c = search needs
-
-returns-3 : tie.Need-returns-3 Inv-loop μ-loop
-returns-3 c = search needs
 
 pub write-out-spec : {M : Type 1} → statement M
 write-out-spec =
     tie.close
     (tie.spec
-    Inv-loop
-    μ-loop
-    loop-holds
+    slice-aggregate-write-to
+    write-to-requires
+    slice-aggregate-tell
+    tell-requires
     returns
-    sub-left
-    part-left-start
-    part-left-end
-    write-requires
-    slice-aggregate-try-again
-    try-again-requires
-    returns-2
-    count-requires
-    add-done
-    sub-turns
-    loop-less
-    loop-again
-    returns-3)
+    returns-2)
