@@ -72,7 +72,7 @@ extern "C" {
  * coordinate doesn't equal its first is closed, which makes one more; a NaN equals nothing.
  *
  * Every frame of 44 to 5,120 bytes takes about 64 KiB of the stack, however few its coordinates, and refused or not; 100 KiB
- * are enough. For the other calls 4 KiB are.
+ * are enough. For the other calls 8 KiB are.
  */
 int64_t ringcut_frame(const uint8_t *frame, size_t frame_len, uint8_t *out, size_t out_len);
 

@@ -28,13 +28,17 @@ fn refuse_other_targets() {
     let has_sse2 = cfg("FEATURE").split(',').any(|feature| feature == "sse2");
     // rustc takes this flag with a warning, and no cfg tells that it was given.
     let is_soft_float = env::var("CARGO_ENCODED_RUSTFLAGS").is_ok_and(|flags| flags.contains("+soft-float"));
-    if !is_x86_64_linux || !has_sse2 || is_soft_float {
-        let target = env::var("TARGET").unwrap_or_default();
-        stop(&format!(
-            "the target {target} is refused: \
-             the library is for x86-64 Linux, with 64-bit pointers and doubles in SSE2 registers"
-        ));
-    }
+    let but_for = match (is_x86_64_linux, has_sse2, is_soft_float) {
+        (true, true, false) => return,
+        (true, true, true) => " with +soft-float",
+        (true, false, _) => " without SSE2",
+        (false, _, _) => "",
+    };
+    let target = env::var("TARGET").unwrap_or_default();
+    stop(&format!(
+        "the target {target}{but_for} is refused: \
+         the library is for x86-64 Linux, with 64-bit pointers and doubles in SSE2 registers"
+    ));
 }
 
 fn folder() -> PathBuf {
@@ -47,6 +51,10 @@ fn folder() -> PathBuf {
     // A build script runs in its crate's folder, so a relative path would not mean what it meant to whoever set it.
     if named.is_relative() {
         stop(&format!("{FOLDER} is {}: give the folder's full path", named.display()));
+    }
+    // What a build script says to cargo is a line of UTF-8.
+    if !named.to_str().is_some_and(|path| !path.contains('\n')) {
+        stop(&format!("{FOLDER} is {}: cargo takes a path that is one line of UTF-8", named.display()));
     }
     named
 }

@@ -6,7 +6,7 @@ use Rattle.lines.specs.LineStep.{GoesOn}
 use Rattle.ringcut.specs.declared.Turn.{Turn}
 use Rattle.ringcut.specs.declared.Turn.the-variants.{More, Ended, Failed}
 
--- Where all answers to characters were written, the line that is left goes on from the one before.
+-- After characters of the input: if there is more to read, the line that is left goes on from the one before.
 abbrev pub GoesOnIfMore : List ℕ → Line → List ℕ → Turn → List ℕ → Type 0
 GoesOnIfMore characters line kept (More next) kept′ = GoesOn characters line kept next kept′
 GoesOnIfMore characters line kept (Ended next) kept′ = Unit {0}

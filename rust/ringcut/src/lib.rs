@@ -22,8 +22,8 @@
 #![no_std]
 #![warn(missing_docs)]
 
-// build.rs refuses other targets by name, but rustc alone, without cargo, runs no build.rs. That the flag +soft-float was given
-// no cfg tells: rustc itself warns of it.
+// build.rs refuses other targets by name, but rustc alone, without cargo, runs no build.rs. It sets no cfg for its flag
+// +soft-float, and warns of it instead.
 #[cfg(not(all(target_arch = "x86_64", target_os = "linux", target_pointer_width = "64", target_feature = "sse2")))]
 compile_error!(
     "ringcut: this target is refused: \

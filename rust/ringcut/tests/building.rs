@@ -3,6 +3,7 @@
 
 use std::ffi::OsStr;
 use std::fs;
+use std::os::unix::ffi::OsStrExt;
 use std::path::{Path, PathBuf};
 use std::process::Command;
 
@@ -32,7 +33,8 @@ fn new_folder(name: &str) -> PathBuf {
 /// A command of cargo's, as it is where the caller has set nothing, with the folder that it builds in.
 fn cargo(command: &str, built: &Path) -> Command {
     let mut cargo = Command::new(env!("CARGO"));
-    cargo.args([command, "--offline", "--manifest-path", concat!(env!("CARGO_MANIFEST_DIR"), "/Cargo.toml")]);
+    cargo.args([command, "--offline", "--color", "never"]);
+    cargo.args(["--manifest-path", concat!(env!("CARGO_MANIFEST_DIR"), "/Cargo.toml")]);
     cargo.arg("--target-dir").arg(built);
     for name in ["RINGCUT_LIB_DIR", "RUSTFLAGS", "CARGO_ENCODED_RUSTFLAGS", "CARGO_BUILD_TARGET"] {
         cargo.env_remove(name);
@@ -71,15 +73,22 @@ fn other_targets_are_refused_by_name() {
     }
 }
 
+/// Whether rustc takes a flag that moves doubles: it warns of those, and says that it will refuse them.
+fn is_taken_by_rustc(flag: &str) -> bool {
+    let target_feature = format!("target-feature={flag}");
+    Command::new("rustc").args(["--print", "cfg", "-C", &target_feature]).output().unwrap().status.success()
+}
+
 /// The flags move doubles to other registers, or leave none for them.
 #[test]
 fn flags_that_move_doubles_are_refused() {
     let built = new_folder("other flags");
     let target = TAKEN[0];
-    let sentence = format!("ringcut: the target {target} is refused: {WHAT_FOR}\n");
-    for flag in ["-sse2", "+soft-float"] {
+    for (flag, but_for) in [("-sse2", "without SSE2"), ("+soft-float", "with +soft-float")] {
         let flags = format!("-C target-feature={flag}");
-        assert_fails(cargo("check", &built).args(["--target", target]).env("RUSTFLAGS", flags), &sentence);
+        let sentence = format!("ringcut: the target {target} {but_for} is refused: {WHAT_FOR}\n");
+        let sentence = if is_taken_by_rustc(flag) { &sentence } else { "error" };
+        assert_fails(cargo("check", &built).args(["--target", target]).env("RUSTFLAGS", flags), sentence);
     }
 }
 
@@ -90,7 +99,8 @@ fn rustc_by_hand_is_refused_too() {
     rustc.args(["--edition", "2021", "--crate-type", "lib", "--crate-name", "ringcut", "--emit", "metadata"]);
     rustc.arg("--out-dir").arg(new_folder("by hand without sse2"));
     rustc.args(["-C", "target-feature=-sse2", concat!(env!("CARGO_MANIFEST_DIR"), "/src/lib.rs")]);
-    assert_fails(&mut rustc, &format!("ringcut: this target is refused: {WHAT_FOR}\n"));
+    let sentence = format!("ringcut: this target is refused: {WHAT_FOR}\n");
+    assert_fails(&mut rustc, if is_taken_by_rustc("-sse2") { &sentence } else { "error" });
 }
 
 /// So what src/lib.rs asks of a target is held to what rustc says of each.
@@ -147,6 +157,11 @@ fn the_folder_is_named_by_its_full_path() {
             "ringcut: RINGCUT_LIB_DIR is empty: give the full path of the library's folder, or unset it\n",
         ),
         (OsStr::new("target/staticlib"), "ringcut: RINGCUT_LIB_DIR is target/staticlib: give the folder's full path\n"),
+        (OsStr::new("/a\nb"), "ringcut: RINGCUT_LIB_DIR is /a\n  b: cargo takes a path that is one line of UTF-8\n"),
+        (
+            OsStr::from_bytes(b"/\xff"),
+            "ringcut: RINGCUT_LIB_DIR is /\u{fffd}: cargo takes a path that is one line of UTF-8\n",
+        ),
         (without_library.as_os_str(), &missing),
     ] {
         assert_fails(cargo("check", &built).env("RINGCUT_LIB_DIR", named), sentence);
