@@ -61,14 +61,16 @@ pub fn say(text: &[u8]) {
     write_to(STDERR_FILENO, text);
 }
 
-// Tells what failed, with the system's reason: that of the last call that failed, so none is given where it was a write of this line.
+// Tells what failed, with the system's reason. That is the reason of the last call that failed: so where it was a write of this line, the
+// line is ended without; at worst an empty line follows.
 pub fn tell(failed: &[u8]) {
     let error = os::errno();
     say(failed);
     if os::errno() == error {
-        // It writes a colon, the reason and the line's end behind what it is given.
+        // Behind what it is given it writes a colon, the reason and the line's end, each once.
         os::fail(b"");
-    } else {
+    }
+    if os::errno() != error {
         say(b"\n");
     }
 }

@@ -79,7 +79,9 @@ fn what_was_written_before_a_failure_is_whole_up_to_there() {
 
 #[test]
 fn a_last_line_without_newline_is_told_too() {
-    let run = ended(ringcut_by("printf 03 | \"$0\" >/dev/full").spawn().unwrap()).unwrap();
+    let mut child = ringcut().stdin(Stdio::piped()).stdout(full_device()).spawn().unwrap();
+    child.stdin.take().unwrap().write_all(b"03").unwrap();
+    let run = ended(child).unwrap();
     assert_eq!(run.err, "ringcut: stopped, standard output can't be written: No space left on device\n");
 }
 
@@ -140,9 +142,9 @@ fn a_slow_reader_of_a_pipe_that_does_not_wait_gets_every_answer() {
     let feeding = spawn(move || input.write_all(example("frames.hex").repeat(TIMES).as_bytes()));
     let answers = read_slowly(reader);
     let run = ended(child).unwrap();
+    assert_eq!(run.err, "");
     feeding.join().unwrap().unwrap();
     let answers = answers.join().unwrap();
-    assert_eq!(run.err, "");
     assert!(answers == example("answers.hex").repeat(TIMES), "{} bytes of answers", answers.len());
 }
 
