@@ -7,4 +7,5 @@ pub mod Offered
 mod Promises
 mod Stages
 mod Turns
+mod Verdicts
 mod Walking

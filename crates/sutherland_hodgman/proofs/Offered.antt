@@ -49,6 +49,10 @@ B-at-most (suc n) =
     let c = halfGrowth b in
     omega (arith, growth.halfGrowth-le (suc n), growth.halfGrowth-le a, growth.halfGrowth-le b, growth.halfGrowth-le c)
 
+-- half as many again is at most 3/2 n
+pub halfGrowth-le : (n : ℕ) → 2 * halfGrowth n ≤ 3 * n
+halfGrowth-le = growth.halfGrowth-le
+
 -- no vertices take no room
 pub B-none : B 0 ≡ 0
 unfolding B

@@ -77,9 +77,9 @@ module _ (l : Edge) (b : TileBounds) (ring : List Coord) where
           let w : inside l b (last p r) ≡ v = rw m at e in
           rw (m, ← q, w)
 
-  pub rest-skip : (i j k : ℕ) (d : List Float) → stepsLeft l b ring false i ≡ stepsLeft l b ring false j
-      → SameRest l b ring false i k d false j k d
-  rest-skip i j k d e = record { count = rw e; numbers = rw e }
+  pub rest-skip : (i j k k′ : ℕ) (d : List Float) → stepsLeft l b ring false i ≡ stepsLeft l b ring false j → k′ ≡ k
+      → SameRest l b ring false i k d false j k′ d
+  rest-skip i j k k′ d e h = record { count = rw (e, h); numbers = rw (e, h) }
 
   pub begun : (v v′ : Bool) (d : List Float) (i k : ℕ) (d′ : List Float) → around l b ring ≡ stepsLeft l b ring v 0
       → SameRest l b ring v 0 0 d v′ i k d′

@@ -3,7 +3,7 @@
 use mathlib.Core.Path.{_≡_}
 use mathlib.Core.Bool.{Bool}
 use mathlib.Core.List.{List}
-use Prim.Native.Nat.{_-_, ℕ, zero, suc, _+_, _≤_, _*_}
+use Prim.Native.Nat.{_-_, ℕ, zero, suc, _+_, _≤_, _<_, _*_}
 use lib.Ieee.{Float, nan}
 use lib.ListN.{length, take, getD, drop}
 use lib.Seq.{sets}
@@ -38,6 +38,11 @@ pub record SameRest (l : Edge) (b : TileBounds) (r : List Coord) (v : Bool) (i k
     (d′ : List Float) : Type 0 where
   pub count : k + length (stepsLeft l b r v i) ≡ k′ + length (stepsLeft l b r v′ i′)
   pub numbers : sets d (2 * k) (flat (stepsLeft l b r v i)) ≡ sets d′ (2 * k′) (flat (stepsLeft l b r v′ i′))
+
+-- The pass has judged the vertex that it starts from and those before the i-th, and the i-th too where the ring of m has one.
+pub record JudgedTo (m i verdicts : ℕ) : Type 0 where
+  pub found : i < m → verdicts ≡ i + 2
+  pub none : m ≤ i → verdicts ≡ i + 1
 
 -- ---- the four passes
 

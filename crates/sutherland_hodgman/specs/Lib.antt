@@ -1,5 +1,6 @@
 pub mod CuttingLines
 pub mod Clip
+pub mod Verdicts
 pub mod Growth
 pub mod Promise
 pub mod RingCall

@@ -34,8 +34,8 @@ pub enum Check {
     Passes,
 }
 
-// Half as many again, rounded down.
-fn half_growth(n: usize) -> usize
+// Half as many again, rounded down: the most vertices that a pass makes of n.
+pub fn half_growth(n: usize) -> usize
     requires { ⌜ n ≤ 8 * mostCoordinates ⌝ }
     ensures { λ r. ⌜ r ≡ halfGrowth n ⌝ }
 {

@@ -9,6 +9,7 @@ ghost use Rattle.sutherland_hodgman.specs.CuttingLines as CuttingLines;
 ghost use Rattle.sutherland_hodgman.specs.Clip as Clip;
 ghost use Rattle.sutherland_hodgman.specs.Contracts as Contracts;
 ghost use Rattle.sutherland_hodgman.specs.Growth.{halfGrowth};
+ghost use Rattle.sutherland_hodgman.specs.Verdicts.{verdicts};
 ghost use Rattle.sutherland_hodgman.specs.Contracts.{CutterRoom, RingCut};
 use binary64::interpolate;
 use tile::Coord;
@@ -18,20 +19,10 @@ use tile::ring::close;
 use tile::ring::coord_at;
 use tile::ring::is_closed;
 use tile::ring::put;
+use verdict::judge;
 
 pub mod call;
-
-// Whether a vertex is in by one edge: on the edge counts as in, and NaN is out.
-fn is_inside(coord: Coord, edge: Edge, bounds: TileBounds) -> bool
-    ensures { λ r. ⌜ r ≡ CuttingLines.inside edge bounds coord ⌝ }
-{
-    match edge {
-        Edge::Left => coord.x >= bounds.lng_min,
-        Edge::Right => coord.x <= bounds.lng_max,
-        Edge::Bottom => coord.y >= bounds.lat_min,
-        Edge::Top => coord.y <= bounds.lat_max,
-    }
-}
+mod verdict;
 
 // Where the line of an edge crosses the segment from a to b, one end of which is in and the other out; between other ends a coordinate that
 // means nothing.
@@ -70,9 +61,10 @@ fn intersect(a: Coord, b: Coord, edge: Edge, bounds: TileBounds) -> Coord
     }
 }
 
-// What one pass answers: how many vertices it wrote.
-struct Pass {
-    len: usize,
+// What one pass answers: how many vertices it wrote, and how many verdicts it worked out.
+pub struct Pass {
+    pub len: usize,
+    pub verdicts: usize,
 }
 
 // How many of the n vertices are left when the closing one is left off.
@@ -89,10 +81,11 @@ fn left_off(ring: &[f64], n: usize) -> usize
     n
 }
 
-// Where a pass stands: before the i-th vertex, with len vertices written.
+// Where a pass stands: before the i-th vertex, with len vertices written and so many verdicts worked out.
 struct Walk {
     i: usize,
     len: usize,
+    verdicts: usize,
 }
 
 // The vertex before the i-th, around the ring of m vertices.
@@ -116,50 +109,69 @@ fn copy_inside(
     at: Walk,
 ) -> Walk
     requires { ⌜ (2 * m ≤ length (now ring)) × (at .i ≤ m)
-        × (2 * (at .len + length (Contracts.stepsLeft edge bounds (coords (take (2 * m) (now ring))) true (at .i))) ≤ length (now out)) ⌝ }
-    ensures { λ r. ⌜ (at .i ≤ r .i) × (r .i ≤ m) × (r .i < m → CuttingLines.inside edge bounds (coordAt (now (ring .entry)) (r .i)) ≡ false)
+        × (2 * (at .len + length (Contracts.stepsLeft edge bounds (coords (take (2 * m) (now ring))) true (at .i))) ≤ length (now out)) × (at .verdicts ≡ at .i + 1) ⌝ }
+    ensures rest { λ r. ⌜ (at .i ≤ r .i) × (r .i ≤ m)
+        × (r .i < m → CuttingLines.inside edge bounds (coordAt (now (ring .entry)) (r .i)) ≡ false)
         × Contracts.SameRest edge bounds (coords (take (2 * m) (now (ring .entry)))) true (at .i) (at .len) (now (out .entry)) true
         (r .i) (r .len) (now (out .exit)) ⌝ }
+    ensures verdicts { λ r. ⌜ Contracts.JudgedTo m (r .i) (r .verdicts) ⌝ }
 {
     let mut i = at.i;
     let mut len = at.len;
+    let mut verdicts = at.verdicts;
     while i < m {
         let e = coord_at(ring, i);
-        if !is_inside(e, edge, bounds) {
-            return Walk { i, len };
+        let verdict = judge(e, edge, bounds, verdicts);
+        verdicts = verdict.verdicts;
+        if !verdict.inside {
+            return Walk { i, len, verdicts };
         }
         put(out, len, e);
         len += 1;
         i += 1;
     }
-    Walk { i, len }
+    Walk { i, len, verdicts }
 }
 
-// From a vertex that is out: the index of the first vertex from i on that is in, or m.
-fn skip_outside(ring: &[f64], m: usize, edge: Edge, bounds: TileBounds, i: usize) -> usize
-    requires { ⌜ (2 * m ≤ length (now ring)) × (i ≤ m) ⌝ }
-    ensures { λ r. ⌜ (i ≤ r) × (r ≤ m) × (r < m → CuttingLines.inside edge bounds (coordAt (now (ring .entry)) r) ≡ true)
-        × (Contracts.stepsLeft edge bounds (coords (take (2 * m) (now (ring .entry)))) false i ≡ Contracts.stepsLeft edge bounds
-        (coords (take (2 * m) (now (ring .entry)))) false r) ⌝ }
+// From a vertex that is out: passes over the vertices that follow it as long as they are out, up to the first that is in.
+fn skip_outside(ring: &[f64], m: usize, edge: Edge, bounds: TileBounds, at: Walk) -> Walk
+    requires { ⌜ (2 * m ≤ length (now ring)) × (at .i ≤ m) × (at .verdicts ≡ at .i + 1) ⌝ }
+    ensures rest { λ r. ⌜ (at .i ≤ r .i) × (r .i ≤ m)
+        × (r .i < m → CuttingLines.inside edge bounds (coordAt (now (ring .entry)) (r .i)) ≡ true)
+        × (Contracts.stepsLeft edge bounds (coords (take (2 * m) (now (ring .entry)))) false (at .i) ≡ Contracts.stepsLeft edge bounds
+        (coords (take (2 * m) (now (ring .entry)))) false (r .i)) × (r .len ≡ at .len) ⌝ }
+    ensures verdicts { λ r. ⌜ Contracts.JudgedTo m (r .i) (r .verdicts) ⌝ }
 {
-    let mut j = i;
-    while j < m {
-        let e = coord_at(ring, j);
-        if is_inside(e, edge, bounds) {
-            return j;
+    let mut i = at.i;
+    let mut verdicts = at.verdicts;
+    while i < m {
+        let e = coord_at(ring, i);
+        let verdict = judge(e, edge, bounds, verdicts);
+        verdicts = verdict.verdicts;
+        if verdict.inside {
+            return Walk {
+                i,
+                len: at.len,
+                verdicts,
+            };
         }
-        j += 1;
+        i += 1;
     }
-    j
+    Walk {
+        i,
+        len: at.len,
+        verdicts,
+    }
 }
 
 // From a vertex that is in to one that is out, or to the end.
 fn leave(ring: &[f64], m: usize, edge: Edge, bounds: TileBounds, out: &mut [f64], at: Walk) -> Walk
     requires { ⌜ (2 * m ≤ length (now ring)) × (at .i < m)
-        × (2 * (at .len + length (Contracts.stepsLeft edge bounds (coords (take (2 * m) (now ring))) true (at .i))) ≤ length (now out)) ⌝ }
-    ensures { λ r. ⌜ (at .i < r .i) × (r .i ≤ m)
+        × (2 * (at .len + length (Contracts.stepsLeft edge bounds (coords (take (2 * m) (now ring))) true (at .i))) ≤ length (now out)) × (at .verdicts ≡ at .i + 1) ⌝ }
+    ensures rest { λ r. ⌜ (at .i < r .i) × (r .i ≤ m)
         × Contracts.SameRest edge bounds (coords (take (2 * m) (now (ring .entry)))) true (at .i) (at .len) (now (out .entry)) false
         (r .i) (r .len) (now (out .exit)) ⌝ }
+    ensures verdicts { λ r. ⌜ r .verdicts ≡ r .i + 1 ⌝ }
 {
     let to = copy_inside(ring, m, edge, bounds, out, at);
     if m <= to.i {
@@ -171,28 +183,31 @@ fn leave(ring: &[f64], m: usize, edge: Edge, bounds: TileBounds, out: &mut [f64]
     Walk {
         i: to.i + 1,
         len: to.len + 1,
+        verdicts: to.verdicts,
     }
 }
 
 // From a vertex that is out to one that is in, or to the end.
 fn enter(ring: &[f64], m: usize, edge: Edge, bounds: TileBounds, out: &mut [f64], at: Walk) -> Walk
     requires { ⌜ (2 * m ≤ length (now ring)) × (at .i < m)
-        × (2 * (at .len + length (Contracts.stepsLeft edge bounds (coords (take (2 * m) (now ring))) false (at .i))) ≤ length (now out)) ⌝ }
-    ensures { λ r. ⌜ (at .i < r .i) × (r .i ≤ m)
+        × (2 * (at .len + length (Contracts.stepsLeft edge bounds (coords (take (2 * m) (now ring))) false (at .i))) ≤ length (now out)) × (at .verdicts ≡ at .i + 1) ⌝ }
+    ensures rest { λ r. ⌜ (at .i < r .i) × (r .i ≤ m)
         × Contracts.SameRest edge bounds (coords (take (2 * m) (now (ring .entry)))) false (at .i) (at .len) (now (out .entry)) true
         (r .i) (r .len) (now (out .exit)) ⌝ }
+    ensures verdicts { λ r. ⌜ r .verdicts ≡ r .i + 1 ⌝ }
 {
-    let j = skip_outside(ring, m, edge, bounds, at.i);
-    if m <= j {
-        return Walk { i: j, len: at.len };
+    let next = skip_outside(ring, m, edge, bounds, at);
+    if m <= next.i {
+        return next;
     }
-    let s = previous(ring, m, j);
-    let e = coord_at(ring, j);
-    put(out, at.len, intersect(s, e, edge, bounds));
-    put(out, at.len + 1, e);
+    let s = previous(ring, m, next.i);
+    let e = coord_at(ring, next.i);
+    put(out, next.len, intersect(s, e, edge, bounds));
+    put(out, next.len + 1, e);
     Walk {
-        i: j + 1,
-        len: at.len + 2,
+        i: next.i + 1,
+        len: next.len + 2,
+        verdicts: next.verdicts,
     }
 }
 
@@ -208,10 +223,11 @@ fn turn(
 ) -> Walk
     requires { ⌜ (2 * m ≤ length (now ring)) × (at .i < m)
         × (2 * (at .len + length (Contracts.stepsLeft edge bounds (coords (take (2 * m) (now ring))) inside (at .i))) ≤ length
-        (now out)) ⌝ }
-    ensures { λ r. ⌜ (at .i < r .i) × (r .i ≤ m)
+        (now out)) × (at .verdicts ≡ at .i + 1) ⌝ }
+    ensures rest { λ r. ⌜ (at .i < r .i) × (r .i ≤ m)
         × Contracts.SameRest edge bounds (coords (take (2 * m) (now (ring .entry)))) inside (at .i) (at .len) (now (out .entry))
         (not inside) (r .i) (r .len) (now (out .exit)) ⌝ }
+    ensures verdicts { λ r. ⌜ r .verdicts ≡ r .i + 1 ⌝ }
 {
     if inside {
         return leave(ring, m, edge, bounds, out, at);
@@ -221,7 +237,7 @@ fn turn(
 
 // Cuts the ring of n vertices at the front of a slice at one edge, and writes the result to the front of another.
 // It starts from the last vertex. One call of leaving and one of entering lets both be compiled into the loop.
-fn clip_ring_against_edge(
+pub fn clip_ring_against_edge(
     ring: &[f64],
     n: usize,
     edge: Edge,
@@ -229,20 +245,32 @@ fn clip_ring_against_edge(
     out: &mut [f64],
 ) -> Pass
     requires { ⌜ (2 * n ≤ length (now ring)) × (2 * halfGrowth n ≤ length (now out)) ⌝ }
-    ensures { λ r. ⌜ Written (Clip.pass edge bounds (coords (take (2 * n) (now (ring .entry))))) (now (out .entry)) (r .len)
+    ensures written { λ r. ⌜ Written (Clip.pass edge bounds (coords (take (2 * n) (now (ring .entry))))) (now (out .entry)) (r .len)
         (now (out .exit)) ⌝ }
+    ensures verdicts { λ r. ⌜ r .verdicts ≡ verdicts (coords (take (2 * n) (now (ring .entry)))) ⌝ }
 {
     let m = left_off(ring, n);
     if m == 0 {
-        return Pass { len: 0 };
+        return Pass {
+            len: 0,
+            verdicts: 0,
+        };
     }
-    let mut inside = is_inside(coord_at(ring, m - 1), edge, bounds);
-    let mut at = Walk { i: 0, len: 0 };
+    let first = judge(coord_at(ring, m - 1), edge, bounds, 0);
+    let mut inside = first.inside;
+    let mut at = Walk {
+        i: 0,
+        len: 0,
+        verdicts: first.verdicts,
+    };
     while at.i < m {
         at = turn(ring, m, edge, bounds, out, at, inside);
         inside = !inside;
     }
-    Pass { len: at.len }
+    Pass {
+        len: at.len,
+        verdicts: at.verdicts,
+    }
 }
 
 // Fewer than three vertices are none; else the ring is closed.

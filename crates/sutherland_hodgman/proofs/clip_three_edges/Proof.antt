@@ -21,7 +21,7 @@ clip-ring-against-edge-requires-2 c κs =
     let a = c .before .before .before .before .before .before .before .before .before in
     let p = a .pre in
     let s0 = stage-start (a .args .n) (now (a .args .ring)) (a .pre .vertices) in
-    let s1 = stage-next Left (a .args .bounds) _ _ _ s0 (c .before .before .before .before .clip-ring-against-edge .ensures) in
+    let s1 = stage-next Left (a .args .bounds) _ _ _ s0 (c .before .before .before .before .clip-ring-against-edge .ensures .0) in
     stage-room _ _ (omega arith) (omega arith) (omega arith) s1
 
 clip-ring-against-edge-requires-3 : tie.Need-clip-ring-against-edge-requires-3
@@ -30,8 +30,8 @@ clip-ring-against-edge-requires-3 c κs =
     let p = a .pre in
     let s0 = stage-start (a .args .n) (now (a .args .ring)) (a .pre .vertices) in
     let s1 = stage-next Left (a .args .bounds) _ _ _ s0
-    (c .before .before .before .before .before .before .before .before .before .clip-ring-against-edge .ensures) in
-    let s2 = stage-next Right (a .args .bounds) _ _ _ s1 (c .before .before .before .before .clip-ring-against-edge2 .ensures) in
+    (c .before .before .before .before .before .before .before .before .before .clip-ring-against-edge .ensures .0) in
+    let s2 = stage-next Right (a .args .bounds) _ _ _ s1 (c .before .before .before .before .clip-ring-against-edge2 .ensures .0) in
     stage-room _ _ (omega arith) (omega arith) (omega arith) s2
 
 same-length : tie.Need-same-length
@@ -48,10 +48,10 @@ returns c =
     let s0 = stage-start (a .args .n) (now (a .args .ring)) (a .pre .vertices) in
     let s1 = stage-next Left (a .args .bounds) _ _ _ s0
     (c .before .before .before .before .before .before .before .before .before .before .before .before
-    .clip-ring-against-edge .ensures) in
+    .clip-ring-against-edge .ensures .0) in
     let s2 = stage-next Right (a .args .bounds) _ _ _ s1
-    (c .before .before .before .before .before .before .before .clip-ring-against-edge2 .ensures) in
-    let s3 = stage-next Bottom (a .args .bounds) _ _ _ s2 (c .before .before .clip-ring-against-edge3 .ensures) in
+    (c .before .before .before .before .before .before .before .clip-ring-against-edge2 .ensures .0) in
+    let s3 = stage-next Bottom (a .args .bounds) _ _ _ s2 (c .before .before .clip-ring-against-edge3 .ensures .0) in
     s3 .stands
 
 pub clip-three-edges-spec : {M : Type 1} → statement M

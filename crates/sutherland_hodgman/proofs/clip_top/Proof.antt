@@ -18,7 +18,7 @@ finish-requires c κs =
     let a = c .before .before .before .before .before .before .before in
     let s = now (a .args .ring) in
     let r = top-room (a .args .bounds) (coords (take (2 * a .args .n) s)) (a .args .n) _ _ (length-front s (a .args .n) (a .pre .0))
-    (c .before .before .before .clip-ring-against-edge .ensures .count) (a .pre .1) (a .pre .2) in
+    (c .before .before .before .clip-ring-against-edge .ensures .0 .count) (a .pre .1) (a .pre .2) in
     (omega (arith, r .0), λ t. omega (arith, r .1 t))
 
 same-length : tie.Need-same-length
@@ -27,7 +27,7 @@ same-length c = search needs
 returns : tie.Need-returns
 returns c = let a = c .before .before .before .before .before .before .before .before .before .before in last-pass-done (a .args .bounds)
     (coords (take (2 * a .args .n) (now (a .args .ring)))) (now (a .args .out)) _ _ _ _
-    (c .before .before .before .before .before .before .clip-ring-against-edge .ensures) (c .before .before .finish .ensures)
+    (c .before .before .before .before .before .before .clip-ring-against-edge .ensures .0) (c .before .before .finish .ensures)
 
 pub clip-top-spec : {M : Type 1} → statement M
 clip-top-spec =

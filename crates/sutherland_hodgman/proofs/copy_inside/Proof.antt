@@ -14,11 +14,12 @@ use Rattle.sutherland_hodgman.proofs.copy_inside.Statement.{statement}
 use Rattle.sutherland_hodgman.proofs.copy_inside.Tie as tie
 
 abbrev Inv-loop : tie.InvT-loop
-Inv-loop ring m edge bounds out₀ i₀ len₀ out i len =
+Inv-loop ring m edge bounds out₀ i₀ len₀ verdicts₀ out i len verdicts =
     (i₀ ≤ i) × (i ≤ m) × (length out ≡ length out₀) × SameRest edge bounds (coords (take (2 * m) ring)) true i₀ len₀ out₀ true i len out
+    × (verdicts ≡ i + 1)
 
 abbrev μ-loop : tie.MeasureT-loop
-μ-loop ring m edge bounds out₀ i₀ len₀ out i len = m - i
+μ-loop ring m edge bounds out₀ i₀ len₀ verdicts₀ out i len verdicts = m - i
 
 loop-holds : tie.Need-loop-holds Inv-loop μ-loop
 loop-holds c =
@@ -28,44 +29,49 @@ loop-holds c =
       refl,
       rest-here (a .args .edge) (a .args .bounds)
           (coords (take (2 * a .args .m) (now (a .args .ring)))) true _ _ _,
+      search needs,
     )
 
 coord-at-requires : tie.Need-coord-at-requires Inv-loop μ-loop
 coord-at-requires c κs = search needs
 
-is-inside-requires : tie.Need-is-inside-requires Inv-loop μ-loop
-is-inside-requires c κs = search needs
+judge-requires : tie.Need-judge-requires Inv-loop μ-loop
+judge-requires c κs = search needs
 
 same-length : tie.Need-same-length Inv-loop μ-loop
 same-length c = search needs
 
 returns : tie.Need-returns Inv-loop μ-loop
 returns c =
-    let a = c .before .before .before .before .before .before .before in
-    let l = c .before .before .before .before .loop in (
-      search needs,
-      search needs,
-      λ _. judged (a .args .edge) (a .args .bounds) _ _ _ false (c .before .before .coord-at .ensures)
-          (c .before .is-inside .ensures) (not-true _ (c .if1 .taken)),
-      l .inv .3,
+    let a = c .before .before .before .before .before .before .before .before in
+    let l = c .before .before .before .before .before .loop in
+    let j = c .before .before .judge .ensures in (
+      (
+        search needs,
+        search needs,
+        λ _. judged (a .args .edge) (a .args .bounds) _ _ _ false (c .before .before .before .coord-at .ensures) (j .0)
+            (not-true _ (c .if1 .taken)),
+        l .inv .3,
+      ),
+      record { found = λ _. omega arith; none = λ h. absurd (omega arith) },
     )
 
 put-requires : tie.Need-put-requires Inv-loop μ-loop
 put-requires c κs =
-    let a = c .before .before .before .before .before .before .before .before in
-    let l = c .before .before .before .before .before .loop in
+    let a = c .before .before .before .before .before .before .before .before .before in
+    let l = c .before .before .before .before .before .before .loop in
     let s = now (a .args .ring) in
     let m = a .args .m in
     let o = l .inv .3 .count in
     let u : length (l .out) ≡ length (now (a .args .out)) = l .inv .2 in
     let r : 2 * (l .len + length (stepsLeft (a .args .edge) (a .args .bounds) (coords (take (2 * m) s)) true (l .i))) ≤ length (l .out)
     = omega (arith, a .pre .2) in
-    let f = judged (a .args .edge) (a .args .bounds) _ _ _ true (c .before .before .before .coord-at .ensures)
-    (c .before .before .is-inside .ensures) (not-false _ (c .before .if1 .left)) in
+    let f = judged (a .args .edge) (a .args .bounds) _ _ _ true (c .before .before .before .before .coord-at .ensures)
+    (c .before .before .before .judge .ensures .0) (not-false _ (c .before .if1 .left)) in
     omega (
       arith,
       in-in-room (a .args .edge) (a .args .bounds) s m (a .pre .0) (l .i)
-          (c .before .before .before .before .loop-test .taken) f (l .len) _ r,
+          (c .before .before .before .before .before .loop-test .taken) f (l .len) _ r,
     )
 
 add-len : tie.Need-add-len Inv-loop μ-loop
@@ -79,20 +85,21 @@ loop-less c = search needs
 
 loop-again : tie.Need-loop-again Inv-loop μ-loop
 loop-again c =
-    let a = c .before .before .before .before .before .before .before .before .before .before .before in
-    let l = c .before .before .before .before .before .before .before .before .loop in
+    let a = c .before .before .before .before .before .before .before .before .before .before .before .before in
+    let l = c .before .before .before .before .before .before .before .before .before .loop in
     let s = now (a .args .ring) in
     let m = a .args .m in
-    let f = judged (a .args .edge) (a .args .bounds) _ _ _ true (c .before .before .before .before .before .before .coord-at .ensures)
-    (c .before .before .before .before .before .is-inside .ensures) (not-false _ (c .before .before .before .before .if1 .left)) in
+    let e = c .before .before .before .before .before .before .before .coord-at in
+    let f = judged (a .args .edge) (a .args .bounds) _ _ _ true (e .ensures)
+    (c .before .before .before .before .before .before .judge .ensures .0) (not-false _ (c .before .before .before .before .if1 .left)) in
     let p = c .before .before .put .ensures in (
       search needs,
       search needs,
-      wrote (l .out) _ (l .len) _ (c .before .before .before .before .before .before .coord-at .result) p (l .inv .2),
+      wrote (l .out) _ (l .len) _ (e .result) p (l .inv .2),
       rest-then (a .args .edge) (a .args .bounds) (coords (take (2 * m) s)) (l .inv .3)
           (in-in (a .args .edge) (a .args .bounds) s m (a .pre .0) (l .i)
-          (c .before .before .before .before .before .before .before .loop-test .taken) f _ (l .len) (l .out) _
-          (c .before .before .before .before .before .before .coord-at .ensures) p),
+          (c .before .before .before .before .before .before .before .before .loop-test .taken) f _ (l .len) (l .out) _ (e .ensures) p),
+      search needs,
     )
 
 same-length-2 : tie.Need-same-length-2 Inv-loop μ-loop
@@ -100,8 +107,10 @@ same-length-2 c = search needs
 
 returns-2 : tie.Need-returns-2 Inv-loop μ-loop
 returns-2 c =
-    let l = c .before .loop in
-    (search needs, search needs, λ h. absurd (omega arith), l .inv .3)
+    let l = c .before .loop in (
+      (search needs, search needs, λ h. absurd (omega arith), l .inv .3),
+      record { found = λ h. absurd (omega arith); none = λ _. l .inv .4 },
+    )
 
 pub copy-inside-spec : {M : Type 1} → statement M
 copy-inside-spec =
@@ -111,7 +120,7 @@ copy-inside-spec =
     μ-loop
     loop-holds
     coord-at-requires
-    is-inside-requires
+    judge-requires
     same-length
     returns
     put-requires

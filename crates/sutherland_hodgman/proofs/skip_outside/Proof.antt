@@ -1,7 +1,7 @@
 -- `skip_outside` meets its contract: a step from out to out gives nothing. Assumes nothing.
-use mathlib.Core.Path.{_≡_, _∙_}
+use mathlib.Core.Path.{_≡_, refl, _∙_}
 use mathlib.Core.Bool.{true, false}
-use Prim.Native.Nat.{_*_, _-_, _≤_}
+use Prim.Native.Nat.{_+_, _*_, _-_, _≤_}
 use native.Mathlib.Omega.{arith}
 use borrow.Author.Needs.{needs}
 use denote.Ref.{now}
@@ -13,12 +13,12 @@ use Rattle.sutherland_hodgman.proofs.skip_outside.Statement.{statement}
 use Rattle.sutherland_hodgman.proofs.skip_outside.Tie as tie
 
 abbrev Inv-loop : tie.InvT-loop
-Inv-loop ring m edge bounds i j₀ j =
-    (i ≤ j) × (j ≤ m) × (stepsLeft edge bounds (coords (take (2 * m) ring)) false i ≡ stepsLeft edge bounds
-    (coords (take (2 * m) ring)) false j)
+Inv-loop ring m edge bounds at i₀ verdicts₀ i verdicts =
+    (at .i ≤ i) × (i ≤ m) × (stepsLeft edge bounds (coords (take (2 * m) ring)) false (at .i) ≡ stepsLeft edge bounds
+    (coords (take (2 * m) ring)) false i) × (verdicts ≡ i + 1)
 
 abbrev μ-loop : tie.MeasureT-loop
-μ-loop ring m edge bounds i j₀ j = m - j
+μ-loop ring m edge bounds at i₀ verdicts₀ i verdicts = m - i
 
 loop-holds : tie.Need-loop-holds Inv-loop μ-loop
 loop-holds c = search needs
@@ -26,22 +26,26 @@ loop-holds c = search needs
 coord-at-requires : tie.Need-coord-at-requires Inv-loop μ-loop
 coord-at-requires c κs = search needs
 
-is-inside-requires : tie.Need-is-inside-requires Inv-loop μ-loop
-is-inside-requires c κs = search needs
+judge-requires : tie.Need-judge-requires Inv-loop μ-loop
+judge-requires c κs = search needs
 
 returns : tie.Need-returns Inv-loop μ-loop
 returns c =
     let a = c .before .before .before .before .before .before in
-    let l = c .before .before .before .before .loop in (
-      search needs,
-      search needs,
-      λ _. judged (a .args .edge) (a .args .bounds) _ _ _ true (c .before .before .coord-at .ensures)
-          (c .before .is-inside .ensures) (c .if1 .taken),
-      l .inv .2,
+    let l = c .before .before .before .before .loop in
+    let j = c .before .judge .ensures in (
+      (
+        search needs,
+        search needs,
+        λ _. judged (a .args .edge) (a .args .bounds) _ _ _ true (c .before .before .coord-at .ensures) (j .0) (c .if1 .taken),
+        l .inv .2,
+        refl,
+      ),
+      record { found = λ _. omega arith; none = λ h. absurd (omega arith) },
     )
 
-add-j : tie.Need-add-j Inv-loop μ-loop
-add-j c = search needs
+add-i : tie.Need-add-i Inv-loop μ-loop
+add-i c = search needs
 
 loop-less : tie.Need-loop-less Inv-loop μ-loop
 loop-less c = search needs
@@ -49,19 +53,22 @@ loop-less c = search needs
 loop-again : tie.Need-loop-again Inv-loop μ-loop
 loop-again c =
     let a = c .before .before .before .before .before .before in
-    let l = c .before .before .before .before .loop in (
+    let l = c .before .before .before .before .loop in
+    let j = c .before .judge .ensures in (
       search needs,
       search needs,
-      l .inv .2 ∙ out-out (a .args .edge) (a .args .bounds) (now (a .args .ring)) (a .args .m) (a .pre .0) (l .j)
+      l .inv .2 ∙ out-out (a .args .edge) (a .args .bounds) (now (a .args .ring)) (a .args .m) (a .pre .0) (l .i)
           (c .before .before .before .loop-test .taken)
-          (judged (a .args .edge) (a .args .bounds) _ _ _ false (c .before .before .coord-at .ensures) (c .before .is-inside .ensures)
-          (c .if1 .left)),
+          (judged (a .args .edge) (a .args .bounds) _ _ _ false (c .before .before .coord-at .ensures) (j .0) (c .if1 .left)),
+      search needs,
     )
 
 returns-2 : tie.Need-returns-2 Inv-loop μ-loop
 returns-2 c =
-    let l = c .before .loop in
-    (search needs, search needs, λ h. absurd (omega arith), l .inv .2)
+    let l = c .before .loop in (
+      (search needs, search needs, λ h. absurd (omega arith), l .inv .2, refl),
+      record { found = λ h. absurd (omega arith); none = λ _. l .inv .3 },
+    )
 
 pub skip-outside-spec : {M : Type 1} → statement M
 skip-outside-spec =
@@ -71,9 +78,9 @@ skip-outside-spec =
     μ-loop
     loop-holds
     coord-at-requires
-    is-inside-requires
+    judge-requires
     returns
-    add-j
+    add-i
     loop-less
     loop-again
     returns-2)
