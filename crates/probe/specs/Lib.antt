@@ -1,3 +1,4 @@
 pub mod Edges
 pub mod Numbers
+pub mod Passes
 pub mod Reader

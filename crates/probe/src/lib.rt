@@ -12,6 +12,7 @@ use sutherland_hodgman::call::clip_lent;
 use tile::TileBounds;
 
 pub mod edges;
+pub mod passes;
 pub mod reader;
 
 fn number_at(s: &[f64], i: usize) -> f64

@@ -1,0 +1,62 @@
+// One pass of the ring cutter, with its count of verdicts.
+ghost use mathlib.Core.Path.{_≡_};
+ghost use lib.ListN.{set};
+ghost use Rattle.probe.specs.Numbers.{boundsAt};
+ghost use Rattle.probe.specs.Passes as Passes;
+use super::bounds_at;
+use sutherland_hodgman::call::MOST_COORDINATES;
+use sutherland_hodgman::call::half_growth;
+use sutherland_hodgman::clip_ring_against_edge;
+use tile::Edge;
+
+fn edge_at(number: u8) -> Edge
+    ensures { λ r. ⌜ r ≡ Passes.edgeAt number ⌝ }
+{
+    match number {
+        0 => Edge::Left,
+        1 => Edge::Right,
+        2 => Edge::Bottom,
+        _ => Edge::Top,
+    }
+}
+
+fn has_pass_room(n: usize, out: usize) -> bool
+    ensures { λ r. ⌜ r ≡ Passes.hasPassRoom n out ⌝ }
+{
+    if n > 8 * MOST_COORDINATES {
+        return false;
+    }
+    2 * half_growth(n) <= out
+}
+
+fn set_first(counts: &mut [usize], count: usize)
+    ensures { λ _. ⌜ now (counts .exit) ≡ set (now (counts .entry)) 0 count ⌝ }
+{
+    if 0 < counts.len() {
+        counts[0] = count;
+    }
+}
+
+// Cuts the ring, all of whose numbers are lent, at one edge: 0 Left, 1 Right, 2 Bottom, any other Top. It answers how many vertices it
+// wrote. Where the output has no room for every cut of so many vertices it answers 0 and writes nothing.
+#[no_mangle]
+pub extern "C" fn probe_clip_ring_against_edge(
+    ring: &[f64],
+    edge: u8,
+    bounds: &[f64],
+    out: &mut [f64],
+    verdicts: &mut [usize],
+) -> usize
+    ensures answer { λ r. ⌜ r ≡ Passes.passAnswer (now (ring .entry)) edge (boundsAt (now (bounds .entry))) (now (out .entry)) ⌝ }
+    ensures output { λ _. ⌜ now (out .exit) ≡ Passes.passOutput (now (ring .entry)) edge (boundsAt (now (bounds .entry)))
+        (now (out .entry)) ⌝ }
+    ensures verdicts { λ _. ⌜ now (verdicts .exit) ≡ Passes.passVerdicts (now (ring .entry)) (now (out .entry)) (now (verdicts .entry)) ⌝ }
+{
+    let n = ring.len() / 2;
+    if has_pass_room(n, out.len()) {
+        let pass = clip_ring_against_edge(ring, n, edge_at(edge), bounds_at(bounds), out);
+        set_first(verdicts, pass.verdicts);
+        return pass.len;
+    }
+    0
+}
