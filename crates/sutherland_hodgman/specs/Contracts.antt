@@ -14,10 +14,14 @@ use Rattle.tile.specs.declared.Edge.the-variants.{Left, Right, Bottom, Top}
 use Rattle.tile.specs.Ring.{coords, flat}
 use Rattle.tile.specs.Contracts.{Stands, Written}
 use Rattle.sutherland_hodgman.specs.Clip.{steps, pass, finish, clipRing}
-use Rattle.sutherland_hodgman.specs.Growth.{B}
+use Rattle.sutherland_hodgman.specs.Growth.{halfGrowth, B}
 use Rattle.sutherland_hodgman.specs.Promise.{Promise}
 
 -- ---- a pass
+
+-- a ring of n vertices at the front of a slice of length `ring` can be cut at one edge in a slice of length `out`
+abbrev pub PassRoom : ℕ → ℕ → ℕ → Type 0
+PassRoom n ring out = (2 * n ≤ ring) × (2 * halfGrowth n ≤ out)
 
 -- what stands for a vertex past the end of a ring
 abbrev pub noVertex : Coord

@@ -81,7 +81,8 @@ fn left_off(ring: &[f64], n: usize) -> usize
     n
 }
 
-// Where a pass stands: before the i-th vertex, with len vertices written and so many verdicts worked out.
+// Where a pass stands: before the i-th vertex, with len vertices written and so many verdicts worked out, one on the vertex that it starts
+// from and one on each before the i-th.
 struct Walk {
     i: usize,
     len: usize,
@@ -244,7 +245,7 @@ pub fn clip_ring_against_edge(
     bounds: TileBounds,
     out: &mut [f64],
 ) -> Pass
-    requires { ⌜ (2 * n ≤ length (now ring)) × (2 * halfGrowth n ≤ length (now out)) ⌝ }
+    requires { ⌜ Contracts.PassRoom n (length (now ring)) (length (now out)) ⌝ }
     ensures written { λ r. ⌜ Written (Clip.pass edge bounds (coords (take (2 * n) (now (ring .entry))))) (now (out .entry)) (r .len)
         (now (out .exit)) ⌝ }
     ensures verdicts { λ r. ⌜ r .verdicts ≡ verdicts (coords (take (2 * n) (now (ring .entry)))) ⌝ }
