@@ -37,8 +37,10 @@ fn set_first(counts: &mut [usize], count: usize)
     }
 }
 
-// Cuts the ring, all of whose numbers are lent, at one edge: 0 Left, 1 Right, 2 Bottom, any other Top. It answers how many vertices it
-// wrote. Where the output has no room for every cut of so many vertices it answers 0 and writes nothing.
+// Cuts a ring at one edge: 0 Left, 1 Right, 2 Bottom, any other Top. It answers how many vertices it wrote to the front of `out`, and puts
+// the count of verdicts in the first number of `verdicts`, unless that is empty. An odd last number of the ring is passed over.
+// Where `out` is too short for all that a pass may make of so many vertices, or there are over 524,288, it answers the highest number and
+// writes nothing.
 #[no_mangle]
 pub extern "C" fn probe_clip_ring_against_edge(
     ring: &[f64],
@@ -50,7 +52,8 @@ pub extern "C" fn probe_clip_ring_against_edge(
     ensures answer { λ r. ⌜ r ≡ Passes.passAnswer (now (ring .entry)) edge (boundsAt (now (bounds .entry))) (now (out .entry)) ⌝ }
     ensures output { λ _. ⌜ now (out .exit) ≡ Passes.passOutput (now (ring .entry)) edge (boundsAt (now (bounds .entry)))
         (now (out .entry)) ⌝ }
-    ensures verdicts { λ _. ⌜ now (verdicts .exit) ≡ Passes.passVerdicts (now (ring .entry)) (now (out .entry)) (now (verdicts .entry)) ⌝ }
+    ensures count { λ _. ⌜ now (verdicts .exit) ≡ Passes.passVerdicts (now (ring .entry)) (now (out .entry))
+        (now (verdicts .entry)) ⌝ }
 {
     let n = ring.len() / 2;
     if has_pass_room(n, out.len()) {
@@ -58,5 +61,5 @@ pub extern "C" fn probe_clip_ring_against_edge(
         set_first(verdicts, pass.verdicts);
         return pass.len;
     }
-    0
+    usize::MAX
 }

@@ -13,6 +13,7 @@ use Rattle.tile.specs.declared.Edge.{Edge}
 use Rattle.tile.specs.declared.Edge.the-variants.{Left, Right, Bottom, Top}
 use Rattle.tile.specs.Ring.{coords, flat}
 use Rattle.tile.specs.Contracts.{Stands, Written}
+use Rattle.sutherland_hodgman.specs.declared.Walk.{Walk}
 use Rattle.sutherland_hodgman.specs.Clip.{steps, pass, finish, clipRing}
 use Rattle.sutherland_hodgman.specs.Growth.{halfGrowth, B}
 use Rattle.sutherland_hodgman.specs.Promise.{Promise}
@@ -43,10 +44,23 @@ pub record SameRest (l : Edge) (b : TileBounds) (r : List Coord) (v : Bool) (i k
   pub count : k + length (stepsLeft l b r v i) ≡ k′ + length (stepsLeft l b r v′ i′)
   pub numbers : sets d (2 * k) (flat (stepsLeft l b r v i)) ≡ sets d′ (2 * k′) (flat (stepsLeft l b r v′ i′))
 
--- The pass has judged the vertex that it starts from and those before the i-th, and the i-th too where the ring of m has one.
-pub record JudgedTo (m i verdicts : ℕ) : Type 0 where
-  pub found : i < m → verdicts ≡ i + 2
-  pub none : m ≤ i → verdicts ≡ i + 1
+-- A pass that stands at `at`, the verdict on the vertex before being v, can go on: there is a vertex to go to and room in `out` numbers for
+-- all that is left, and the verdicts counted are one on the vertex that the pass started from and one on each before the i-th.
+abbrev pub WalkRoom : Edge → TileBounds → List Float → ℕ → Bool → Walk → ℕ → Type 0
+WalkRoom l b ring m v at out =
+    (2 * m ≤ length ring) × (at .i < m) × (2 * (at .len + length (stepsLeft l b (coords (take (2 * m) ring)) v (at .i))) ≤ out)
+    × (at .verdicts ≡ at .i + 1)
+
+-- From there the pass has come to r, with the verdict v′ on the vertex before.
+abbrev pub WalkedOn : Edge → TileBounds → List Float → ℕ → Bool → Walk → List Float → Bool → Walk → List Float → Type 0
+WalkedOn l b ring m v at out v′ r out′ =
+    (at .i < r .i) × (r .i ≤ m) × SameRest l b (coords (take (2 * m) ring)) v (at .i) (at .len) out v′ (r .i) (r .len) out′
+
+-- How many verdicts are worked out where a run ends before the i-th vertex: one on the vertex that the pass started from, one on each
+-- before the i-th, and one on the i-th itself if the ring of m has one.
+pub record RunVerdicts (m i verdicts : ℕ) : Type 0 where
+  pub at-vertex : i < m → verdicts ≡ i + 2
+  pub at-end : m ≤ i → verdicts ≡ i + 1
 
 -- ---- the four passes
 

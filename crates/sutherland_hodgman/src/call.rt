@@ -89,13 +89,13 @@ pub fn clip_lent(
     requires { ⌜ ringCallCheck (now ring) (ringSlices (now a) (now b) (now out)) ≡ Check.Passes ⌝ }
     ensures { λ r. ⌜ ClippedTo (now (ring .entry)) bounds (now (out .entry)) r (now (out .exit)) ⌝ }
 {
-    let bottom = clip_three_edges(ring, ring.len() / 2, bounds, a, b);
-    if bottom.len < 4 {
-        let n = clip_top(a, bottom.len, bounds, b);
+    let len = clip_three_edges(ring, ring.len() / 2, bounds, a, b);
+    if len < 4 {
+        let n = clip_top(a, len, bounds, b);
         copy(b, out, 2 * n);
         return n;
     }
-    clip_top(a, bottom.len, bounds, out)
+    clip_top(a, len, bounds, out)
 }
 
 // `clip_ring` on the ring as lent, not closed beforehand. A refusal changes nothing lent; a success fills both scratch slices with zeros,

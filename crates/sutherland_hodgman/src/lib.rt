@@ -81,8 +81,7 @@ fn left_off(ring: &[f64], n: usize) -> usize
     n
 }
 
-// Where a pass stands: before the i-th vertex, with len vertices written and so many verdicts worked out, one on the vertex that it starts
-// from and one on each before the i-th.
+// Where a pass stands: before the i-th vertex, with len vertices written and so many verdicts worked out.
 struct Walk {
     i: usize,
     len: usize,
@@ -100,7 +99,7 @@ fn previous(ring: &[f64], m: usize, i: usize) -> Coord
     coord_at(ring, i - 1)
 }
 
-// From a vertex that is in: copies the vertices that follow it as long as they are in, up to the first that is not.
+// From a vertex that is in: copies the vertices that follow it as long as they are in, up to the first that is not, which is judged too.
 fn copy_inside(
     ring: &[f64],
     m: usize,
@@ -109,13 +108,12 @@ fn copy_inside(
     out: &mut [f64],
     at: Walk,
 ) -> Walk
-    requires { ⌜ (2 * m ≤ length (now ring)) × (at .i ≤ m)
-        × (2 * (at .len + length (Contracts.stepsLeft edge bounds (coords (take (2 * m) (now ring))) true (at .i))) ≤ length (now out)) × (at .verdicts ≡ at .i + 1) ⌝ }
+    requires { ⌜ Contracts.WalkRoom edge bounds (now ring) m true at (length (now out)) ⌝ }
     ensures rest { λ r. ⌜ (at .i ≤ r .i) × (r .i ≤ m)
         × (r .i < m → CuttingLines.inside edge bounds (coordAt (now (ring .entry)) (r .i)) ≡ false)
         × Contracts.SameRest edge bounds (coords (take (2 * m) (now (ring .entry)))) true (at .i) (at .len) (now (out .entry)) true
         (r .i) (r .len) (now (out .exit)) ⌝ }
-    ensures verdicts { λ r. ⌜ Contracts.JudgedTo m (r .i) (r .verdicts) ⌝ }
+    ensures count { λ r. ⌜ Contracts.RunVerdicts m (r .i) (r .verdicts) ⌝ }
 {
     let mut i = at.i;
     let mut len = at.len;
@@ -134,14 +132,15 @@ fn copy_inside(
     Walk { i, len, verdicts }
 }
 
-// From a vertex that is out: passes over the vertices that follow it as long as they are out, up to the first that is in.
+// From a vertex that is out: passes over the vertices that follow it as long as they are out, up to the first that is in, which is judged
+// too.
 fn skip_outside(ring: &[f64], m: usize, edge: Edge, bounds: TileBounds, at: Walk) -> Walk
     requires { ⌜ (2 * m ≤ length (now ring)) × (at .i ≤ m) × (at .verdicts ≡ at .i + 1) ⌝ }
     ensures rest { λ r. ⌜ (at .i ≤ r .i) × (r .i ≤ m)
         × (r .i < m → CuttingLines.inside edge bounds (coordAt (now (ring .entry)) (r .i)) ≡ true)
         × (Contracts.stepsLeft edge bounds (coords (take (2 * m) (now (ring .entry)))) false (at .i) ≡ Contracts.stepsLeft edge bounds
         (coords (take (2 * m) (now (ring .entry)))) false (r .i)) × (r .len ≡ at .len) ⌝ }
-    ensures verdicts { λ r. ⌜ Contracts.JudgedTo m (r .i) (r .verdicts) ⌝ }
+    ensures count { λ r. ⌜ Contracts.RunVerdicts m (r .i) (r .verdicts) ⌝ }
 {
     let mut i = at.i;
     let mut verdicts = at.verdicts;
@@ -167,12 +166,9 @@ fn skip_outside(ring: &[f64], m: usize, edge: Edge, bounds: TileBounds, at: Walk
 
 // From a vertex that is in to one that is out, or to the end.
 fn leave(ring: &[f64], m: usize, edge: Edge, bounds: TileBounds, out: &mut [f64], at: Walk) -> Walk
-    requires { ⌜ (2 * m ≤ length (now ring)) × (at .i < m)
-        × (2 * (at .len + length (Contracts.stepsLeft edge bounds (coords (take (2 * m) (now ring))) true (at .i))) ≤ length (now out)) × (at .verdicts ≡ at .i + 1) ⌝ }
-    ensures rest { λ r. ⌜ (at .i < r .i) × (r .i ≤ m)
-        × Contracts.SameRest edge bounds (coords (take (2 * m) (now (ring .entry)))) true (at .i) (at .len) (now (out .entry)) false
-        (r .i) (r .len) (now (out .exit)) ⌝ }
-    ensures verdicts { λ r. ⌜ r .verdicts ≡ r .i + 1 ⌝ }
+    requires { ⌜ Contracts.WalkRoom edge bounds (now ring) m true at (length (now out)) ⌝ }
+    ensures rest { λ r. ⌜ Contracts.WalkedOn edge bounds (now (ring .entry)) m true at (now (out .entry)) false r (now (out .exit)) ⌝ }
+    ensures count { λ r. ⌜ r .verdicts ≡ r .i + 1 ⌝ }
 {
     let to = copy_inside(ring, m, edge, bounds, out, at);
     if m <= to.i {
@@ -190,12 +186,9 @@ fn leave(ring: &[f64], m: usize, edge: Edge, bounds: TileBounds, out: &mut [f64]
 
 // From a vertex that is out to one that is in, or to the end.
 fn enter(ring: &[f64], m: usize, edge: Edge, bounds: TileBounds, out: &mut [f64], at: Walk) -> Walk
-    requires { ⌜ (2 * m ≤ length (now ring)) × (at .i < m)
-        × (2 * (at .len + length (Contracts.stepsLeft edge bounds (coords (take (2 * m) (now ring))) false (at .i))) ≤ length (now out)) × (at .verdicts ≡ at .i + 1) ⌝ }
-    ensures rest { λ r. ⌜ (at .i < r .i) × (r .i ≤ m)
-        × Contracts.SameRest edge bounds (coords (take (2 * m) (now (ring .entry)))) false (at .i) (at .len) (now (out .entry)) true
-        (r .i) (r .len) (now (out .exit)) ⌝ }
-    ensures verdicts { λ r. ⌜ r .verdicts ≡ r .i + 1 ⌝ }
+    requires { ⌜ Contracts.WalkRoom edge bounds (now ring) m false at (length (now out)) ⌝ }
+    ensures rest { λ r. ⌜ Contracts.WalkedOn edge bounds (now (ring .entry)) m false at (now (out .entry)) true r (now (out .exit)) ⌝ }
+    ensures count { λ r. ⌜ r .verdicts ≡ r .i + 1 ⌝ }
 {
     let next = skip_outside(ring, m, edge, bounds, at);
     if m <= next.i {
@@ -222,13 +215,10 @@ fn turn(
     at: Walk,
     inside: bool,
 ) -> Walk
-    requires { ⌜ (2 * m ≤ length (now ring)) × (at .i < m)
-        × (2 * (at .len + length (Contracts.stepsLeft edge bounds (coords (take (2 * m) (now ring))) inside (at .i))) ≤ length
-        (now out)) × (at .verdicts ≡ at .i + 1) ⌝ }
-    ensures rest { λ r. ⌜ (at .i < r .i) × (r .i ≤ m)
-        × Contracts.SameRest edge bounds (coords (take (2 * m) (now (ring .entry)))) inside (at .i) (at .len) (now (out .entry))
-        (not inside) (r .i) (r .len) (now (out .exit)) ⌝ }
-    ensures verdicts { λ r. ⌜ r .verdicts ≡ r .i + 1 ⌝ }
+    requires { ⌜ Contracts.WalkRoom edge bounds (now ring) m inside at (length (now out)) ⌝ }
+    ensures rest { λ r. ⌜ Contracts.WalkedOn edge bounds (now (ring .entry)) m inside at (now (out .entry)) (not inside) r
+        (now (out .exit)) ⌝ }
+    ensures count { λ r. ⌜ r .verdicts ≡ r .i + 1 ⌝ }
 {
     if inside {
         return leave(ring, m, edge, bounds, out, at);
@@ -248,7 +238,7 @@ pub fn clip_ring_against_edge(
     requires { ⌜ Contracts.PassRoom n (length (now ring)) (length (now out)) ⌝ }
     ensures written { λ r. ⌜ Written (Clip.pass edge bounds (coords (take (2 * n) (now (ring .entry))))) (now (out .entry)) (r .len)
         (now (out .exit)) ⌝ }
-    ensures verdicts { λ r. ⌜ r .verdicts ≡ verdicts (coords (take (2 * n) (now (ring .entry)))) ⌝ }
+    ensures count { λ r. ⌜ r .verdicts ≡ verdicts (coords (take (2 * n) (now (ring .entry)))) ⌝ }
 {
     let m = left_off(ring, n);
     if m == 0 {
@@ -257,12 +247,12 @@ pub fn clip_ring_against_edge(
             verdicts: 0,
         };
     }
-    let first = judge(coord_at(ring, m - 1), edge, bounds, 0);
-    let mut inside = first.inside;
+    let start = judge(coord_at(ring, m - 1), edge, bounds, 0);
+    let mut inside = start.inside;
     let mut at = Walk {
         i: 0,
         len: 0,
-        verdicts: first.verdicts,
+        verdicts: start.verdicts,
     };
     while at.i < m {
         at = turn(ring, m, edge, bounds, out, at, inside);
@@ -285,20 +275,21 @@ fn finish(ring: &mut [f64], n: usize) -> usize
     close(ring, n)
 }
 
-// The passes but the last, over two slices in turn: what they leave stands at the front of a.
+// The passes but the last, over two slices in turn: what they leave stands at the front of a, and the answer is its length.
 fn clip_three_edges(
     ring: &[f64],
     n: usize,
     bounds: TileBounds,
     a: &mut [f64],
     b: &mut [f64],
-) -> Pass
+) -> usize
     requires { ⌜ CutterRoom n (length (now ring)) (length (now a)) (length (now b)) ⌝ }
-    ensures { λ r. ⌜ Stands (Contracts.threePasses bounds (coords (take (2 * n) (now (ring .entry))))) (r .len) (now (a .exit)) ⌝ }
+    ensures { λ r. ⌜ Stands (Contracts.threePasses bounds (coords (take (2 * n) (now (ring .entry))))) r (now (a .exit)) ⌝ }
 {
     let left = clip_ring_against_edge(ring, n, Edge::Left, bounds, a);
     let right = clip_ring_against_edge(a, left.len, Edge::Right, bounds, b);
-    clip_ring_against_edge(b, right.len, Edge::Bottom, bounds, a)
+    let bottom = clip_ring_against_edge(b, right.len, Edge::Bottom, bounds, a);
+    bottom.len
 }
 
 // The last pass, and the closing. From a ring of four vertices or more it writes no number past its answer; of fewer it may, as it then
@@ -318,6 +309,6 @@ pub fn clip_ring(ring: &[f64], n: usize, bounds: TileBounds, a: &mut [f64], b: &
     requires { ⌜ CutterRoom n (length (now ring)) (length (now a)) (length (now b)) ⌝ }
     ensures { λ r. ⌜ RingCut bounds (coords (take (2 * n) (now (ring .entry)))) r (now (b .exit)) ⌝ }
 {
-    let bottom = clip_three_edges(ring, n, bounds, a, b);
-    clip_top(a, bottom.len, bounds, b)
+    let len = clip_three_edges(ring, n, bounds, a, b);
+    clip_top(a, len, bounds, b)
 }

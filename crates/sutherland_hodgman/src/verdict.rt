@@ -1,4 +1,5 @@
-// Verdicts on vertices. Only `judge` works one out, and it counts each: `is_inside` can't be called from outside this module.
+// Verdicts on vertices. `judge` alone works one out, since `is_inside` can't be called from outside this module, and raises the count that
+// it is handed. Whoever judges hands on the count that comes with the verdict.
 ghost use mathlib.Core.Path.{_≡_};
 ghost use Prim.Native.Nat.{_+_, _^_, _<_};
 ghost use Rattle.sutherland_hodgman.specs.CuttingLines as CuttingLines;
@@ -6,7 +7,7 @@ use tile::Coord;
 use tile::Edge;
 use tile::TileBounds;
 
-// Whether a vertex is in, and how many verdicts have been worked out, this one included.
+// Whether a vertex is in, and how many verdicts a pass has worked out, this one included.
 pub struct Verdict {
     pub inside: bool,
     pub verdicts: usize,
@@ -24,7 +25,7 @@ fn is_inside(coord: Coord, edge: Edge, bounds: TileBounds) -> bool
     }
 }
 
-// Judges a vertex, after so many verdicts.
+// Judges a vertex, in a pass that has worked out so many verdicts before. The count has to fit; a slice has fewer numbers than that.
 pub fn judge(coord: Coord, edge: Edge, bounds: TileBounds, verdicts: usize) -> Verdict
     requires { ⌜ verdicts < 2 ^ 63 ⌝ }
     ensures { λ r. ⌜ (r .inside ≡ CuttingLines.inside edge bounds coord) × (r .verdicts ≡ verdicts + 1) ⌝ }

@@ -53,7 +53,7 @@ returns c =
             (not-true _ (c .if1 .taken)),
         l .inv .3,
       ),
-      record { found = λ _. omega arith; none = λ h. absurd (omega arith) },
+      record { at-vertex = λ _. omega arith; at-end = λ h. absurd (omega arith) },
     )
 
 put-requires : tie.Need-put-requires Inv-loop μ-loop
@@ -109,7 +109,7 @@ returns-2 : tie.Need-returns-2 Inv-loop μ-loop
 returns-2 c =
     let l = c .before .loop in (
       (search needs, search needs, λ h. absurd (omega arith), l .inv .3),
-      record { found = λ h. absurd (omega arith); none = λ _. l .inv .4 },
+      record { at-vertex = λ h. absurd (omega arith); at-end = λ _. l .inv .4 },
     )
 
 pub copy-inside-spec : {M : Type 1} → statement M

@@ -44,7 +44,7 @@ returns c =
             (rest-end (a .args .edge) (a .args .bounds) (coords (take (2 * m) s)) false true _ _ _
             (past-end s m (a .pre .0) _ (c .if1 .taken))),
       ),
-      e .1 .none (c .if1 .taken),
+      e .1 .at-end (c .if1 .taken),
     )
 
 previous-requires : tie.Need-previous-requires
@@ -91,7 +91,7 @@ returns-2 c =
             (c .before .before .before .before .before .before .before .before .before .before .before .before .coord-at .ensures) (c .before .before .before .before .before .before .before .before .before .before .intersect .ensures) (e .0 .2 h) (next .len) (now (a .args .out)) _ _ (c .before .before .before .before .before .before .before .before .before .put .ensures)
             (c .before .before .before .before .put2 .ensures)),
       ),
-      omega (arith, e .1 .found h),
+      omega (arith, e .1 .at-vertex h),
     )
 
 pub enter-spec : {M : Type 1} → statement M

@@ -45,7 +45,7 @@ returns c =
             (rest-end (a .args .edge) (a .args .bounds) (coords (take (2 * m) s)) true false _ _ _
             (past-end s m (a .pre .0) _ (c .if1 .taken))),
       ),
-      e .1 .none (c .if1 .taken),
+      e .1 .at-end (c .if1 .taken),
     )
 
 previous-requires : tie.Need-previous-requires
@@ -84,7 +84,7 @@ returns-2 c =
             (in-out (a .args .edge) (a .args .bounds) s m (a .pre .0) (to .i) h _ _ _ (c .before .before .before .before .before .before .before .before .previous .ensures) (c .before .before .before .before .before .before .before .coord-at .ensures)
             (c .before .before .before .before .before .intersect .ensures) (e .0 .2 h) (to .len) _ _ (c .before .before .before .before .put .ensures)),
       ),
-      omega (arith, e .1 .found h),
+      omega (arith, e .1 .at-vertex h),
     )
 
 pub leave-spec : {M : Type 1} → statement M

@@ -41,7 +41,7 @@ returns c =
         l .inv .2,
         refl,
       ),
-      record { found = λ _. omega arith; none = λ h. absurd (omega arith) },
+      record { at-vertex = λ _. omega arith; at-end = λ h. absurd (omega arith) },
     )
 
 add-i : tie.Need-add-i Inv-loop μ-loop
@@ -67,7 +67,7 @@ returns-2 : tie.Need-returns-2 Inv-loop μ-loop
 returns-2 c =
     let l = c .before .loop in (
       (search needs, search needs, λ h. absurd (omega arith), l .inv .2, refl),
-      record { found = λ h. absurd (omega arith); none = λ _. l .inv .3 },
+      record { at-vertex = λ h. absurd (omega arith); at-end = λ _. l .inv .3 },
     )
 
 pub skip-outside-spec : {M : Type 1} → statement M

@@ -21,39 +21,35 @@ clip-three-edges-requires c κs =
 
 clip-top-requires : tie.Need-clip-top-requires
 clip-top-requires c κs =
-    let a = c .before .before .before .before .before .before .before .before .before .before .before .before .before .before .before in
+    let a = c .before .before .before .before .before .before .before .before .before .before .before .before .before .before in
     let s = now (a .args .ring) in
     let p = passes-cuttable _ _ _ _ (a .pre) in
     let t = stage-three (a .args .bounds) (coords (take (2 * (length s / 2)) s)) (length s / 2) _ _
     (length-front s (length s / 2) (omega (arith, p .even)))
-    (c .before .before .before .before .before .before .before .before .clip-three-edges .ensures) in
+    (c .before .before .before .before .before .before .before .clip-three-edges .ensures) in
     stage-last _ _ (omega arith) (omega arith) t
 
 mul-copy : tie.Need-mul-copy
 mul-copy c =
-    let a = c .before .before .before .before .before .before .before .before .before .before .before .before .before .before .before
-    .before .before .before .before .before in
+    let a = c .before .before .before .before .before .before .before .before .before .before .before .before .before .before .before .before .before .before .before in
     let s = now (a .args .ring) in
     let p = passes-cuttable _ _ _ _ (a .pre) in
     let h : FittingBounds (a .args .bounds) = (search needs, search needs, search needs, search needs) in
     let k = lent-cut s (a .args .bounds) (p .even) _ _ _ _ _ h
-    (c .before .before .before .before .before .before .before .before .before .before .before .before .before .before .before
-    .before .before .before .before .shared-slice-known .given)
-    (c .before .before .before .before .before .before .before .before .before .before .before .before .before .clip-three-edges
+    (c .before .before .before .before .before .before .before .before .before .before .before .before .before .before .before .before .before .before .shared-slice-known .given)
+    (c .before .before .before .before .before .before .before .before .before .before .before .before .clip-three-edges
     .ensures) (c .before .before .before .before .clip-top .ensures) in
     omega (arith, cut-room s (a .args .bounds) (p .even) _ _ k, B-le (length s / 2) (p .few))
 
 copy-requires : tie.Need-copy-requires
 copy-requires c κs =
-    let a = c .before .before .before .before .before .before .before .before .before .before .before .before .before .before .before
-    .before .before .before .before .before in
+    let a = c .before .before .before .before .before .before .before .before .before .before .before .before .before .before .before .before .before .before .before in
     let s = now (a .args .ring) in
     let p = passes-cuttable _ _ _ _ (a .pre) in
     let h : FittingBounds (a .args .bounds) = (search needs, search needs, search needs, search needs) in
     let k = lent-cut s (a .args .bounds) (p .even) _ _ _ _ _ h
-    (c .before .before .before .before .before .before .before .before .before .before .before .before .before .before .before
-    .before .before .before .before .shared-slice-known .given)
-    (c .before .before .before .before .before .before .before .before .before .before .before .before .before .clip-three-edges
+    (c .before .before .before .before .before .before .before .before .before .before .before .before .before .before .before .before .before .before .shared-slice-known .given)
+    (c .before .before .before .before .before .before .before .before .before .before .before .before .clip-three-edges
     .ensures) (c .before .before .before .before .clip-top .ensures) in
     let g = cut-room s (a .args .bounds) (p .even) _ _ k in
     (omega arith, omega arith)
@@ -69,26 +65,23 @@ same-length-3 c = search needs
 
 returns : tie.Need-returns
 returns c =
-    let a = c .before .before .before .before .before .before .before .before .before .before .before .before .before .before .before
-    .before .before .before .before .before .before .before .before in
+    let a = c .before .before .before .before .before .before .before .before .before .before .before .before .before .before .before .before .before .before .before .before .before .before in
     let s = now (a .args .ring) in
     let p = passes-cuttable _ _ _ _ (a .pre) in
     let h : FittingBounds (a .args .bounds) = (search needs, search needs, search needs, search needs) in
     let k = lent-cut s (a .args .bounds) (p .even) _ _ _ _ _ h
-    (c .before .before .before .before .before .before .before .before .before .before .before .before .before .before .before
-    .before .before .before .before .before .before .before .shared-slice-known .given)
-    (c .before .before .before .before .before .before .before .before .before .before .before .before .before .before .before
-    .before .clip-three-edges .ensures) (c .before .before .before .before .before .before .before .clip-top .ensures) in
+    (c .before .before .before .before .before .before .before .before .before .before .before .before .before .before .before .before .before .before .before .before .before .shared-slice-known .given)
+    (c .before .before .before .before .before .before .before .before .before .before .before .before .before .before .before .clip-three-edges .ensures) (c .before .before .before .before .before .before .before .clip-top .ensures) in
     cut-clipped s (a .args .bounds) (p .even) (now (a .args .out)) _ _ _ k (c .before .before .copy .ensures)
 
 clip-top-requires-2 : tie.Need-clip-top-requires-2
 clip-top-requires-2 c κs =
-    let a = c .before .before .before .before .before .before .before .before .before .before .before .before .before .before .before in
+    let a = c .before .before .before .before .before .before .before .before .before .before .before .before .before .before in
     let s = now (a .args .ring) in
     let p = passes-cuttable _ _ _ _ (a .pre) in
     let t = stage-three (a .args .bounds) (coords (take (2 * (length s / 2)) s)) (length s / 2) _ _
     (length-front s (length s / 2) (omega (arith, p .even)))
-    (c .before .before .before .before .before .before .before .before .clip-three-edges .ensures) in
+    (c .before .before .before .before .before .before .before .clip-three-edges .ensures) in
     stage-last _ _ (omega arith) (omega arith) t
 
 same-length-4 : tie.Need-same-length-4
@@ -102,14 +95,12 @@ same-length-6 c = search needs
 
 returns-2 : tie.Need-returns-2
 returns-2 c =
-    let a = c .before .before .before .before .before .before .before .before .before .before .before .before .before .before .before
-    .before .before .before in
+    let a = c .before .before .before .before .before .before .before .before .before .before .before .before .before .before .before .before .before in
     let p = passes-cuttable _ _ _ _ (a .pre) in
     let h : FittingBounds (a .args .bounds) = (search needs, search needs, search needs, search needs) in
     last-pass-clipped (now (a .args .ring)) (a .args .bounds) (p .even) _ _ (now (a .args .out)) _ _ h
-    (c .before .before .before .before .before .before .before .before .before .before .before .before .before .before .before
-    .before .before .shared-slice-known .given) (c .before .before .before .before .before .if1 .left)
-    (c .before .before .before .before .before .before .before .before .before .before .before .clip-three-edges .ensures)
+    (c .before .before .before .before .before .before .before .before .before .before .before .before .before .before .before .before .shared-slice-known .given) (c .before .before .before .before .before .if1 .left)
+    (c .before .before .before .before .before .before .before .before .before .before .clip-three-edges .ensures)
     (c .before .before .clip-top2 .ensures)
 
 pub clip-lent-spec : {M : Type 1} → statement M
