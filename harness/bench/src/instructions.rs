@@ -1,16 +1,21 @@
 //! Instructions of one call, counted by callgrind: the same on every machine and beside any other work. This program runs
-//! itself under valgrind with few calls and with more; what the further calls took is divided among them.
+//! itself under valgrind with few calls and with more; what the further calls took is divided among them. The port's ring call is
+//! counted with its clearing, which the Rust has not.
 
 use std::env;
 use std::ffi::OsString;
 use std::process::{Command, Stdio};
 
-use crate::frames::{Sides, CASES, SIZES};
+use crate::frames::{self, CASES, SIZES};
 use crate::lines::{self, Input};
+use crate::rings::{self, OUTLINES};
 use crate::table::whole;
 
 const FEW: usize = 20;
 const FURTHER: usize = 100;
+
+/// Vertices of the rings.
+const VERTICES: [usize; 2] = [64, 1_024];
 
 /// Lines of the program's input.
 const FEW_LINES: usize = 500;
@@ -20,7 +25,13 @@ pub fn measure() {
     println!("| workload | size | case | Rust | port | ratio |\n|---|---|---|---|---|---|");
     for (s, size) in SIZES.iter().enumerate() {
         for (c, case) in CASES.iter().enumerate() {
-            print_row("frame entry", size.name, case.name, ["rust", "port"].map(|side| of_a_call(side, s, c)));
+            print_row("frame entry", size.name, case.name, of_a_call("frame", s, c));
+        }
+    }
+    for (v, vertices) in VERTICES.iter().enumerate() {
+        let size = format!("{} vertices", whole(*vertices as f64));
+        for (o, (name, _)) in OUTLINES.iter().enumerate() {
+            print_row("ring call", &size, name, of_a_call("ring", v, o));
         }
     }
     for (name, shares) in lines::INPUTS {
@@ -37,13 +48,16 @@ fn print_row(workload: &str, size: &str, case: &str, [rust, port]: [f64; 2]) {
     println!("| {workload} | {size} | {case} | {} | {} | {:.2} |", whole(rust), whole(port), port / rust);
 }
 
-fn of_a_call(side: &str, size: usize, case: usize) -> f64 {
-    let counts = [FEW, FEW + FURTHER].map(|calls| {
-        let mut program = Command::new(env::current_exe().expect("a program knows where it is"));
-        program.args(["calls", side]).args([size, case, calls].map(|number| number.to_string()));
-        collected(&program, Stdio::null())
-    });
-    (counts[1] - counts[0]) / FURTHER as f64
+/// Of both sides, in the order of the table.
+fn of_a_call(call: &str, size: usize, case: usize) -> [f64; 2] {
+    ["rust", "port"].map(|side| {
+        let counts = [FEW, FEW + FURTHER].map(|times| {
+            let mut program = Command::new(env::current_exe().expect("a program knows where it is"));
+            program.args(["calls", call, side]).args([size, case, times].map(|number| number.to_string()));
+            collected(&program, Stdio::null())
+        });
+        (counts[1] - counts[0]) / FURTHER as f64
+    })
 }
 
 /// The instructions of a program's run.
@@ -62,13 +76,24 @@ fn collected(program: &Command, input: Stdio) -> f64 {
     count.unwrap_or_else(|| panic!("callgrind counted nothing: {said}"))
 }
 
-/// Makes calls of one side, which callgrind counts: the side, the places of size and case, and how many calls.
+/// Makes calls of one side, which callgrind counts: frame or ring, the side, the places of size and case, and how many calls.
 pub fn make_calls(arguments: &[String]) {
-    let [side, numbers @ ..] = arguments else {
-        panic!("no side is named");
+    let [call, side, numbers @ ..] = arguments else {
+        panic!("no call and no side are named");
     };
     let numbers: Vec<usize> = numbers.iter().map(|number| number.parse().expect("a number")).collect();
-    let mut sides = Sides::new(&SIZES[numbers[0]], &CASES[numbers[1]]);
-    let call = if side == "rust" { Sides::rust } else { Sides::port };
-    (0..numbers[2]).for_each(|_| call(&mut sides));
+    let [size, case, times] = numbers[..] else {
+        panic!("size, case and times are three numbers");
+    };
+    let is_rust = side == "rust";
+    if call == "frame" {
+        let mut sides = frames::Sides::new(&SIZES[size], &CASES[case]);
+        let one_call = if is_rust { frames::Sides::rust } else { frames::Sides::port };
+        (0..times).for_each(|_| one_call(&mut sides));
+    } else {
+        let (_, outline) = OUTLINES[case];
+        let mut sides = rings::Sides::new(&outline(VERTICES[size]));
+        let one_call = if is_rust { rings::Sides::rust } else { rings::Sides::port };
+        (0..times).for_each(|_| one_call(&mut sides));
+    }
 }

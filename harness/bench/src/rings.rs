@@ -4,6 +4,7 @@
 use std::hint::black_box;
 
 use formats::room::most_cut;
+use formats::same_numbers;
 use geo::Coord;
 use port::{calls, probe};
 use tylertoo::sutherland_hodgman::opened::clip_ring;
@@ -16,7 +17,7 @@ use crate::timing::medians_in_step;
 /// A ring of so many vertices.
 type Outline = fn(usize) -> Vec<Coord<f64>>;
 
-const OUTLINES: [(&str, Outline); 3] = [("inside", inside), ("half outside", half_outside), ("zigzag", zigzag)];
+pub const OUTLINES: [(&str, Outline); 3] = [("inside", inside), ("half outside", half_outside), ("zigzag", zigzag)];
 
 pub fn measure() {
     for vertices in [64, 1_024, 65_536] {
@@ -27,16 +28,13 @@ pub fn measure() {
 }
 
 fn row(vertices: usize, name: &str, ring: &[Coord<f64>]) -> Row {
-    let bounds = TileBounds::new(BOUNDS[0], BOUNDS[1], BOUNDS[2], BOUNDS[3]);
-    let numbers: Vec<f64> = ring.iter().flat_map(|c| [c.x, c.y]).collect();
-    let lent = || vec![0.0; 2 * most_cut(vertices)];
+    let (mut rust, mut call) = (Sides::new(ring), Sides::new(ring));
+    let numbers = numbers_of(ring);
+    let lent = || lent_for(vertices);
     let (mut a, mut b, mut out) = (lent(), lent(), lent());
-    let (mut call_a, mut call_b, mut call_out) = (lent(), lent(), lent());
     let (mut clear_a, mut clear_b) = (lent(), lent());
     let times = medians_in_step(&mut [
-        &mut || {
-            black_box(clip_ring(black_box(ring), &bounds));
-        },
+        &mut || rust.rust(),
         &mut || {
             black_box(probe::clip_lent(black_box(&numbers), &BOUNDS, &mut a, &mut b, &mut out));
         },
@@ -44,9 +42,7 @@ fn row(vertices: usize, name: &str, ring: &[Coord<f64>]) -> Row {
             black_box(&mut clear_a[..]).fill(0.0);
             black_box(&mut clear_b[..]).fill(0.0);
         },
-        &mut || {
-            black_box(calls::ring(black_box(&numbers), &BOUNDS, &mut call_a, &mut call_b, &mut call_out));
-        },
+        &mut || call.port(),
     ]);
     Row {
         workload: "ring call",
@@ -56,4 +52,60 @@ fn row(vertices: usize, name: &str, ring: &[Coord<f64>]) -> Row {
         port: times[1],
         clearing: Some(Clearing { alone: times[2], whole_call: times[3] }),
     }
+}
+
+/// Both sides with the ring, and what the port's whole call writes to.
+pub struct Sides {
+    ring: Vec<Coord<f64>>,
+    numbers: Vec<f64>,
+    bounds: TileBounds,
+    scratch_a: Vec<f64>,
+    scratch_b: Vec<f64>,
+    out: Vec<f64>,
+}
+
+impl Sides {
+    /// Both have cut the ring once, to the same numbers.
+    pub fn new(ring: &[Coord<f64>]) -> Sides {
+        let lent = || lent_for(ring.len());
+        let mut sides = Sides {
+            ring: ring.to_vec(),
+            numbers: numbers_of(ring),
+            bounds: TileBounds::new(BOUNDS[0], BOUNDS[1], BOUNDS[2], BOUNDS[3]),
+            scratch_a: lent(),
+            scratch_b: lent(),
+            out: lent(),
+        };
+        let cut = numbers_of(&sides.cut_by_rust());
+        let coordinates = sides.cut_by_port();
+        assert_eq!(coordinates, cut.len() as i64 / 2);
+        assert!(same_numbers(&sides.out[..cut.len()], &cut), "{} vertices are cut to other numbers", ring.len());
+        sides
+    }
+
+    pub fn rust(&mut self) {
+        black_box(self.cut_by_rust());
+    }
+
+    pub fn port(&mut self) {
+        black_box(self.cut_by_port());
+    }
+
+    fn cut_by_rust(&self) -> Vec<Coord<f64>> {
+        clip_ring(black_box(&self.ring), &self.bounds)
+    }
+
+    fn cut_by_port(&mut self) -> i64 {
+        let Sides { numbers, scratch_a, scratch_b, out, .. } = self;
+        calls::ring(black_box(numbers), &BOUNDS, scratch_a, scratch_b, out)
+    }
+}
+
+fn numbers_of(ring: &[Coord<f64>]) -> Vec<f64> {
+    ring.iter().flat_map(|c| [c.x, c.y]).collect()
+}
+
+/// A slice to write to, exactly as long as a ring of so many vertices asks.
+fn lent_for(vertices: usize) -> Vec<f64> {
+    vec![0.0; 2 * most_cut(vertices)]
 }
