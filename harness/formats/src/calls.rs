@@ -216,12 +216,17 @@ fn difference_in(answers: [i64; 2], numbers: &[Sides<f64>], wholes: &[Sides<u32>
         .or_else(|| wholes.iter().find_map(|(name, a, b)| first_difference(name, a, b, same_whole)))
 }
 
-fn same_whole<T: PartialEq>(a: T, b: T) -> bool {
+pub(crate) fn same_whole<T: PartialEq>(a: T, b: T) -> bool {
     a == b
 }
 
 /// Where two slices of that name first differ, and what stands there in each.
-fn first_difference<T: Copy + Debug>(name: &str, a: &[T], b: &[T], same: fn(T, T) -> bool) -> Option<String> {
+pub(crate) fn first_difference<T: Copy + Debug>(
+    name: &str,
+    a: &[T],
+    b: &[T],
+    same: fn(T, T) -> bool,
+) -> Option<String> {
     if a.len() != b.len() {
         return Some(format!("{name}: {} values and {}", a.len(), b.len()));
     }
@@ -230,7 +235,7 @@ fn first_difference<T: Copy + Debug>(name: &str, a: &[T], b: &[T], same: fn(T, T
 }
 
 /// A lent slice with an answer written from its front.
-fn written_over<T: Copy>(lent: &[T], answer: &[T]) -> Vec<T> {
+pub(crate) fn written_over<T: Copy>(lent: &[T], answer: &[T]) -> Vec<T> {
     [answer, &lent[answer.len()..]].concat()
 }
 

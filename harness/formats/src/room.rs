@@ -1,11 +1,16 @@
 //! How much room a cut may need.
 
+/// Document 01's half-growth: one pass makes at most this many coordinates of n.
+pub fn most_passed(n: usize) -> usize {
+    n + n / 2
+}
+
 /// Document 01's B: four passes and two closings make at most this many coordinates of n.
 pub fn most_cut(n: usize) -> usize {
     if n == 0 {
         return 0;
     }
-    (0..4).fold(n, |n, _| n + n / 2) + 2
+    (0..4).fold(n, |n, _| most_passed(n)) + 2
 }
 
 #[cfg(test)]

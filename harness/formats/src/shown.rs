@@ -3,6 +3,7 @@
 use std::fmt::{self, Debug, Display};
 
 use crate::calls::{RingCall, SliceCall};
+use crate::passes::PassCall;
 
 /// A slice of at most this many values is shown whole.
 const WHOLE: usize = 64;
@@ -34,6 +35,13 @@ impl Display for SliceCall {
         write!(f, "assume_simple {}, skip_boundary_fallback {}, ", self.assume_simple, self.skip_boundary_fallback)?;
         write!(f, "lent scratch {} and {}, ", self.scratch_a.len(), self.scratch_b.len())?;
         write!(f, "order {}, output {}, lengths {}", self.order.len(), self.out.len(), self.out_lengths.len())
+    }
+}
+
+impl Display for PassCall {
+    fn fmt(&self, f: &mut fmt::Formatter) -> fmt::Result {
+        write!(f, "ring {} at {:?} of {:?}, ", shortened(&self.ring), self.edge, self.bounds)?;
+        write!(f, "lent output {}", self.out.len())
     }
 }
 

@@ -87,11 +87,11 @@ fn slices(part: &Part, rng: &mut Rng) -> (Vec<f64>, Vec<u32>) {
 }
 
 /// Whether a call is about the limit of 65,536 coordinates; such calls take long, so they are rare.
-fn is_long(rng: &mut Rng) -> bool {
+pub fn is_long(rng: &mut Rng) -> bool {
     rng.once_in(500)
 }
 
-fn around_the_limit(rng: &mut Rng) -> usize {
+pub fn around_the_limit(rng: &mut Rng) -> usize {
     rng.pick(&[MOST_COORDINATES - 1, MOST_COORDINATES, MOST_COORDINATES + 1])
 }
 
@@ -104,7 +104,7 @@ fn long_part(rng: &mut Rng) -> Part {
 }
 
 /// A ring of so many coordinates in and out of most bounds, closed or not.
-fn zigzag(coordinates: usize, rng: &mut Rng) -> Ring {
+pub fn zigzag(coordinates: usize, rng: &mut Rng) -> Ring {
     let mut ring: Ring = (0..coordinates).map(|k| ((k % 7) as f64, (k % 5) as f64)).collect();
     ring[coordinates - 1] = if rng.once_in(2) { ring[0] } else { (8.0, 8.0) };
     ring
@@ -127,7 +127,7 @@ fn lent_length(needed: usize, rng: &mut Rng) -> usize {
     }
 }
 
-fn lent_numbers(needed: usize, rng: &mut Rng) -> Vec<f64> {
+pub fn lent_numbers(needed: usize, rng: &mut Rng) -> Vec<f64> {
     lent(lent_length(needed, rng), || any_bits(rng))
 }
 

@@ -1,4 +1,4 @@
-//! The seeded generator: frames, program input, ring calls, slice calls and bounds. The same seed, kind and index give the
+//! The seeded generator: frames, program input, ring calls, slice calls, passes and bounds. The same seed, kind and index give the
 //! same specimen always, so a difference is found again from three numbers.
 
 mod bounds;
@@ -11,6 +11,7 @@ mod limits;
 mod lines;
 mod numbers;
 mod outlines;
+mod passes;
 mod rng;
 mod scene;
 
@@ -19,4 +20,5 @@ pub use calls::{ring_call, slice_call};
 pub use exteriors::exterior;
 pub use frames::{frame, Kind, Specimen};
 pub use lines::lines;
+pub use passes::pass;
 pub use scene::Style;
