@@ -1,10 +1,11 @@
 //! The oracle: what the unchanged Rust answers to document 01's calls. Result, coordinates, guard count and overlay calls
 //! come from one run of `clip_geometry_simple` on the whole geometry; only part numbers and reasons, which the Rust doesn't
-//! give, are asked of its predicates part by part.
+//! give, are asked of its predicates part by part. Single passes come from its `clip_ring_against_edge`.
 
 mod answer;
 mod convert;
 mod lines;
+mod pass;
 mod route;
 mod run;
 
@@ -20,6 +21,7 @@ use convert::{bounds_of, coords_of, polygon_of, ring_of};
 use run::Hints;
 
 pub use lines::lines;
+pub use pass::pass;
 pub use tylertoo::tile::TileBounds;
 
 /// The frame call with `room` bytes of output.
