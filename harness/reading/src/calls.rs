@@ -1,7 +1,8 @@
-//! Ring calls and slice calls: their answers, and what they leave in the slices lent to them.
+//! Ring calls, slice calls and single passes: their answers, and what they leave in the slices lent to them.
 
+use crate::cut::{Passed, Side};
 use crate::polygon::{Bounds, Box4, Flags, Routed};
-use crate::ring::{b, vertices};
+use crate::ring::{b, half_growth, vertices};
 use crate::{Mistake, Reading, Vertex};
 
 const MOST_RINGS: usize = 64;
@@ -25,7 +26,28 @@ pub struct Slices<'a> {
     pub lengths: &'a [u32],
 }
 
+/// How many vertices a pass wrote, and how many verdicts it worked out.
+pub struct PassCounts {
+    pub vertices: usize,
+    pub verdicts: usize,
+}
+
 impl Reading {
+    /// One pass over the whole pairs of these numbers, its vertices written from the front of the output. None where that is
+    /// shorter than their half-growth: then nothing is written.
+    pub fn pass_call(&self, ring: &[f64], side: Side, bounds: [f64; 4], out: &mut [f64]) -> Option<PassCounts> {
+        let coordinates = ring.len() / 2;
+        if out.len() < 2 * half_growth(coordinates) {
+            return None;
+        }
+        let ring = vertices(&ring[..2 * coordinates]);
+        let Passed { vertices, verdicts } = self.pass(&ring, side, &Box4::from_numbers(bounds), true);
+        for (place, v) in out.chunks_mut(2).zip(&vertices) {
+            place.copy_from_slice(&[v.x, v.y]);
+        }
+        Some(PassCounts { vertices: vertices.len(), verdicts })
+    }
+
     /// The count of coordinates that a ring call writes, or minus the number of its refusal.
     pub fn ring_call(&self, ring: &[f64], bounds: [f64; 4], lent: &mut Lent) -> i64 {
         self.begin(lent);

@@ -1,4 +1,5 @@
-//! Section "Cut rings": four passes, and the first closing.
+//! Section "Cut rings": four passes, and the first closing. Each pass keeps the last verdict from step to step and counts those
+//! that it works out: document 02, point 3.
 
 use crate::polygon::Box4;
 use crate::{Mistake, Reading, Vertex};
@@ -40,6 +41,35 @@ impl Side {
     }
 }
 
+/// What a pass gives: its vertices, and how many verdicts it worked out.
+pub struct Passed {
+    pub vertices: Vec<Vertex>,
+    pub verdicts: usize,
+}
+
+/// Says of vertices whether they are in, and counts how often it does.
+struct Judge<'a> {
+    reading: &'a Reading,
+    side: Side,
+    bounds: &'a Box4,
+    verdicts: usize,
+}
+
+impl Judge<'_> {
+    fn is_in(&mut self, v: Vertex) -> bool {
+        self.verdicts += 1;
+        let (across, _) = self.side.across_and_along(v);
+        let bound = self.side.bound(self.bounds);
+        if self.reading.makes(Mistake::OnLineIsOut) && across == bound {
+            return false;
+        }
+        match self.side {
+            Side::Left | Side::Bottom => across >= bound,
+            Side::Right | Side::Top => across <= bound,
+        }
+    }
+}
+
 impl Reading {
     /// The cut ring, closed once; empty where fewer than 3 vertices are left.
     pub fn cut_ring(&self, ring: &[Vertex], bounds: &Box4) -> Vec<Vertex> {
@@ -53,7 +83,7 @@ impl Reading {
                 continue;
             }
             let leaves_off = number == 0 || !self.makes(Mistake::LeavesOffInFirstPassOnly);
-            ring = self.pass(&ring, side, bounds, leaves_off);
+            ring = self.pass(&ring, side, bounds, leaves_off).vertices;
         }
         if ring.len() < 3 {
             return Vec::new();
@@ -62,35 +92,27 @@ impl Reading {
         ring
     }
 
-    fn pass(&self, ring: &[Vertex], side: Side, bounds: &Box4, leaves_off: bool) -> Vec<Vertex> {
+    pub fn pass(&self, ring: &[Vertex], side: Side, bounds: &Box4, leaves_off: bool) -> Passed {
         let kept = match ring {
             [first, between @ .., last] if leaves_off && first.equals(*last) => &ring[..between.len() + 1],
             _ => ring,
         };
-        let mut cut = Vec::new();
-        for (k, &end) in kept.iter().enumerate() {
-            let start = kept[(k + kept.len() - 1) % kept.len()];
-            let (start_in, end_in) = (self.is_in(start, side, bounds), self.is_in(end, side, bounds));
-            if start_in != end_in {
-                cut.push(self.crossing(start, end, side, bounds));
+        let mut judge = Judge { reading: self, side, bounds, verdicts: 0 };
+        let mut vertices = Vec::new();
+        if let Some(&last) = kept.last() {
+            let (mut start, mut start_in) = (last, judge.is_in(last));
+            for &end in kept {
+                let end_in = judge.is_in(end);
+                if start_in != end_in {
+                    vertices.push(self.crossing(start, end, side, bounds));
+                }
+                if end_in {
+                    vertices.push(end);
+                }
+                (start, start_in) = (end, end_in);
             }
-            if end_in {
-                cut.push(end);
-            }
         }
-        cut
-    }
-
-    fn is_in(&self, v: Vertex, side: Side, bounds: &Box4) -> bool {
-        let (across, _) = side.across_and_along(v);
-        let bound = side.bound(bounds);
-        if self.makes(Mistake::OnLineIsOut) && across == bound {
-            return false;
-        }
-        match side {
-            Side::Left | Side::Bottom => across >= bound,
-            Side::Right | Side::Top => across <= bound,
-        }
+        Passed { vertices, verdicts: judge.verdicts }
     }
 
     fn crossing(&self, start: Vertex, end: Vertex, side: Side, bounds: &Box4) -> Vertex {

@@ -1,5 +1,5 @@
-//! A second reading of document 01, written from its text alone: it shares no code with the oracle. It can make one
-//! deliberate mistake, so that the generator can be shown to find it.
+//! A second reading of document 01 and of document 02's point 3, written from their text alone: it shares no code with the
+//! oracle. It can make one deliberate mistake, so that the generator can be shown to find it.
 
 mod calls;
 mod cut;
@@ -11,7 +11,8 @@ mod polygon;
 mod program;
 mod ring;
 
-pub use calls::{Lent, Slices};
+pub use calls::{Lent, PassCounts, Slices};
+pub use cut::Side;
 pub use mistake::{Mistake, Place};
 pub use polygon::{Flags, Routed};
 pub use ring::Vertex;

@@ -29,9 +29,13 @@ pub fn vertices(numbers: &[f64]) -> Vec<Vertex> {
     numbers.chunks(2).map(|pair| Vertex { x: pair[0], y: pair[1] }).collect()
 }
 
+/// n plus half of n rounded down: the most vertices that a pass makes of n.
+pub fn half_growth(n: usize) -> usize {
+    n + n / 2
+}
+
 /// Document 01's B of n.
 pub fn b(n: usize) -> usize {
-    let half_growth = |n: usize| n + n / 2;
     match n {
         0 => 0,
         _ => half_growth(half_growth(half_growth(half_growth(n)))) + 2,
