@@ -6,9 +6,10 @@ use std::process::exit;
 
 use compare::campaign::Campaign;
 use compare::command::Command;
-use compare::{calls, frames, lines, mistakes, vectors};
+use compare::{calls, frames, lines, mistakes, passes, vectors};
 
-const USAGE: &str = "usage: compare frames|lines|rings|slices|mistakes [--seed S] [--count N], N specimens of each kind
+const USAGE: &str =
+    "usage: compare frames|lines|rings|slices|passes|mistakes [--seed S] [--count N], N specimens of each kind
        compare sample-lines|sample-rings|sample-slices [--seed S] [--count N], N of each kind and answer
        compare ringcut <lines";
 
@@ -19,6 +20,7 @@ fn main() {
         "lines" => report(&lines::compare(seed, count)),
         "rings" => report(&calls::compare_ring_calls(seed, count)),
         "slices" => report(&calls::compare_slice_calls(seed, count)),
+        "passes" => report(&passes::compare(seed, count)),
         "mistakes" => {
             let search = mistakes::search(seed, count, u64::MAX);
             println!("{search}");

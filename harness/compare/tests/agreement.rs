@@ -1,6 +1,6 @@
 //! The Rust and the second reading agree: the share that every test run takes.
 
-use compare::{calls, frames, lines};
+use compare::{calls, frames, lines, passes};
 
 const SEED: u64 = 1;
 
@@ -22,4 +22,9 @@ fn ring_calls_agree() {
 #[test]
 fn slice_calls_agree() {
     calls::compare_slice_calls(SEED, 5_000).assert_agreed(40_000);
+}
+
+#[test]
+fn passes_agree() {
+    passes::compare(SEED, 10_000).assert_agreed(80_000);
 }

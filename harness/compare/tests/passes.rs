@@ -1,0 +1,92 @@
+//! The count of verdicts: on rings worked by hand, by document 02's sentence, and that the generator meets what is easily
+//! miscounted.
+
+use std::collections::BTreeMap;
+
+use compare::passes::{pass, worked_call, WORKED};
+use formats::calls::MOST_COORDINATES;
+use formats::passes::{Edge, PassCall};
+use formats::room::most_passed;
+use formats::{flat, pairs, same_numbers, Coord};
+use generator::Style;
+use reading::Reading;
+
+#[test]
+fn worked_rings_have_their_counts() {
+    for (name, ring, verdicts) in WORKED {
+        for edge in Edge::ALL {
+            let call = worked_call(ring, edge, 0);
+            let oracle = call.after(oracle::pass(&call).as_ref());
+            assert_eq!(oracle.verdicts, Some(verdicts), "the Rust, {name}, {edge:?}");
+            assert_eq!(oracle.difference(&pass(&Reading::RIGHT, &call)), None, "the reading, {name}, {edge:?}");
+        }
+    }
+}
+
+/// One more than the vertices left after the leaving off, none if none are left.
+#[test]
+fn counts_are_those_of_the_sentence() {
+    for call in specimens(1_000) {
+        let ring = pairs(&call.ring);
+        let left_off = usize::from(ring.len() >= 2 && ring.first() == ring.last());
+        let left = ring.len() - left_off;
+        let verdicts = if left == 0 { 0 } else { left + 1 };
+        if let Some(passed) = oracle::pass(&call) {
+            assert_eq!(passed.verdicts, verdicts, "{call}");
+        }
+    }
+}
+
+#[test]
+fn the_generator_meets_every_shape_at_every_edge() {
+    let mut met = BTreeMap::new();
+    for call in specimens(2_000) {
+        for (shape, has) in shapes(&call) {
+            *met.entry((call.edge, shape)).or_insert(false) |= has;
+        }
+    }
+    assert_eq!(met.len(), 4 * 13);
+    let missed: Vec<_> = met.iter().filter(|(_, is_met)| !**is_met).collect();
+    assert_eq!(missed, []);
+}
+
+/// `count` passes of each style.
+fn specimens(count: u64) -> impl Iterator<Item = PassCall> {
+    Style::ALL.into_iter().flat_map(move |style| (0..count).map(move |index| generator::pass(style, 1, index)))
+}
+
+/// Whether a pass has each of these.
+fn shapes(call: &PassCall) -> [(&'static str, bool); 13] {
+    let ring = pairs(&call.ring);
+    let (n, asked) = (ring.len(), 2 * most_passed(ring.len()));
+    let ends_equal = ring.first() == ring.last();
+    let ends_look_equal = n > 0 && same_numbers(&flat(&ring[..1]), &flat(&ring[n - 1..]));
+    [
+        ("no vertex", n == 0),
+        ("one vertex", n == 1),
+        ("a vertex twice", n == 2 && ends_equal && ends_look_equal),
+        ("a vertex twice, its zeros of either sign", n == 2 && ends_equal && !ends_look_equal),
+        ("a vertex of NaN twice", n == 2 && !ends_equal && ends_look_equal),
+        ("closed", n > 2 && ends_equal),
+        ("open", n > 2 && !ends_equal),
+        ("a vertex on the line between in and out", ring.windows(3).any(|vertices| is_on_between(call, vertices))),
+        ("more vertices than a call may have", n > MOST_COORDINATES),
+        ("an odd number", call.ring.len() % 2 == 1),
+        ("room to the number", call.out.len() == asked),
+        ("one number too little room", call.out.len() + 1 == asked),
+        ("more room", call.out.len() > asked),
+    ]
+}
+
+/// Whether the middle one of three vertices is on the line, with one strictly in and one out beside it.
+fn is_on_between(call: &PassCall, vertices: &[Coord]) -> bool {
+    let [west, south, east, north] = call.bounds;
+    let inwards = |&(x, y): &Coord| match call.edge {
+        Edge::Left => x - west,
+        Edge::Right => east - x,
+        Edge::Bottom => y - south,
+        Edge::Top => north - y,
+    };
+    let [before, at, behind] = [0, 1, 2].map(|k| inwards(&vertices[k]));
+    at == 0.0 && before * behind < 0.0
+}
