@@ -9,6 +9,7 @@ use reading::{Mistake, Place, Reading};
 use crate::calls::{ring_call, slice_call, styles};
 use crate::campaign::{self, Campaign};
 use crate::frames;
+use crate::passes::pass;
 
 #[derive(Clone, Copy)]
 enum Source {
@@ -16,6 +17,7 @@ enum Source {
     Lines,
     RingCalls(Style),
     SliceCalls(Style),
+    Passes(Style),
 }
 
 impl Source {
@@ -25,6 +27,7 @@ impl Source {
             Source::Lines => Place::Lines,
             Source::RingCalls(_) => Place::RingCalls,
             Source::SliceCalls(_) => Place::SliceCalls,
+            Source::Passes(_) => Place::Passes,
         }
     }
 }
@@ -71,10 +74,11 @@ fn sources() -> Vec<(&'static str, Source)> {
     sources.push(("lines", Source::Lines));
     sources.extend(styles().into_iter().map(|(name, style)| (name, Source::RingCalls(style))));
     sources.extend(styles().into_iter().map(|(name, style)| (name, Source::SliceCalls(style))));
+    sources.extend(styles().into_iter().map(|(name, style)| (name, Source::Passes(style))));
     sources
 }
 
-/// Whether a reading answers the specimen otherwise than the Rust, or leaves lent slices otherwise.
+/// Whether a reading answers the specimen otherwise than the Rust, counts otherwise, or leaves lent slices otherwise.
 fn differs_from_oracle(source: Source, seed: u64, index: u64) -> Box<dyn Fn(&Reading) -> bool> {
     match source {
         Source::Frames(kind) => {
@@ -96,6 +100,11 @@ fn differs_from_oracle(source: Source, seed: u64, index: u64) -> Box<dyn Fn(&Rea
             let call = generator::slice_call(style, seed, index);
             let oracle = call.after(&oracle::slice_call(&call));
             Box::new(move |reading| slice_call(reading, &call).difference(&oracle).is_some())
+        }
+        Source::Passes(style) => {
+            let call = generator::pass(style, seed, index);
+            let oracle = call.after(oracle::pass(&call).as_ref());
+            Box::new(move |reading| pass(reading, &call).difference(&oracle).is_some())
         }
     }
 }

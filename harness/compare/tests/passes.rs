@@ -1,15 +1,15 @@
-//! The count of verdicts: on rings worked by hand, by document 02's sentence, and that the generator meets what is easily
-//! miscounted.
+//! The count of verdicts: on rings worked by hand, by document 02's sentence, and as mistaken readings have it; and that the
+//! generator meets what is easily miscounted.
 
 use std::collections::BTreeMap;
 
 use compare::passes::{pass, worked_call, WORKED};
 use formats::calls::MOST_COORDINATES;
-use formats::passes::{Edge, PassCall};
+use formats::passes::{Edge, PassAfter, PassCall};
 use formats::room::most_passed;
 use formats::{flat, pairs, same_numbers, Coord};
 use generator::Style;
-use reading::Reading;
+use reading::{Mistake, Place, Reading};
 
 #[test]
 fn worked_rings_have_their_counts() {
@@ -33,6 +33,37 @@ fn counts_are_those_of_the_sentence() {
         let verdicts = if left == 0 { 0 } else { left + 1 };
         if let Some(passed) = oracle::pass(&call) {
             assert_eq!(passed.verdicts, verdicts, "{call}");
+        }
+    }
+}
+
+/// A triangle that goes out of the line and comes in again, closed; and no vertex.
+#[test]
+fn mistaken_counts_are_those_that_the_mistakes_say() {
+    let closed = worked_call(&[(-5.0, 5.0), (5.0, 4.0), (5.0, 6.0), (-5.0, 5.0)], Edge::Left, 0);
+    let none = worked_call(&[], Edge::Left, 0);
+    for (mistake, verdicts, verdicts_on_none) in [
+        (Mistake::FirstVerdictUncounted, 3, 0),
+        (Mistake::CountsOneForNone, 4, 1),
+        (Mistake::JudgesStartsAnew, 6, 0),
+        (Mistake::JudgesAgainAtCrossing, 6, 0),
+        (Mistake::JudgesVertexLeftOff, 5, 0),
+    ] {
+        let counted = |call| pass(&Reading::with(mistake), call).verdicts;
+        assert_eq!([&closed, &none].map(counted), [Some(verdicts), Some(verdicts_on_none)], "{mistake:?}");
+    }
+}
+
+#[test]
+fn mistaken_counts_change_nothing_else() {
+    let of_passes_alone: Vec<Mistake> =
+        Mistake::ALL.iter().copied().filter(|mistake| mistake.places() == [Place::Passes]).collect();
+    assert_eq!(of_passes_alone.len(), 5);
+    for call in specimens(500) {
+        let right = pass(&Reading::RIGHT, &call);
+        for &mistake in &of_passes_alone {
+            let mistaken = PassAfter { verdicts: right.verdicts, ..pass(&Reading::with(mistake), &call) };
+            assert_eq!(mistaken.difference(&right), None, "{mistake:?}, {call}");
         }
     }
 }

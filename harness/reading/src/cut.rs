@@ -68,6 +68,13 @@ impl Judge<'_> {
             Side::Right | Side::Top => across <= bound,
         }
     }
+
+    /// One verdict more, which only this mistake works out, and which decides nothing.
+    fn needlessly(&mut self, mistake: Mistake, v: Vertex) {
+        if self.reading.makes(mistake) {
+            self.is_in(v);
+        }
+    }
 }
 
 impl Reading {
@@ -92,25 +99,35 @@ impl Reading {
         ring
     }
 
+    /// One pass. The verdict on an end is kept: the next step has that vertex for its start.
     pub fn pass(&self, ring: &[Vertex], side: Side, bounds: &Box4, leaves_off: bool) -> Passed {
-        let kept = match ring {
-            [first, between @ .., last] if leaves_off && first.equals(*last) => &ring[..between.len() + 1],
-            _ => ring,
-        };
+        let kept = if leaves_off { without_closing(ring) } else { ring };
         let mut judge = Judge { reading: self, side, bounds, verdicts: 0 };
+        if let Some(&left_off) = ring.get(kept.len()) {
+            judge.needlessly(Mistake::JudgesVertexLeftOff, left_off);
+        }
+        let Some(&last) = kept.last() else {
+            let verdicts = usize::from(self.makes(Mistake::CountsOneForNone));
+            return Passed { vertices: Vec::new(), verdicts };
+        };
+        let (mut start, mut start_in) = (last, judge.is_in(last));
+        if self.makes(Mistake::FirstVerdictUncounted) {
+            judge.verdicts = 0;
+        }
         let mut vertices = Vec::new();
-        if let Some(&last) = kept.last() {
-            let (mut start, mut start_in) = (last, judge.is_in(last));
-            for &end in kept {
-                let end_in = judge.is_in(end);
-                if start_in != end_in {
-                    vertices.push(self.crossing(start, end, side, bounds));
-                }
-                if end_in {
-                    vertices.push(end);
-                }
-                (start, start_in) = (end, end_in);
+        for (k, &end) in kept.iter().enumerate() {
+            if k > 0 {
+                judge.needlessly(Mistake::JudgesStartsAnew, start);
             }
+            let end_in = judge.is_in(end);
+            if start_in != end_in {
+                judge.needlessly(Mistake::JudgesAgainAtCrossing, start);
+                vertices.push(self.crossing(start, end, side, bounds));
+            }
+            if end_in {
+                vertices.push(end);
+            }
+            (start, start_in) = (end, end_in);
         }
         Passed { vertices, verdicts: judge.verdicts }
     }
@@ -128,5 +145,13 @@ impl Reading {
         };
         let across = if self.makes(Mistake::CrossingMissesBound) { from + t * (to - from) } else { bound };
         side.vertex(across, along)
+    }
+}
+
+/// What is left of a list of two or more whose first equals its last; any other is left whole.
+fn without_closing(ring: &[Vertex]) -> &[Vertex] {
+    match ring {
+        [before @ .., last] if !before.is_empty() && before[0].equals(*last) => before,
+        _ => ring,
     }
 }

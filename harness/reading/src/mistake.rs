@@ -1,6 +1,6 @@
 //! The deliberate mistakes.
 
-use Place::{Frames, Lines, RingCalls, SliceCalls};
+use Place::{Frames, Lines, Passes, RingCalls, SliceCalls};
 
 /// What a mistake shows in.
 #[derive(Clone, Copy, Debug, PartialEq, Eq)]
@@ -9,10 +9,11 @@ pub enum Place {
     Lines,
     RingCalls,
     SliceCalls,
+    Passes,
 }
 
 impl Place {
-    pub const ALL: [Place; 4] = [Frames, Lines, RingCalls, SliceCalls];
+    pub const ALL: [Place; 5] = [Frames, Lines, RingCalls, SliceCalls, Passes];
 }
 
 /// Declares the mistakes, their list, and the places that each of them shows in.
@@ -108,14 +109,6 @@ mistakes! {
         RepresentableByWhole,
 
         // The cut, further.
-        /// Takes a vertex on the line for out.
-        OnLineIsOut,
-        /// Runs the crossing from the end to the start.
-        CrossingFromEnd,
-        /// Fuses product and sum of the crossing.
-        FusesCrossing,
-        /// Computes the bound's own coordinate of a crossing too.
-        CrossingMissesBound,
         /// Runs the passes Bottom, Top, Left, Right.
         LatitudesFirst,
         /// Keeps cut holes under four coordinates.
@@ -144,6 +137,30 @@ mistakes! {
         RoomForLessThan64Rings,
         /// Gives 22 for hardly any room before it reads the frame.
         RoomBeforeFrame,
+    }
+
+    [Frames, Passes] {
+        /// Takes a vertex on the line for out.
+        OnLineIsOut,
+        /// Runs the crossing from the end to the start.
+        CrossingFromEnd,
+        /// Fuses product and sum of the crossing.
+        FusesCrossing,
+        /// Computes the bound's own coordinate of a crossing too.
+        CrossingMissesBound,
+    }
+
+    [Passes] {
+        /// Doesn't count the first verdict, on the last vertex as a start.
+        FirstVerdictUncounted,
+        /// Counts one verdict where no vertex is left.
+        CountsOneForNone,
+        /// Works out the verdict on every start anew.
+        JudgesStartsAnew,
+        /// Works out the verdict on the start once more at a crossing.
+        JudgesAgainAtCrossing,
+        /// Works out a verdict on the closing vertex that is left off.
+        JudgesVertexLeftOff,
     }
 
     [Frames, SliceCalls] {
