@@ -23,6 +23,18 @@ mod exported {
             out: *mut f64,
             out_len: usize,
         ) -> usize;
+        #[allow(clippy::too_many_arguments)]
+        pub fn probe_clip_ring_against_edge(
+            ring: *const f64,
+            ring_len: usize,
+            edge: u8,
+            bounds: *const f64,
+            bounds_len: usize,
+            out: *mut f64,
+            out_len: usize,
+            verdicts: *mut usize,
+            verdicts_len: usize,
+        ) -> usize;
         pub fn probe_intersect(a: *const f64, a_len: usize, b: *const f64, b_len: usize, out: *mut f64, out_len: usize);
         pub fn probe_find_issue(
             ring: *const f64,
@@ -114,6 +126,31 @@ pub fn clip_lent(
             scratch_b.len(),
             out.as_mut_ptr(),
             out.len(),
+        )
+    }
+}
+
+/// One pass of the ring cutter at an edge (0 Left, 1 Right, 2 Bottom, any other Top): the count of vertices, and the count of
+/// verdicts as the first of `verdicts`. Where the output is shorter than a pass may need: 0, and nothing is written.
+pub fn clip_ring_against_edge(
+    ring: &[f64],
+    edge: u8,
+    bounds: &Bounds,
+    out: &mut [f64],
+    verdicts: &mut [usize],
+) -> usize {
+    // SAFETY: as in `empty`.
+    unsafe {
+        exported::probe_clip_ring_against_edge(
+            ring.as_ptr(),
+            ring.len(),
+            edge,
+            bounds.as_ptr(),
+            bounds.len(),
+            out.as_mut_ptr(),
+            out.len(),
+            verdicts.as_mut_ptr(),
+            verdicts.len(),
         )
     }
 }

@@ -1,0 +1,66 @@
+//! Single passes of the port's ring cutter against the Rust, the share that every test run takes: random passes, and the rings
+//! whose verdicts were worked out by hand, with the output exact, one short and longer.
+
+use compare::passes::{worked_call, WORKED};
+use formats::passes::{Edge, PassAfter, PassCall};
+use port::{passes, probe};
+
+const UNCOUNTED: usize = usize::MAX;
+
+#[test]
+fn passes_agree() {
+    passes::compare(1, 10_000).assert_agreed(8 * 10_000);
+}
+
+#[test]
+fn worked_rings_have_their_counts() {
+    for (name, ring, verdicts) in WORKED {
+        for edge in Edge::ALL {
+            for spare in [0, 1, 7] {
+                let mut call = worked_call(ring, edge, spare);
+                let checked = passes::check(&call);
+                assert!(checked.is_ok(), "{name}: {checked:?}");
+                assert_eq!(count(&mut call), verdicts, "{name}, {edge:?}");
+            }
+        }
+    }
+}
+
+/// The count of verdicts alone, asked straight of the port.
+fn count(PassCall { ring, edge, bounds, out }: &mut PassCall) -> usize {
+    let mut verdicts = [UNCOUNTED];
+    probe::clip_ring_against_edge(ring, *edge as u8, bounds, out, &mut verdicts);
+    verdicts[0]
+}
+
+#[test]
+fn an_output_one_short_is_left_as_it_was() {
+    for (name, ring, _) in WORKED.iter().filter(|(_, ring, _)| !ring.is_empty()) {
+        for edge in Edge::ALL {
+            let mut call = worked_call(ring, edge, 0);
+            call.out.pop();
+            assert_eq!(passes::check(&call), Ok("no room"), "{name}, {edge:?}");
+            assert_eq!(count(&mut call), UNCOUNTED, "{name}, {edge:?}");
+        }
+    }
+}
+
+/// An answer, a count, a number of the output and a number behind it that are not the port's are each noticed.
+#[test]
+fn differences_are_noticed() {
+    let call = worked_call(WORKED[6].1, Edge::Right, 1);
+    let right = call.after(oracle::pass(&call).as_ref());
+    assert_eq!(passes::check_against(&call, &right), Ok(()));
+    let wrong = |change: &dyn Fn(&mut PassAfter)| {
+        let mut expected = right.clone();
+        change(&mut expected);
+        passes::check_against(&call, &expected).unwrap_err()
+    };
+    assert!(wrong(&|after| after.answer += 1).ends_with("answer, value 0: 4 and 5"));
+    assert!(wrong(&|after| after.verdicts = Some(5)).ends_with("verdicts [4] and Some(5)"));
+    assert!(wrong(&|after| after.verdicts = None).ends_with("verdicts [4] and None"));
+    for place in 0..right.out.len() {
+        let difference = wrong(&|after| after.out[place] += 1.0);
+        assert!(difference.contains(&format!("output, value {place}: ")), "{difference}");
+    }
+}
