@@ -5,8 +5,8 @@ use formats::passes::{PassCall, Passed};
 use formats::shown::shortened;
 use formats::{flat, pairs, same_numbers};
 use geo::Coord;
-use tylertoo::verdicts::take_judged;
-use tylertoo::{sutherland_hodgman, sutherland_hodgman_traced};
+use tylertoo_pass::verdicts::take_judged;
+use tylertoo_pass::{traced, unchanged};
 
 use crate::convert::{bounds_of, coords_of, ring_of};
 
@@ -16,9 +16,9 @@ pub fn pass(call: &PassCall) -> Option<Passed> {
         return None;
     }
     let (ring, edge, bounds) = (coords_of(&pairs(&call.ring)), call.edge as usize, bounds_of(call.bounds));
-    let numbers = numbers_of(&sutherland_hodgman::opened::clip_ring_against_edge(&ring, edge, &bounds));
+    let numbers = numbers_of(&unchanged::opened::clip_ring_against_edge(&ring, edge, &bounds));
     take_judged();
-    let traced = numbers_of(&sutherland_hodgman_traced::opened::clip_ring_against_edge(&ring, edge, &bounds));
+    let traced = numbers_of(&traced::opened::clip_ring_against_edge(&ring, edge, &bounds));
     let judged = take_judged();
     assert_same(&traced, &numbers);
     Some(Passed { numbers, verdicts: verdicts_with_last_kept(&judged) })

@@ -2,8 +2,8 @@
 
 use geo::Coord;
 use tylertoo::tile::TileBounds;
-use tylertoo::verdicts::take_judged;
-use tylertoo::{sutherland_hodgman, sutherland_hodgman_traced};
+use tylertoo_pass::verdicts::take_judged;
+use tylertoo_pass::{traced, unchanged};
 
 const BOUNDS: TileBounds = TileBounds { lng_min: 0.0, lat_min: 0.0, lng_max: 10.0, lat_max: 10.0 };
 
@@ -14,7 +14,7 @@ fn ring(coords: &[(f64, f64)]) -> Vec<Coord<f64>> {
 /// The places in the ring of the vertices that a pass judges.
 fn judged(ring: &[Coord<f64>], edge: usize) -> Vec<usize> {
     take_judged();
-    sutherland_hodgman_traced::opened::clip_ring_against_edge(ring, edge, &BOUNDS);
+    traced::opened::clip_ring_against_edge(ring, edge, &BOUNDS);
     let place = |vertex| ring.iter().position(|standing| std::ptr::eq(standing, vertex)).expect("it is of the ring");
     take_judged().into_iter().map(place).collect()
 }
@@ -32,10 +32,10 @@ fn every_vertex_left_is_judged_as_an_end_and_as_a_start() {
 }
 
 #[test]
-fn the_source_itself_tells_nothing() {
+fn the_unchanged_copy_tells_nothing() {
     take_judged();
     let open = ring(&[(5.0, 5.0), (15.0, 5.0), (5.0, -5.0)]);
-    let cut = sutherland_hodgman::opened::clip_ring_against_edge(&open, 1, &BOUNDS);
+    let cut = unchanged::opened::clip_ring_against_edge(&open, 1, &BOUNDS);
     assert_eq!(cut.len(), 4);
     assert!(take_judged().is_empty());
 }
