@@ -1,7 +1,7 @@
 //! Single passes: vertices, the count of verdicts and the lent output afterwards. The oracle's answer with what `formats` says it
 //! leaves stands on one side, the second reading's, with its own counter and what it leaves itself, on the other.
 
-use formats::passes::{Edge, PassAfter, PassCall, Passed};
+use formats::passes::{Edge, PassAfter, PassCall, Passed, NO_ROOM};
 use formats::room::most_passed;
 use formats::{flat, Coord};
 use reading::{PassCounts, Reading, Side};
@@ -55,7 +55,7 @@ pub fn pass(reading: &Reading, call: &PassCall) -> PassAfter {
     let mut out = call.out.clone();
     let side = Side::ORDER[call.edge as usize];
     match reading.pass_call(&call.ring, side, call.bounds, &mut out) {
-        None => PassAfter { answer: 0, verdicts: None, out },
+        None => PassAfter { answer: NO_ROOM, verdicts: None, out },
         Some(PassCounts { vertices, verdicts }) => PassAfter { answer: vertices, verdicts: Some(verdicts), out },
     }
 }

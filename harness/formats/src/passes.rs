@@ -35,6 +35,9 @@ pub struct Passed {
     pub verdicts: usize,
 }
 
+/// What is answered where the output has no room; no pass makes so many vertices.
+pub const NO_ROOM: usize = usize::MAX;
+
 /// What a pass answers, its count of vertices, and what it leaves.
 #[derive(Clone, Debug)]
 pub struct PassAfter {
@@ -53,7 +56,7 @@ impl PassCall {
     /// None is what comes of a pass without room.
     pub fn after(&self, passed: Option<&Passed>) -> PassAfter {
         match passed {
-            None => PassAfter { answer: 0, verdicts: None, out: self.out.clone() },
+            None => PassAfter { answer: NO_ROOM, verdicts: None, out: self.out.clone() },
             Some(Passed { numbers, verdicts }) => PassAfter {
                 answer: numbers.len() / 2,
                 verdicts: Some(*verdicts),
@@ -100,6 +103,7 @@ mod tests {
         assert_eq!(difference(after(&[], 2)).unwrap(), "answer, value 0: 1 and 0");
         assert_eq!(difference(after(&[5.0, f64::NAN], 1)).unwrap(), "verdicts, value 0: Some(2) and Some(1)");
         assert_eq!(difference(after(&[6.0, f64::NAN], 2)).unwrap(), "output, value 0: 5.0 and 6.0");
-        assert_eq!(call.after(None).difference(&after(&[], 0)).unwrap(), "verdicts, value 0: None and Some(0)");
+        let no_room = format!("answer, value 0: {NO_ROOM} and 0");
+        assert_eq!(call.after(None).difference(&after(&[], 0)).unwrap(), no_room);
     }
 }
