@@ -52,7 +52,7 @@ pub extern "C" fn probe_clip_ring_against_edge(
     ensures answer { λ r. ⌜ r ≡ Passes.passAnswer (now (ring .entry)) edge (boundsAt (now (bounds .entry))) (now (out .entry)) ⌝ }
     ensures output { λ _. ⌜ now (out .exit) ≡ Passes.passOutput (now (ring .entry)) edge (boundsAt (now (bounds .entry)))
         (now (out .entry)) ⌝ }
-    ensures count { λ _. ⌜ now (verdicts .exit) ≡ Passes.passVerdicts (now (ring .entry)) (now (out .entry))
+    ensures verdicts { λ _. ⌜ now (verdicts .exit) ≡ Passes.passVerdicts (now (ring .entry)) (now (out .entry))
         (now (verdicts .entry)) ⌝ }
 {
     let n = ring.len() / 2;

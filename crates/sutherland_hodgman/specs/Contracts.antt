@@ -51,10 +51,11 @@ WalkRoom l b ring m v at out =
     (2 * m ≤ length ring) × (at .i < m) × (2 * (at .len + length (stepsLeft l b (coords (take (2 * m) ring)) v (at .i))) ≤ out)
     × (at .verdicts ≡ at .i + 1)
 
--- From there the pass has come to r, with the verdict v′ on the vertex before.
+-- From there the pass has come further, to `to`, and going on with the verdict v′ it comes to the same end. Past the last vertex v′ decides
+-- nothing.
 abbrev pub WalkedOn : Edge → TileBounds → List Float → ℕ → Bool → Walk → List Float → Bool → Walk → List Float → Type 0
-WalkedOn l b ring m v at out v′ r out′ =
-    (at .i < r .i) × (r .i ≤ m) × SameRest l b (coords (take (2 * m) ring)) v (at .i) (at .len) out v′ (r .i) (r .len) out′
+WalkedOn l b ring m v at out v′ to out′ =
+    (at .i < to .i) × (to .i ≤ m) × SameRest l b (coords (take (2 * m) ring)) v (at .i) (at .len) out v′ (to .i) (to .len) out′
 
 -- How many verdicts are worked out where a run ends before the i-th vertex: one on the vertex that the pass started from, one on each
 -- before the i-th, and one on the i-th itself if the ring of m has one.

@@ -113,7 +113,7 @@ fn copy_inside(
         × (r .i < m → CuttingLines.inside edge bounds (coordAt (now (ring .entry)) (r .i)) ≡ false)
         × Contracts.SameRest edge bounds (coords (take (2 * m) (now (ring .entry)))) true (at .i) (at .len) (now (out .entry)) true
         (r .i) (r .len) (now (out .exit)) ⌝ }
-    ensures count { λ r. ⌜ Contracts.RunVerdicts m (r .i) (r .verdicts) ⌝ }
+    ensures verdicts { λ r. ⌜ Contracts.RunVerdicts m (r .i) (r .verdicts) ⌝ }
 {
     let mut i = at.i;
     let mut len = at.len;
@@ -140,7 +140,7 @@ fn skip_outside(ring: &[f64], m: usize, edge: Edge, bounds: TileBounds, at: Walk
         × (r .i < m → CuttingLines.inside edge bounds (coordAt (now (ring .entry)) (r .i)) ≡ true)
         × (Contracts.stepsLeft edge bounds (coords (take (2 * m) (now (ring .entry)))) false (at .i) ≡ Contracts.stepsLeft edge bounds
         (coords (take (2 * m) (now (ring .entry)))) false (r .i)) × (r .len ≡ at .len) ⌝ }
-    ensures count { λ r. ⌜ Contracts.RunVerdicts m (r .i) (r .verdicts) ⌝ }
+    ensures verdicts { λ r. ⌜ Contracts.RunVerdicts m (r .i) (r .verdicts) ⌝ }
 {
     let mut i = at.i;
     let mut verdicts = at.verdicts;
@@ -168,7 +168,7 @@ fn skip_outside(ring: &[f64], m: usize, edge: Edge, bounds: TileBounds, at: Walk
 fn leave(ring: &[f64], m: usize, edge: Edge, bounds: TileBounds, out: &mut [f64], at: Walk) -> Walk
     requires { ⌜ Contracts.WalkRoom edge bounds (now ring) m true at (length (now out)) ⌝ }
     ensures rest { λ r. ⌜ Contracts.WalkedOn edge bounds (now (ring .entry)) m true at (now (out .entry)) false r (now (out .exit)) ⌝ }
-    ensures count { λ r. ⌜ r .verdicts ≡ r .i + 1 ⌝ }
+    ensures verdicts { λ r. ⌜ r .verdicts ≡ r .i + 1 ⌝ }
 {
     let to = copy_inside(ring, m, edge, bounds, out, at);
     if m <= to.i {
@@ -188,7 +188,7 @@ fn leave(ring: &[f64], m: usize, edge: Edge, bounds: TileBounds, out: &mut [f64]
 fn enter(ring: &[f64], m: usize, edge: Edge, bounds: TileBounds, out: &mut [f64], at: Walk) -> Walk
     requires { ⌜ Contracts.WalkRoom edge bounds (now ring) m false at (length (now out)) ⌝ }
     ensures rest { λ r. ⌜ Contracts.WalkedOn edge bounds (now (ring .entry)) m false at (now (out .entry)) true r (now (out .exit)) ⌝ }
-    ensures count { λ r. ⌜ r .verdicts ≡ r .i + 1 ⌝ }
+    ensures verdicts { λ r. ⌜ r .verdicts ≡ r .i + 1 ⌝ }
 {
     let next = skip_outside(ring, m, edge, bounds, at);
     if m <= next.i {
@@ -218,7 +218,7 @@ fn turn(
     requires { ⌜ Contracts.WalkRoom edge bounds (now ring) m inside at (length (now out)) ⌝ }
     ensures rest { λ r. ⌜ Contracts.WalkedOn edge bounds (now (ring .entry)) m inside at (now (out .entry)) (not inside) r
         (now (out .exit)) ⌝ }
-    ensures count { λ r. ⌜ r .verdicts ≡ r .i + 1 ⌝ }
+    ensures verdicts { λ r. ⌜ r .verdicts ≡ r .i + 1 ⌝ }
 {
     if inside {
         return leave(ring, m, edge, bounds, out, at);
@@ -226,8 +226,8 @@ fn turn(
     enter(ring, m, edge, bounds, out, at)
 }
 
-// Cuts the ring of n vertices at the front of a slice at one edge, and writes the result to the front of another.
-// It starts from the last vertex. One call of leaving and one of entering lets both be compiled into the loop.
+// Cuts the ring of n vertices at the front of a slice at one edge, writes the result to the front of another, and counts the verdicts that
+// it works out. It starts from the last vertex. One call of leaving and one of entering lets both be compiled into the loop.
 pub fn clip_ring_against_edge(
     ring: &[f64],
     n: usize,
@@ -238,7 +238,7 @@ pub fn clip_ring_against_edge(
     requires { ⌜ Contracts.PassRoom n (length (now ring)) (length (now out)) ⌝ }
     ensures written { λ r. ⌜ Written (Clip.pass edge bounds (coords (take (2 * n) (now (ring .entry))))) (now (out .entry)) (r .len)
         (now (out .exit)) ⌝ }
-    ensures count { λ r. ⌜ r .verdicts ≡ verdicts (coords (take (2 * n) (now (ring .entry)))) ⌝ }
+    ensures verdicts { λ r. ⌜ r .verdicts ≡ verdicts (coords (take (2 * n) (now (ring .entry)))) ⌝ }
 {
     let m = left_off(ring, n);
     if m == 0 {

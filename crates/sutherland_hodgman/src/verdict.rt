@@ -1,5 +1,5 @@
-// Verdicts on vertices. `judge` alone works one out, since `is_inside` can't be called from outside this module, and raises the count that
-// it is handed. Whoever judges hands on the count that comes with the verdict.
+// Verdicts on vertices. A pass has each of them from `judge`, which raises the count that it is handed; `is_inside` can't be called from
+// outside this module. Whoever judges hands on the count that comes with the verdict.
 ghost use mathlib.Core.Path.{_≡_};
 ghost use Prim.Native.Nat.{_+_, _^_, _<_};
 ghost use Rattle.sutherland_hodgman.specs.CuttingLines as CuttingLines;
@@ -25,7 +25,8 @@ fn is_inside(coord: Coord, edge: Edge, bounds: TileBounds) -> bool
     }
 }
 
-// Judges a vertex, in a pass that has worked out so many verdicts before. The count has to fit; a slice has fewer numbers than that.
+// Judges a vertex, in a pass that has worked out so many verdicts before. A slice has fewer than 2^63 numbers, so
+// the count fits.
 pub fn judge(coord: Coord, edge: Edge, bounds: TileBounds, verdicts: usize) -> Verdict
     requires { ⌜ verdicts < 2 ^ 63 ⌝ }
     ensures { λ r. ⌜ (r .inside ≡ CuttingLines.inside edge bounds coord) × (r .verdicts ≡ verdicts + 1) ⌝ }

@@ -76,7 +76,7 @@ fn the_generator_meets_every_shape_at_every_edge() {
             *met.entry((call.edge, shape)).or_insert(false) |= has;
         }
     }
-    assert_eq!(met.len(), 4 * 13);
+    assert_eq!(met.len(), 4 * 15);
     let missed: Vec<_> = met.iter().filter(|(_, is_met)| !**is_met).collect();
     assert_eq!(missed, []);
 }
@@ -87,17 +87,20 @@ fn specimens(count: u64) -> impl Iterator<Item = PassCall> {
 }
 
 /// Whether a pass has each of these.
-fn shapes(call: &PassCall) -> [(&'static str, bool); 13] {
+fn shapes(call: &PassCall) -> [(&'static str, bool); 15] {
     let ring = pairs(&call.ring);
     let (n, asked) = (ring.len(), 2 * most_passed(ring.len()));
     let ends_equal = ring.first() == ring.last();
     let ends_look_equal = n > 0 && same_numbers(&flat(&ring[..1]), &flat(&ring[n - 1..]));
+    let has_nan = |&(x, y): &Coord| x.is_nan() || y.is_nan();
     [
         ("no vertex", n == 0),
         ("one vertex", n == 1),
         ("a vertex twice", n == 2 && ends_equal && ends_look_equal),
         ("a vertex twice, its zeros of either sign", n == 2 && ends_equal && !ends_look_equal),
         ("a vertex of NaN twice", n == 2 && !ends_equal && ends_look_equal),
+        ("one vertex with a NaN", n == 1 && ring.iter().all(has_nan)),
+        ("a NaN among numbers", n > 2 && ring.iter().any(has_nan) && !ring.iter().all(has_nan)),
         ("closed", n > 2 && ends_equal),
         ("open", n > 2 && !ends_equal),
         ("a vertex on the line between in and out", ring.windows(3).any(|vertices| is_on_between(call, vertices))),

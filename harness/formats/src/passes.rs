@@ -35,10 +35,13 @@ pub struct Passed {
     pub verdicts: usize,
 }
 
+/// The most vertices that the exported pass takes; no specimen has so many.
+pub const MOST_VERTICES: usize = 524_288;
+
 /// What is answered where the output has no room; no pass makes so many vertices.
 pub const NO_ROOM: usize = usize::MAX;
 
-/// What a pass answers, its count of vertices, and what it leaves.
+/// What comes of a pass: the answer, which is its count of vertices, its count of verdicts, and the output afterwards.
 #[derive(Clone, Debug)]
 pub struct PassAfter {
     pub answer: usize,
@@ -48,9 +51,10 @@ pub struct PassAfter {
 }
 
 impl PassCall {
-    /// Whether the output holds all that a pass can make of so many vertices.
+    /// Whether the output holds all that a pass can make of so many vertices, and they are not too many.
     pub fn has_room(&self) -> bool {
-        self.out.len() >= 2 * most_passed(self.ring.len() / 2)
+        let vertices = self.ring.len() / 2;
+        vertices <= MOST_VERTICES && self.out.len() >= 2 * most_passed(vertices)
     }
 
     /// None is what comes of a pass without room.

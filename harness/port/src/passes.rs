@@ -13,7 +13,7 @@ use crate::probe;
 const LENT: [(usize, u8); 3] = [(0, 3), (1, 4), (2, 255)];
 
 /// What stands in that slice before a pass; none counts so many.
-const UNCOUNTED: usize = usize::MAX;
+pub const UNCOUNTED: usize = usize::MAX;
 
 /// `count` passes of each style.
 pub fn compare(seed: u64, count: u64) -> Campaign {

@@ -131,8 +131,8 @@ pub fn clip_lent(
 }
 
 /// One pass of the ring cutter at an edge (0 Left, 1 Right, 2 Bottom, any other Top): the count of vertices, and the count of
-/// verdicts as the first of `verdicts`. Where the output is shorter than a pass may need: the highest number, and
-/// nothing is written.
+/// verdicts as the first of `verdicts`. Where the output is shorter than a pass may need, or the vertices
+/// are over 524,288: the highest number, and nothing is written.
 pub fn clip_ring_against_edge(
     ring: &[f64],
     edge: u8,

@@ -2,10 +2,9 @@
 //! whose verdicts were worked out by hand, with the output exact, one short and longer.
 
 use compare::passes::{worked_call, WORKED};
-use formats::passes::{Edge, PassAfter, PassCall};
-use port::{passes, probe};
-
-const UNCOUNTED: usize = usize::MAX;
+use formats::passes::{Edge, PassAfter, PassCall, MOST_VERTICES};
+use port::passes::{self, UNCOUNTED};
+use port::probe;
 
 #[test]
 fn passes_agree() {
@@ -42,6 +41,18 @@ fn an_output_one_short_is_left_as_it_was() {
             assert_eq!(passes::check(&call), Ok("no room"), "{name}, {edge:?}");
             assert_eq!(count(&mut call), UNCOUNTED, "{name}, {edge:?}");
         }
+    }
+}
+
+/// As many vertices as it takes, with the room that they ask for, and one more.
+#[test]
+fn vertices_up_to_the_limit_are_taken() {
+    for edge in [Edge::Left, Edge::Top] {
+        let call = worked_call(&vec![(5.0, 15.0); MOST_VERTICES], edge, 0);
+        assert_eq!(passes::check(&call), Ok(if edge == Edge::Left { "some in" } else { "all out" }));
+        let call = worked_call(&vec![(5.0, 15.0); MOST_VERTICES + 1], edge, 0);
+        let expected = call.after(None);
+        assert_eq!(passes::check_against(&call, &expected), Ok(()));
     }
 }
 

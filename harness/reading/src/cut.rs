@@ -107,8 +107,8 @@ impl Reading {
             judge.needlessly(Mistake::JudgesVertexLeftOff, left_off);
         }
         let Some(&last) = kept.last() else {
-            let verdicts = usize::from(self.makes(Mistake::CountsOneForNone));
-            return Passed { vertices: Vec::new(), verdicts };
+            let one_more = usize::from(self.makes(Mistake::CountsOneForNone));
+            return Passed { vertices: Vec::new(), verdicts: judge.verdicts + one_more };
         };
         let (mut start, mut start_in) = (last, judge.is_in(last));
         if self.makes(Mistake::FirstVerdictUncounted) {
