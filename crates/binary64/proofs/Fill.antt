@@ -1,13 +1,14 @@
 -- A list F that a loop writes from the front over another, d: j of its elements stand there already. Assumes nothing.
-use mathlib.Core.Path.{_≡_, refl, sym, _∙_}
+use mathlib.Core.Path.{_≡_, refl, sym, _∙_, ap}
 use mathlib.Core.List.{List, [], _∷_, _++_, append-nil, append-assoc}
 use Prim.Native.Nat.{ℕ, suc, _+_, _-_, _≤_, _<_}
 use native.Mathlib.Nat.{zero-add, add-zero}
 use native.Mathlib.Numerals.{add-one}
 use native.Mathlib.Omega.{arith}
-use lib.ListN.{length, getD, take, drop, set, length-set, length-drop, drop-of-length-le}
-use lib.Seq.{sets, sets-eq, set-at, take-suc, take-all, drop-cons, drop-drop, length-take-le}
-use Rattle.binary64.specs.Slices.{over}
+use lib.ListN.{length, getD, take, drop, set, replicate, length-append, length-set, length-drop, drop-of-length-le}
+use lib.Seq.{sets, sets-eq, set-at, take-suc, take-all, take-append-le, take-append-add, drop-append-seam, drop-cons, drop-drop}
+use lib.Seq.{length-take-le}
+use Rattle.binary64.specs.Slices.{over, padded}
 
 pub record Upto {A : Type 0} (F d : List A) (j : ℕ) (l : List A) : Type 0 where
   pub here : l ≡ take j F ++ drop j d
@@ -51,16 +52,32 @@ sets-append d j (x ∷ a) r = let n : j + suc (length a) ≡ suc j + length a = 
 pub tail-part : {A : Type 0} (s : List A) (at : ℕ) → take (length s - at) (drop at s) ≡ drop at s
 tail-part s at = take-all (length s - at) (drop at s) (omega (arith, length-drop at s))
 
--- k elements copied to the front of that part
-pub sets-part : {A : Type 0} (from to part to′ : List A) (at k : ℕ) → k ≤ length from → at + k ≤ length to
-    → part ≡ take k from ++ drop k (take (length to - at) (drop at to))
-    → to′ ≡ take at to ++ (part ++ drop (length to - at) (drop at to)) → to′ ≡ sets to at (take k from)
-sets-part from to part to′ at k hf ht hp h =
-    let n : length (take k from) ≡ k = length-take-le k from hf in
-    let l : length (drop at to) ≤ length to - at = omega (arith, length-drop at to) in
-    let e : drop (length to - at) (drop at to) ≡ [] = drop-of-length-le (drop at to) l in
-    h ∙ rw (e, append-nil, hp, tail-part to at, drop-drop k at to) (sym (sets-eq (take k from) to at (omega arith) ∙ rw (n, append-assoc)))
+-- what is written to the front of that part stands behind what lies before it
+pub front-part : {A : Type 0} (to part new to′ : List A) (at k : ℕ) → at ≤ length to → k ≤ length part → take k part ≡ new
+    → to′ ≡ take at to ++ (part ++ drop (length to - at) (drop at to)) → take (at + k) to′ ≡ take at to ++ new
+front-part to part new to′ at k ha hk e h =
+    let n : length (take at to) ≡ at = length-take-le at to ha in
+    let rest = part ++ drop (length to - at) (drop at to) in
+    let t : take (length (take at to) + k) (take at to ++ rest) ≡ take at to ++ take k rest = take-append-add (take at to) rest k in
+    let q : take k rest ≡ new = take-append-le k part (drop (length to - at) (drop at to)) hk ∙ e in
+    rw (h, ← q, ← t, n)
 
 -- all that is written, from the front
 pub whole-over : {A : Type 0} (vs l : List A) → length vs ≤ length l → sets l 0 vs ≡ over vs l
 whole-over vs l h = sets-eq vs l 0 (omega arith) ∙ rw (zero-add (length vs))
+
+-- ---- the part of a list up to a place, at whose front something is written and the rest of which is cleared
+
+pub padded-part : {A : Type 0} (zero : A) (new part old fill : List A) (used room : ℕ) → take used part ≡ new → length new ≡ used
+    → used ≤ room → length part ≡ room
+    → fill ≡ replicate (length (take (room - used) (drop used (part ++ drop room old)))) zero
+    → take used (part ++ drop room old) ++ (fill ++ drop (room - used) (drop used (part ++ drop room old))) ≡ padded zero new room old
+padded-part zero new part old fill used room e l h n hz =
+    let all = part ++ drop room old in
+    let k : room - used ≤ length (drop used all) = omega (arith, length-drop used all, length-append part (drop room old)) in
+    let q : length (take (room - used) (drop used all)) ≡ room - used = length-take-le (room - used) (drop used all) k in
+    let m : used + (room - used) ≡ length part = omega arith in
+    let t : take used all ≡ new = take-append-le used part (drop room old) (omega arith) ∙ e in
+    let d : drop (room - used) (drop used all) ≡ drop room old =
+    drop-drop (room - used) used all ∙ ap (λ (i : ℕ). drop i all) m ∙ drop-append-seam part (drop room old) in
+    rw (t, hz, q, d, l)

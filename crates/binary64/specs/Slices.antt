@@ -1,15 +1,24 @@
--- What a call leaves in a lent slice (document 01, "Frames": "fills scratch and order with zeros and leaves the output .. past the answer
--- unchanged"). Definitions only.
+-- What a call leaves in a lent slice (document 01, "Frames": "fills scratch and order with zeros"; document 02, Point 4: "the output past
+-- the answer, up to what 22 asks, then holds zeros"). Definitions only.
 use mathlib.Core.Bool.{false}
 use mathlib.Core.List.{List, _++_}
-use Prim.Native.Nat.{ℕ}
+use Prim.Native.Nat.{ℕ, _-_}
 use lib.Ieee.{Float, fin}
 use lib.IntN.{pos}
 use lib.ListN.{length, drop, replicate}
 
+-- +0.0
+abbrev pub plusZero : Float
+plusZero = fin false 0 (pos 0)
+
 abbrev pub zeros : ℕ → List Float
-zeros n = replicate n (fin false 0 (pos 0))
+zeros n = replicate n plusZero
 
 -- a list written from the front over another, which is long enough: 22 sees to it, and in the line step `slicesFit`
 abbrev pub over : {A : Type 0} → List A → List A → List A
 over new old = new ++ drop (length new) old
+
+-- a list written from the front over another, zeros from there up to `room`, and beyond that the other as it was; 22 sees to it that the
+-- other is as long as that, and that the list has room there
+abbrev pub padded : {A : Type 0} → A → List A → ℕ → List A → List A
+padded zero new room old = new ++ (replicate (room - length new) zero ++ drop room old)

@@ -65,7 +65,7 @@ module _ (n : ℕ) (s : List Float) (a b : ℕ) (room : RingRoom n s a b) where
   pub cutter-room : CutterRoom n (length s) a b
   cutter-room =
       let m = B-mono n (length (close (coords (take (2 * n) s)))) lent-count in record
-      { vertices = room .lent; first = omega (arith, room .first); second = omega (arith, room .second) }
+      { vertices = room .lent; scratch-room = omega (arith, room .scratch-room); output-room = omega (arith, room .output-room) }
 
   module _ (bounds : TileBounds) (k : ℕ) (after : List Float) (c : RingCut bounds (coords (take (2 * n) s)) k after) where
     pub cut-ring : coords (take (2 * k) after) ≡ clipRing bounds (close (coords (take (2 * n) s)))

@@ -15,18 +15,18 @@ use Rattle.clip.specs.declared.polygon.Route.{Route}
 use Rattle.clip.specs.declared.polygon.Route.the-variants as Routes
 use Rattle.clip.specs.Polygon.{cutExterior}
 
--- A ring of n coordinates at the front of a slice can be closed and cut in two slices of the lengths a and b. Its first coordinate holds no
--- NaN, so that closing closes it.
-pub record RingRoom (n : ℕ) (ring : List Float) (a b : ℕ) : Type 0 where
+-- A ring of n coordinates at the front of a slice can be closed and cut with a scratch slice and an output of these lengths. Its first
+-- coordinate holds no NaN, so that closing closes it.
+pub record RingRoom (n : ℕ) (ring : List Float) (scratch out : ℕ) : Type 0 where
   pub lent : 2 * n ≤ length ring
   pub few : length (close (coords (take (2 * n) ring))) ≤ mostCoordinates
   pub closes : closed (close (coords (take (2 * n) ring))) ≡ true
-  pub first : 2 * B (length (close (coords (take (2 * n) ring)))) ≤ a
-  pub second : 2 * B (length (close (coords (take (2 * n) ring)))) ≤ b
+  pub scratch-room : 2 * B (length (close (coords (take (2 * n) ring)))) ≤ scratch
+  pub output-room : 2 * B (length (close (coords (take (2 * n) ring)))) ≤ out
 
 -- an exterior is searched for crossings too, for which the sweep takes positions
-pub record ExteriorRoom (n : ℕ) (ring : List Float) (a b order : ℕ) : Type 0 where
-  pub room : RingRoom n ring a b
+pub record ExteriorRoom (n : ℕ) (ring : List Float) (scratch out order : ℕ) : Type 0 where
+  pub room : RingRoom n ring scratch out
   pub positions : B (length (close (coords (take (2 * n) ring)))) ≤ order
 
 -- where the route is a cut, the cut exterior stands at the front of the slice, and it is not empty

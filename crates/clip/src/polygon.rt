@@ -103,24 +103,24 @@ pub fn reason_number(reason: Reason) -> u8
     }
 }
 
-// The issue of the ring of n coordinates at the front of a slice, closed. A ring that is not lent closed is closed in b.
+// The issue of the ring of n coordinates at the front of a slice, closed. A ring that is not lent closed is closed in the output.
 fn closed_issue(
     ring: &[f64],
     n: usize,
     assume_simple: bool,
-    a: &mut [f64],
-    b: &mut [f64],
+    scratch: &mut [f64],
+    out: &mut [f64],
     order: &mut [u32],
 ) -> Issue
-    requires { ⌜ Contracts.ExteriorRoom n (now ring) (length (now a)) (length (now b)) (length (now order)) ⌝ }
+    requires { ⌜ Contracts.ExteriorRoom n (now ring) (length (now scratch)) (length (now out)) (length (now order)) ⌝ }
     ensures { λ r. ⌜ r ≡ issueOf «assume_simple» (Ring.close (Ring.coords (take (2 * n) (now (ring .entry))))) ⌝ }
 {
     if is_closed(ring, n) {
-        return find_issue(ring, n, assume_simple, a, order);
+        return find_issue(ring, n, assume_simple, scratch, order);
     }
-    copy(ring, b, 2 * n);
-    let m = close(b, n);
-    find_issue(b, m, assume_simple, a, order)
+    copy(ring, out, 2 * n);
+    let m = close(out, n);
+    find_issue(out, m, assume_simple, scratch, order)
 }
 
 // Whether the test for edges along a bound is left out.
@@ -157,66 +157,73 @@ fn judge_cut(ring: &[f64], n: usize, issue: Issue, flags: Flags, bounds: TileBou
     Route::Cut(n)
 }
 
-// Cuts the exterior; a cut that stays stands at the front of b.
+// Cuts the exterior; a cut that stays stands at the front of the output.
 fn route_cut(
     ring: &[f64],
     n: usize,
     flags: Flags,
     bounds: TileBounds,
-    a: &mut [f64],
-    b: &mut [f64],
+    scratch: &mut [f64],
+    out: &mut [f64],
     order: &mut [u32],
 ) -> Route
-    requires { ⌜ Contracts.ExteriorRoom n (now ring) (length (now a)) (length (now b)) (length (now order)) ⌝ }
+    requires { ⌜ Contracts.ExteriorRoom n (now ring) (length (now scratch)) (length (now out)) (length (now order)) ⌝ }
     ensures { λ r. ⌜ r ≡ Polygon.routeCut flags bounds (Ring.close (Ring.coords (take (2 * n) (now (ring .entry))))) ⌝ }
-    ensures { λ r. ⌜ Contracts.CutStands bounds (Ring.close (Ring.coords (take (2 * n) (now (ring .entry))))) r (now (b .exit)) ⌝ }
+    ensures { λ r. ⌜ Contracts.CutStands bounds (Ring.close (Ring.coords (take (2 * n) (now (ring .entry))))) r (now (out .exit)) ⌝ }
 {
-    let clipped = clip_ring(ring, n, bounds, a, b);
+    let clipped = clip_ring(ring, n, bounds, scratch, out);
     if clipped == 0 {
         return Route::Nothing;
     }
-    let m = close(b, clipped);
-    let issue = find_issue(b, m, flags.assume_simple, a, order);
-    judge_cut(b, m, issue, flags, bounds)
+    let m = close(out, clipped);
+    let issue = find_issue(out, m, flags.assume_simple, scratch, order);
+    judge_cut(out, m, issue, flags, bounds)
 }
 
-// What the exterior of n coordinates decides, rect being the rectangle of all rings; a cut exterior stands at the front of b.
+// What the exterior of n coordinates decides, rect being the rectangle of all rings; a cut exterior stands at the front of the
+// output.
 pub fn route_exterior(
     ring: &[f64],
     n: usize,
     flags: Flags,
     rect: Rect,
     bounds: TileBounds,
-    a: &mut [f64],
-    b: &mut [f64],
+    scratch: &mut [f64],
+    out: &mut [f64],
     order: &mut [u32],
 ) -> Route
-    requires { ⌜ Contracts.ExteriorRoom n (now ring) (length (now a)) (length (now b)) (length (now order)) ⌝ }
+    requires { ⌜ Contracts.ExteriorRoom n (now ring) (length (now scratch)) (length (now out)) (length (now order)) ⌝ }
     ensures { λ r. ⌜ r ≡ Polygon.routeExterior flags rect bounds (Ring.close (Ring.coords (take (2 * n) (now (ring .entry))))) ⌝ }
-    ensures { λ r. ⌜ Contracts.CutStands bounds (Ring.close (Ring.coords (take (2 * n) (now (ring .entry))))) r (now (b .exit)) ⌝ }
+    ensures { λ r. ⌜ Contracts.CutStands bounds (Ring.close (Ring.coords (take (2 * n) (now (ring .entry))))) r (now (out .exit)) ⌝ }
 {
     if !intersects_bounds(rect, bounds) {
         return Route::Nothing;
     }
-    let issue = closed_issue(ring, n, flags.assume_simple, a, b, order);
+    let issue = closed_issue(ring, n, flags.assume_simple, scratch, out, order);
     if has_issue(issue) {
         return Route::Overlay(Reason::Input(issue));
     }
     if is_fully_inside(rect, bounds) {
         return Route::Unchanged;
     }
-    route_cut(ring, n, flags, bounds, a, b, order)
+    route_cut(ring, n, flags, bounds, scratch, out, order)
 }
 
-// Cuts a hole, to the front of b, and answers how many coordinates it has; one that is left out has none.
-pub fn clip_hole(ring: &[f64], n: usize, bounds: TileBounds, a: &mut [f64], b: &mut [f64]) -> usize
-    requires { ⌜ Contracts.RingRoom n (now ring) (length (now a)) (length (now b)) ⌝ }
+// Cuts a hole, to the front of the output, and answers how many coordinates it has; one that is left out has none.
+pub fn clip_hole(
+    ring: &[f64],
+    n: usize,
+    bounds: TileBounds,
+    scratch: &mut [f64],
+    out: &mut [f64],
+) -> usize
+    requires { ⌜ Contracts.RingRoom n (now ring) (length (now scratch)) (length (now out)) ⌝ }
     ensures { λ r. ⌜ TileContracts.Stands (Polygon.cutHole bounds (Ring.close (Ring.coords (take (2 * n) (now (ring .entry)))))) r
-        (now (b .exit)) ⌝ }
+        (now (out .exit)) ⌝ }
 {
-    let clipped = clip_ring(ring, n, bounds, a, b);
+    let clipped = clip_ring(ring, n, bounds, scratch, out);
     if clipped < 4 {
         return 0;
     }
-    close(b, clipped)
+    close(out, clipped)
 }

@@ -61,8 +61,8 @@ module _ (r : List Coord) (rs : List (List Coord)) (ring a b : ℕ) (w : Working
           lent = omega (arith, w .lent, length-sets s 0 (flat (coordsOf n l)));
           few = rw (d, ← e) (omega (arith, w .small));
           closes = rw (d, ← e) (both (closed r) (allClosed rs) (w .closes) .0);
-          first = rw (d, ← e) (omega (arith, w .first));
-          second = rw (d, ← e) (omega (arith, w .second));
+          scratch-room = rw (d, ← e) (omega (arith, w .first));
+          output-room = rw (d, ← e) (omega (arith, w .second));
         },
       )
 

@@ -40,8 +40,8 @@ pub enum FrameAnswer {
     Answered(usize),
 }
 
-// In arrays for rings of up to m coordinates, closed: 2 m numbers for the ring, 2 B(m) for each of two scratch slices, B(m) positions. Here
-// m is 6.
+// In arrays for rings of up to m coordinates, closed: 2 m numbers for the ring, 2 B(m) each for the cutter's scratch slice and its output,
+// B(m) positions. Here m is 6.
 fn answer_small(frame: &[u8], head: Head, rect: Rect, bounds: TileBounds, out: &mut [u8]) -> usize
     requires { ⌜ Contracts.Cuttable (now frame) head (length (now out)) × (length (now frame) ≤ Contracts.longestFor 6) ⌝ }
     ensures { λ r. ⌜ Contracts.Answers (Contracts.answerMeasured head rect bounds

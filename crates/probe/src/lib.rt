@@ -2,13 +2,14 @@
 ghost use mathlib.Core.Path.{_≡_};
 ghost use lib.Ieee.{nan};
 ghost use lib.ListN.{getD, set};
+ghost use Rattle.tile.specs.Ring.{coords};
 ghost use Rattle.tile.specs.Bounds.{empty, isValid, expand, intersect, width, height, buffered};
 ghost use Rattle.sutherland_hodgman.specs.RingCall.{ringSlices, ringCallCheck};
-ghost use Rattle.sutherland_hodgman.specs.Contracts.{ClippedTo};
+ghost use Rattle.sutherland_hodgman.specs.Contracts.{RingCut};
 ghost use Rattle.probe.specs.Numbers.{boundsAt, stored};
 use sutherland_hodgman::call::Check;
 use sutherland_hodgman::call::check_ring;
-use sutherland_hodgman::call::clip_lent;
+use sutherland_hodgman::clip_ring;
 use tile::TileBounds;
 
 pub mod edges;
@@ -101,20 +102,20 @@ pub extern "C" fn probe_buffered(b: &[f64], buffer: f64, out: &mut [f64])
     store(out, bounds_at(b).buffered(buffer));
 }
 
-// The ring call without its clearing of the scratch slices, to be timed by itself. Of a call that would be refused nothing is promised.
+// The cutter by itself, with the room that a ring call asks for, to be timed without the call's clearing. Of a call that would be refused
+// nothing is promised.
 #[no_mangle]
-pub extern "C" fn probe_clip_lent(
+pub extern "C" fn probe_clip_ring(
     ring: &[f64],
     bounds: &[f64],
-    a: &mut [f64],
-    b: &mut [f64],
+    scratch: &mut [f64],
     out: &mut [f64],
 ) -> usize
-    ensures { λ r. ⌜ (ringCallCheck (now (ring .entry)) (ringSlices (now (a .entry)) (now (b .entry)) (now (out .entry))) ≡ Check.Passes
-        → ClippedTo (now (ring .entry)) (boundsAt (now (bounds .entry))) (now (out .entry)) r (now (out .exit))) ⌝ }
+    ensures { λ r. ⌜ (ringCallCheck (now (ring .entry)) (ringSlices (now (scratch .entry)) (now (out .entry))) ≡ Check.Passes
+        → RingCut (boundsAt (now (bounds .entry))) (coords (now (ring .entry))) r (now (out .exit))) ⌝ }
 {
-    match check_ring(ring.len(), a.len(), b.len(), out.len()) {
+    match check_ring(ring.len(), scratch.len(), out.len()) {
         Check::Fails(_) => 0,
-        Check::Passes => clip_lent(ring, bounds_at(bounds), a, b, out),
+        Check::Passes => clip_ring(ring, ring.len() / 2, bounds_at(bounds), scratch, out),
     }
 }

@@ -46,19 +46,15 @@ whole-front m n e h =
     let w = replicated-within m n mostLent _ e h in
     record { within = w; here = sym (length-take-le n m w); is = rw e (take-replicate n mostLent _ h) }
 
-pub ring-room : (head : RingVector) → ringFits head ≡ true → (head .a ≤ mostLent) × (head .b ≤ mostLent) × (head .out ≤ mostLent)
+pub ring-room : (head : RingVector) → ringFits head ≡ true → (head .scratch ≤ mostLent) × (head .out ≤ mostLent)
 unfolding ringFits
-ring-room head e =
-    let p = both (leb (head .a) mostLent) _ e in
-    let q = both (leb (head .b) mostLent) _ (p .1) in
-    (leb-true _ _ (p .0), leb-true _ _ (q .0), leb-true _ _ (q .1))
+ring-room head e = let p = both (leb (head .scratch) mostLent) _ e in (leb-true _ _ (p .0), leb-true _ _ (p .1))
 
-pub slice-room : (head : SliceVector) → sliceFits head ≡ true → (head .a ≤ mostLent) × (head .b ≤ mostLent) × (head .order ≤ mostLent)
+pub slice-room : (head : SliceVector) → sliceFits head ≡ true → (head .scratch ≤ mostLent) × (head .order ≤ mostLent)
     × (head .out ≤ mostLent) × (head .«out_lengths» ≤ mostLent)
 unfolding sliceFits
 slice-room head e =
-    let p = both (leb (head .a) mostLent) _ e in
-    let q = both (leb (head .b) mostLent) _ (p .1) in
-    let r = both (leb (head .order) mostLent) _ (q .1) in
-    let s = both (leb (head .out) mostLent) _ (r .1) in
-    (leb-true _ _ (p .0), leb-true _ _ (q .0), leb-true _ _ (r .0), leb-true _ _ (s .0), leb-true _ _ (s .1))
+    let p = both (leb (head .scratch) mostLent) _ e in
+    let q = both (leb (head .order) mostLent) _ (p .1) in
+    let r = both (leb (head .out) mostLent) _ (q .1) in
+    (leb-true _ _ (p .0), leb-true _ _ (q .0), leb-true _ _ (r .0), leb-true _ _ (r .1))

@@ -15,12 +15,10 @@ use Rattle.replay.specs.declared.slice_calls.SliceVector.{SliceVector}
 use Rattle.replay.specs.Code.{bitsOf, isRefusal}
 use Rattle.replay.specs.Lent.{bits, mark, wholeMark, marks, wholeMarks, areAll, holds, scratchAfter, orderAfter, mostLent}
 
--- the code of an answer, and after the call both scratch slices and the output, at whose front the kept numbers stand
-unfoldable pub answerAgrees : ℕ → ℕ → List Float → List Float → List Float → List Float → Bool
-answerAgrees given code a b out expected =
-    eqb given code
-    && (areAll (bits a) (scratchAfter (isRefusal code))
-    && (areAll (bits b) (scratchAfter (isRefusal code)) && holds mark (bits expected) (bits out)))
+-- the code of an answer, and after the call the scratch slice and the output, at whose front the kept numbers stand
+unfoldable pub answerAgrees : ℕ → ℕ → List Float → List Float → List Float → Bool
+answerAgrees given code scratch out expected =
+    eqb given code && (areAll (bits scratch) (scratchAfter (isRefusal code)) && holds mark (bits expected) (bits out))
 
 -- after a slice call the order slice and the second length slice, at whose front the kept lengths stand
 unfoldable pub wholesAgree : Bool → List ℕ → List ℕ → List ℕ → Bool
@@ -30,14 +28,14 @@ wholesAgree refused order outLengths expected = areAll order (orderAfter refused
 unfoldable pub ringAgrees : ℕ → List Float → List Float → TileBounds → RingSlices → Bool
 ringAgrees code expected ring bounds lent =
     let after = ringCallSlices ring bounds lent in
-    answerAgrees (bitsOf (ringCallCode (ringCallAnswer ring bounds lent))) code (after .first) (after .second) (after .output) expected
+    answerAgrees (bitsOf (ringCallCode (ringCallAnswer ring bounds lent))) code (after .scratch) (after .output) expected
 
 -- a slice call
 unfoldable pub sliceAgrees : ℕ → List Float → List ℕ → Flags → TileBounds → Float → List Float → List ℕ → PolygonSlices → Bool
 sliceAgrees code expected expectedLengths flags bounds buffer coords lengths lent =
     let answer = sliceCallAnswer flags bounds buffer coords lengths lent in
     let after = sliceCallSlices flags bounds buffer coords lengths lent in
-    answerAgrees (bitsOf (sliceCallCode answer)) code (after .first) (after .second) (after .output) expected
+    answerAgrees (bitsOf (sliceCallCode answer)) code (after .scratch) (after .output) expected
     && wholesAgree (isRefusal code) (after .order) (after .outLengths) expectedLengths
 
 -- ---- what becomes of a vector
@@ -49,23 +47,22 @@ vectorOutcome true true code = Same code
 
 -- whether the slices that are lent to be written have room
 unfoldable pub ringFits : RingVector → Bool
-ringFits head = leb (head .a) mostLent && (leb (head .b) mostLent && leb (head .out) mostLent)
+ringFits head = leb (head .scratch) mostLent && leb (head .out) mostLent
 
 unfoldable pub sliceFits : SliceVector → Bool
 sliceFits head =
-    leb (head .a) mostLent && (leb (head .b) mostLent &&
-    (leb (head .order) mostLent && (leb (head .out) mostLent && leb (head .«out_lengths») mostLent)))
+    leb (head .scratch) mostLent && (leb (head .order) mostLent && (leb (head .out) mostLent && leb (head .«out_lengths») mostLent))
 
 -- of a ring call, or a slice call, with what was kept of it
 unfoldable pub ringOutcome : RingVector → ℕ → List Float → List Float → Outcome
 ringOutcome head code ring expected =
-    let lent = ringSlices (marks (head .a)) (marks (head .b)) (marks (head .out)) in
+    let lent = ringSlices (marks (head .scratch)) (marks (head .out)) in
     vectorOutcome (ringFits head) (ringAgrees code expected ring (head .bounds) lent) code
 
 unfoldable pub sliceOutcome : SliceVector → ℕ → List Float → List ℕ → List Float → List ℕ → Outcome
 sliceOutcome head code coords lengths expected expectedLengths =
     let outLengths = wholeMarks (head .«out_lengths») in
-    let lent = polygonSlices (marks (head .a)) (marks (head .b)) (wholeMarks (head .order)) (marks (head .out)) outLengths in
+    let lent = polygonSlices (marks (head .scratch)) (wholeMarks (head .order)) (marks (head .out)) outLengths in
     vectorOutcome (sliceFits head)
     (sliceAgrees code expected expectedLengths (head .flags) (head .bounds) (head .buffer) coords lengths lent)
     code

@@ -120,26 +120,15 @@ fn holds_wholes(s: &[u32], front: &[u32]) -> bool
     are_all_wholes(&s[n..], WHOLE_MARK)
 }
 
-// Whether the code of an answer is the kept one, and the call has left the scratch slices and the output as it has to. It reads them only:
+// Whether the code of an answer is the kept one, and the call has left the scratch slice and the output as it has to. It reads them only:
 // where they are lent to be written, each return is proved to keep all their lengths.
-pub fn answer_agrees(
-    given: u64,
-    code: u64,
-    a: &[f64],
-    b: &[f64],
-    out: &[f64],
-    expected: &[f64],
-) -> bool
-    ensures { λ r. ⌜ r ≡ Calls.answerAgrees given code (now (a .entry)) (now (b .entry)) (now (out .entry)) (now (expected .entry)) ⌝ }
+pub fn answer_agrees(given: u64, code: u64, scratch: &[f64], out: &[f64], expected: &[f64]) -> bool
+    ensures { λ r. ⌜ r ≡ Calls.answerAgrees given code (now (scratch .entry)) (now (out .entry)) (now (expected .entry)) ⌝ }
 {
     if given != code {
         return false;
     }
-    let scratch = scratch_after(is_refusal(code));
-    if !are_all(a, scratch) {
-        return false;
-    }
-    if !are_all(b, scratch) {
+    if !are_all(scratch, scratch_after(is_refusal(code))) {
         return false;
     }
     holds(out, expected)

@@ -12,21 +12,22 @@ use super::lent::answer_agrees;
 use super::lent::marks;
 use super::lent::no_numbers;
 use super::stream::Code;
+use super::stream::Count;
 use super::stream::count_at;
 use super::stream::fill;
 use super::stream::read_code;
+use super::stream::read_count;
 use super::stream::read_numbers;
 use binary64::bytes::read_f64;
 use sutherland_hodgman::call::ring;
 use tile::TileBounds;
 
-// The bytes before the numbers of a ring: three lengths, the bounds, and two counts.
-const HEAD: usize = 52;
+// The bytes before the numbers of a ring: two lengths, the bounds, and two counts.
+const HEAD: usize = 48;
 
-// `a`, `b` and `out` are the lengths of the slices. Of the numbers that are lent only the first are stored; the others are zeros.
+// `scratch` and `out` are the lengths of the slices. Of the numbers that are lent only the first are stored; the others are zeros.
 struct RingVector {
-    a: usize,
-    b: usize,
+    scratch: usize,
     out: usize,
     bounds: TileBounds,
     numbers: usize,
@@ -34,19 +35,18 @@ struct RingVector {
 }
 
 fn read_head(bytes: &[u8]) -> RingVector
-    requires { ⌜ length (now bytes) ≡ 52 ⌝ }
+    requires { ⌜ length (now bytes) ≡ 48 ⌝ }
 {
-    let west = read_f64(bytes, 12);
-    let south = read_f64(bytes, 20);
-    let east = read_f64(bytes, 28);
-    let north = read_f64(bytes, 36);
+    let west = read_f64(bytes, 8);
+    let south = read_f64(bytes, 16);
+    let east = read_f64(bytes, 24);
+    let north = read_f64(bytes, 32);
     RingVector {
-        a: count_at(bytes, 0),
-        b: count_at(bytes, 4),
-        out: count_at(bytes, 8),
+        scratch: count_at(bytes, 0),
+        out: count_at(bytes, 4),
         bounds: TileBounds::new(west, south, east, north),
-        numbers: count_at(bytes, 44),
-        stored: count_at(bytes, 48),
+        numbers: count_at(bytes, 40),
+        stored: count_at(bytes, 44),
     }
 }
 
@@ -54,26 +54,22 @@ fn agrees(
     code: u64,
     lent: &[f64],
     bounds: TileBounds,
-    a: &mut [f64],
-    b: &mut [f64],
+    scratch: &mut [f64],
     out: &mut [f64],
     expected: &[f64],
 ) -> bool
     ensures { λ r. ⌜ r ≡ ringAgrees code (now (expected .entry)) (now (lent .entry)) bounds
-        (ringSlices (now (a .entry)) (now (b .entry)) (now (out .entry))) ⌝ }
+        (ringSlices (now (scratch .entry)) (now (out .entry))) ⌝ }
 {
-    let given = of_ring(ring(lent, bounds, a, b, out));
-    answer_agrees(given, code, a, b, out, expected)
+    let given = of_ring(ring(lent, bounds, scratch, out));
+    answer_agrees(given, code, scratch, out, expected)
 }
 
 // Whether the slices that are lent to be written have room.
 fn has_room(head: RingVector) -> bool
     ensures { λ r. ⌜ r ≡ ringFits head ⌝ }
 {
-    if head.a > ROOM {
-        return false;
-    }
-    if head.b > ROOM {
+    if head.scratch > ROOM {
         return false;
     }
     head.out <= ROOM
@@ -85,18 +81,15 @@ fn call(head: RingVector, code: u64, lent: &[f64], expected: &[f64]) -> Outcome
     if !has_room(head) {
         return Outcome::Broken;
     }
-    let a_length = head.a;
-    let b_length = head.b;
+    let scratch_length = head.scratch;
     let out_length = head.out;
-    let mut a = marks();
-    let mut b = marks();
+    let mut scratch = marks();
     let mut out = marks();
     if agrees(
         code,
         lent,
         head.bounds,
-        &mut a[..a_length],
-        &mut b[..b_length],
+        &mut scratch[..scratch_length],
         &mut out[..out_length],
         expected,
     ) {
@@ -105,11 +98,17 @@ fn call(head: RingVector, code: u64, lent: &[f64], expected: &[f64]) -> Outcome
     Outcome::Differs
 }
 
-// From the answer on: the numbers of its ring follow it.
+// From the answer on: how many numbers of the output the call writes follows it, and the numbers of its ring, past which it writes zeros.
 fn replay_answer(head: RingVector, lent: &[f64]) -> Outcome {
     let Code::Is(code) = read_code() else {
         return Outcome::Broken;
     };
+    let Count::Is(written) = read_count() else {
+        return Outcome::Broken;
+    };
+    if written > ROOM {
+        return Outcome::Broken;
+    }
     let m = numbers_of(code);
     if m > ROOM {
         return Outcome::Broken;
@@ -118,7 +117,7 @@ fn replay_answer(head: RingVector, lent: &[f64]) -> Outcome {
     if !read_numbers(m, &mut expected) {
         return Outcome::Broken;
     }
-    call(head, code, lent, &expected[..m])
+    call(head, code, lent, &expected[..written])
 }
 
 // From the numbers of the ring on.

@@ -31,17 +31,16 @@ use clip::polygon::Flags;
 use slices::call::polygon;
 use tile::TileBounds;
 
-// The bytes before the lengths of the rings: flags, five lengths, the bounds, the buffer, and the count of rings.
-const HEAD: usize = 68;
+// The bytes before the lengths of the rings: flags, four lengths, the bounds, the buffer, and the count of rings.
+const HEAD: usize = 64;
 
 // The most rings that are lent or expected.
 const MOST_RINGS: usize = 128;
 
-// `a` to `out_lengths` are the lengths of the slices.
+// `scratch` to `out_lengths` are the lengths of the slices.
 struct SliceVector {
     flags: Flags,
-    a: usize,
-    b: usize,
+    scratch: usize,
     order: usize,
     out: usize,
     out_lengths: usize,
@@ -51,7 +50,7 @@ struct SliceVector {
 }
 
 fn read_flags(bytes: &[u8]) -> Flags
-    requires { ⌜ length (now bytes) ≡ 68 ⌝ }
+    requires { ⌜ length (now bytes) ≡ 64 ⌝ }
 {
     let flags = count_at(bytes, 0);
     Flags {
@@ -61,28 +60,27 @@ fn read_flags(bytes: &[u8]) -> Flags
 }
 
 fn read_bounds(bytes: &[u8]) -> TileBounds
-    requires { ⌜ length (now bytes) ≡ 68 ⌝ }
+    requires { ⌜ length (now bytes) ≡ 64 ⌝ }
 {
-    let west = read_f64(bytes, 24);
-    let south = read_f64(bytes, 32);
-    let east = read_f64(bytes, 40);
-    let north = read_f64(bytes, 48);
+    let west = read_f64(bytes, 20);
+    let south = read_f64(bytes, 28);
+    let east = read_f64(bytes, 36);
+    let north = read_f64(bytes, 44);
     TileBounds::new(west, south, east, north)
 }
 
 fn read_head(bytes: &[u8]) -> SliceVector
-    requires { ⌜ length (now bytes) ≡ 68 ⌝ }
+    requires { ⌜ length (now bytes) ≡ 64 ⌝ }
 {
     SliceVector {
         flags: read_flags(bytes),
-        a: count_at(bytes, 4),
-        b: count_at(bytes, 8),
-        order: count_at(bytes, 12),
-        out: count_at(bytes, 16),
-        out_lengths: count_at(bytes, 20),
+        scratch: count_at(bytes, 4),
+        order: count_at(bytes, 8),
+        out: count_at(bytes, 12),
+        out_lengths: count_at(bytes, 16),
         bounds: read_bounds(bytes),
-        buffer: read_f64(bytes, 56),
-        rings: count_at(bytes, 64),
+        buffer: read_f64(bytes, 52),
+        rings: count_at(bytes, 60),
     }
 }
 
@@ -90,18 +88,17 @@ fn read_head(bytes: &[u8]) -> SliceVector
 fn slices_agree(
     given: u64,
     code: u64,
-    a: &[f64],
-    b: &[f64],
+    scratch: &[f64],
     order: &[u32],
     out: &[f64],
     out_lengths: &[u32],
     expected: &[f64],
     expected_lengths: &[u32],
 ) -> bool
-    ensures { λ r. ⌜ r ≡ answerAgrees given code (now (a .entry)) (now (b .entry)) (now (out .entry)) (now (expected .entry))
+    ensures { λ r. ⌜ r ≡ answerAgrees given code (now (scratch .entry)) (now (out .entry)) (now (expected .entry))
         && wholesAgree (isRefusal code) (now (order .entry)) (now («out_lengths» .entry)) (now («expected_lengths» .entry)) ⌝ }
 {
-    if !answer_agrees(given, code, a, b, out, expected) {
+    if !answer_agrees(given, code, scratch, out, expected) {
         return false;
     }
     wholes_agree(is_refusal(code), order, out_lengths, expected_lengths)
@@ -112,8 +109,7 @@ fn agrees(
     head: SliceVector,
     coords: &[f64],
     lengths: &[u32],
-    a: &mut [f64],
-    b: &mut [f64],
+    scratch: &mut [f64],
     order: &mut [u32],
     out: &mut [f64],
     out_lengths: &mut [u32],
@@ -122,7 +118,7 @@ fn agrees(
 ) -> bool
     ensures { λ r. ⌜ r ≡ sliceAgrees code (now (expected .entry)) (now («expected_lengths» .entry)) (head .flags) (head .bounds)
         (head .buffer) (now (coords .entry)) (now (lengths .entry))
-        (polygonSlices (now (a .entry)) (now (b .entry)) (now (order .entry)) (now (out .entry)) (now («out_lengths» .entry))) ⌝ }
+        (polygonSlices (now (scratch .entry)) (now (order .entry)) (now (out .entry)) (now («out_lengths» .entry))) ⌝ }
 {
     let answer = polygon(
         head.flags,
@@ -130,8 +126,7 @@ fn agrees(
         head.buffer,
         coords,
         lengths,
-        a,
-        b,
+        scratch,
         order,
         out,
         out_lengths,
@@ -139,8 +134,7 @@ fn agrees(
     slices_agree(
         of_slice(answer),
         code,
-        a,
-        b,
+        scratch,
         order,
         out,
         out_lengths,
@@ -153,10 +147,7 @@ fn agrees(
 fn has_room(head: SliceVector) -> bool
     ensures { λ r. ⌜ r ≡ sliceFits head ⌝ }
 {
-    if head.a > ROOM {
-        return false;
-    }
-    if head.b > ROOM {
+    if head.scratch > ROOM {
         return false;
     }
     if head.order > ROOM {
@@ -182,13 +173,11 @@ fn call(
     if !has_room(head) {
         return Outcome::Broken;
     }
-    let a_length = head.a;
-    let b_length = head.b;
+    let scratch_length = head.scratch;
     let order_length = head.order;
     let out_length = head.out;
     let lengths_length = head.out_lengths;
-    let mut a = marks();
-    let mut b = marks();
+    let mut scratch = marks();
     let mut order = whole_marks();
     let mut out = marks();
     let mut out_lengths = whole_marks();
@@ -197,8 +186,7 @@ fn call(
         head,
         coords,
         lengths,
-        &mut a[..a_length],
-        &mut b[..b_length],
+        &mut scratch[..scratch_length],
         &mut order[..order_length],
         &mut out[..out_length],
         &mut out_lengths[..lengths_length],
@@ -232,7 +220,7 @@ fn numbers_in(lengths: &[u32]) -> usize
     2 * sum
 }
 
-// From a cut's numbers on.
+// From how many numbers of the output the call writes on: a cut's numbers follow, past which it writes zeros.
 fn replay_expected(
     head: SliceVector,
     code: u64,
@@ -240,6 +228,12 @@ fn replay_expected(
     lengths: &[u32],
     expected_lengths: &[u32],
 ) -> Outcome {
+    let Count::Is(written) = read_count() else {
+        return Outcome::Broken;
+    };
+    if written > ROOM {
+        return Outcome::Broken;
+    }
     let m = numbers_in(expected_lengths);
     if m > ROOM {
         return Outcome::Broken;
@@ -253,12 +247,12 @@ fn replay_expected(
         code,
         coords,
         lengths,
-        &expected[..m],
+        &expected[..written],
         expected_lengths,
     )
 }
 
-// From the answer on: a cut's lengths and numbers follow it.
+// From the answer on: a cut's lengths follow it.
 fn replay_answer(head: SliceVector, coords: &[f64], lengths: &[u32]) -> Outcome {
     let Code::Is(code) = read_code() else {
         return Outcome::Broken;

@@ -45,21 +45,20 @@ pub extern "C" fn ringcut_ring(
     south: f64,
     east: f64,
     north: f64,
-    scratch_a: &mut [f64],
-    scratch_b: &mut [f64],
+    scratch: &mut [f64],
     out: &mut [f64],
 ) -> i64
     ensures answer { λ c. ⌜ c ≡ ringCallCode (ringCallAnswer (now (ring .entry)) (newOf west south east north)
-        (ringSlices (now («scratch_a» .entry)) (now («scratch_b» .entry)) (now (out .entry)))) ⌝ }
-    ensures lent { λ _. ⌜ ringSlices (now («scratch_a» .exit)) (now («scratch_b» .exit)) (now (out .exit))
+        (ringSlices (now (scratch .entry)) (now (out .entry)))) ⌝ }
+    ensures lent { λ _. ⌜ ringSlices (now (scratch .exit)) (now (out .exit))
         ≡ ringCallSlices (now (ring .entry)) (newOf west south east north)
-        (ringSlices (now («scratch_a» .entry)) (now («scratch_b» .entry)) (now (out .entry))) ⌝ }
+        (ringSlices (now (scratch .entry)) (now (out .entry))) ⌝ }
     ensures promise { λ _. ⌜ RingCallPromise (now (ring .entry)) (newOf west south east north)
         (ringCallAnswer (now (ring .entry)) (newOf west south east north)
-        (ringSlices (now («scratch_a» .entry)) (now («scratch_b» .entry)) (now (out .entry)))) (now (out .exit)) ⌝ }
+        (ringSlices (now (scratch .entry)) (now (out .entry)))) (now (out .exit)) ⌝ }
 {
     let bounds = TileBounds::new(west, south, east, north);
-    match sutherland_hodgman::call::ring(ring, bounds, scratch_a, scratch_b, out) {
+    match sutherland_hodgman::call::ring(ring, bounds, scratch, out) {
         RingAnswer::Refused(r) => refusal_code(r),
         RingAnswer::Clipped(n) => n as i64,
     }
@@ -99,25 +98,21 @@ pub extern "C" fn ringcut_polygon(
     buffer: f64,
     coords: &[f64],
     lengths: &[u32],
-    scratch_a: &mut [f64],
-    scratch_b: &mut [f64],
+    scratch: &mut [f64],
     order: &mut [u32],
     out: &mut [f64],
     out_lengths: &mut [u32],
 ) -> i64
     ensures answer { λ c. ⌜ c ≡ sliceCallCode (sliceCallAnswer
         (flagsOf «assume_simple» «skip_boundary_fallback») (newOf west south east north) buffer (now (coords .entry)) (now (lengths .entry))
-        (polygonSlices (now («scratch_a» .entry)) (now («scratch_b» .entry))
-        (now (order .entry)) (now (out .entry)) (now («out_lengths» .entry)))) ⌝ }
+        (polygonSlices (now (scratch .entry)) (now (order .entry)) (now (out .entry)) (now («out_lengths» .entry)))) ⌝ }
     ensures guards { λ c. ⌜ guardsIn c ≡ sliceCallGuards (sliceCallAnswer
         (flagsOf «assume_simple» «skip_boundary_fallback») (newOf west south east north) buffer (now (coords .entry)) (now (lengths .entry))
-        (polygonSlices (now («scratch_a» .entry)) (now («scratch_b» .entry))
-        (now (order .entry)) (now (out .entry)) (now («out_lengths» .entry)))) ⌝ }
-    ensures lent { λ _. ⌜ polygonSlices (now («scratch_a» .exit)) (now («scratch_b» .exit))
-        (now (order .exit)) (now (out .exit)) (now («out_lengths» .exit)) ≡ sliceCallSlices
-        (flagsOf «assume_simple» «skip_boundary_fallback») (newOf west south east north) buffer (now (coords .entry)) (now (lengths .entry))
-        (polygonSlices (now («scratch_a» .entry)) (now («scratch_b» .entry))
-        (now (order .entry)) (now (out .entry)) (now («out_lengths» .entry))) ⌝ }
+        (polygonSlices (now (scratch .entry)) (now (order .entry)) (now (out .entry)) (now («out_lengths» .entry)))) ⌝ }
+    ensures lent { λ _. ⌜ polygonSlices (now (scratch .exit)) (now (order .exit)) (now (out .exit)) (now («out_lengths» .exit))
+        ≡ sliceCallSlices (flagsOf «assume_simple» «skip_boundary_fallback») (newOf west south east north) buffer (now (coords .entry))
+        (now (lengths .entry))
+        (polygonSlices (now (scratch .entry)) (now (order .entry)) (now (out .entry)) (now («out_lengths» .entry))) ⌝ }
 {
     let flags = Flags {
         assume_simple: is_set(assume_simple),
@@ -129,8 +124,7 @@ pub extern "C" fn ringcut_polygon(
         buffer,
         coords,
         lengths,
-        scratch_a,
-        scratch_b,
+        scratch,
         order,
         out,
         out_lengths,

@@ -9,11 +9,12 @@ use lib.Ieee.{Float}
 use lib.IntN.{ℤ, pos}
 use lib.ListN.{length, replicate}
 use borrow.Author.Tests.{ne-eqb}
-use Rattle.binary64.specs.Slices.{zeros}
+use Rattle.binary64.specs.Slices.{plusZero, zeros, over, padded}
 use Rattle.tile.specs.declared.Coord.{Coord}
 use Rattle.tile.specs.declared.TileBounds.{TileBounds}
 use Rattle.tile.specs.declared.Edge.the-variants.{Left, Right, Bottom, Top}
 use Rattle.tile.specs.Bounds.{buffered}
+use Rattle.sutherland_hodgman.specs.declared.call.Refusal.{Refusal}
 use Rattle.sutherland_hodgman.specs.declared.call.Refusal.the-variants as Refusals
 use Rattle.sutherland_hodgman.specs.declared.call.Check.{Check}
 use Rattle.sutherland_hodgman.specs.declared.call.Check.the-variants.{Fails, Passes}
@@ -32,11 +33,22 @@ use Rattle.clip.specs.declared.polygon.PolygonAnswer.{PolygonAnswer}
 use Rattle.clip.specs.Polygon.{cutHole, unlessNone, cutHoles, cutRings, overlayOrDropped, routed, routeExterior, routeRect, route, Routed}
 use Rattle.clip.specs.Polygon.{nothing, dropped, unchanged, cut, overlay, reasonNumber, answerOf, told}
 use Rattle.slices.specs.declared.call.SliceAnswer.{SliceAnswer}
-use Rattle.slices.specs.declared.call.SliceAnswer.the-variants.{Answered}
+use Rattle.slices.specs.declared.call.SliceAnswer.the-variants.{Refused, Answered}
+use Rattle.slices.specs.declared.call.RoomCheck.{RoomCheck}
+use Rattle.slices.specs.declared.call.RoomCheck.the-variants as Rooms
 use Rattle.slices.specs.SliceCall.{PolygonSlices, polygonSlices, sliceCallCheck, routeLent, sliceAnswered, sliceCallAnswer}
-use Rattle.slices.specs.SliceCall.{polygonSlicesAfter, answerCode, sliceCallCode, sliceCallGuards, guardsIn}
-use Rattle.slices.specs.Contracts.{Filled}
-use Rattle.slices.proofs.Checks.{passes-fit, fitting}
+use Rattle.slices.specs.SliceCall.{
+  writtenRings,
+  numbersOf,
+  lengthsOf,
+  polygonSlicesAfter,
+  answerCode,
+  sliceCallCode,
+  sliceCallGuards,
+  guardsIn,
+}
+use Rattle.slices.specs.Contracts.{withRoom}
+use Rattle.slices.proofs.Checks.{passes-fit, fitting, fails-told}
 
 unless-most : (c : List Coord) (l : List (List Coord)) → length (unlessNone c l) ≤ suc (length l)
 unless-most [] l = omega arith
@@ -83,16 +95,23 @@ module _ (b : TileBounds) (rings : List (List Coord)) (few : length rings ≤ mo
 
 -- ---- the call
 
--- what is answered, and what the lent slices hold, where the checks pass
+-- what is answered, and what the lent slices hold, where the checks refuse
+pub refused : (c : Check) (room : ℕ) (to : Routed) (lent : PolygonSlices) (r : RoomCheck) (refusal : Refusal) → r ≡ withRoom c room
+    → r ≡ Rooms.Fails refusal → (Refused refusal ≡ sliceAnswered c to) × (lent ≡ polygonSlicesAfter c room to lent)
+refused c room to lent r refusal told e = let f = fails-told c room r refusal told e in (rw f, rw f)
+
+-- and where they pass
 module _ (c : Check) (to : Routed) (passes : c ≡ Passes) where
   pub answered : (answer : PolygonAnswer) (guards : ℕ) → answer ≡ answerOf to → guards ≡ told answer .guards
       → Answered answer guards ≡ sliceAnswered c to
   answered answer guards ha hg = rw (passes, hg, ha)
 
-  pub written : (lent : PolygonSlices) (a b : List Float) (order : List ℕ) (out : List Float) (lens : List ℕ)
-      → a ≡ zeros (length (lent .first)) → b ≡ zeros (length (lent .second)) → order ≡ replicate (length (lent .order)) 0
-      → Filled to (lent .output) (lent .outLengths) out lens → polygonSlices a b order out lens ≡ polygonSlicesAfter c to lent
-  written lent a b order out lens ha hb ho f = rw (passes, ha, hb, ho, f .output, f .lengths)
+  pub written : (room : ℕ) (lent : PolygonSlices) (scratch : List Float) (order : List ℕ) (out : List Float) (lens : List ℕ)
+      → scratch ≡ zeros (length (lent .scratch)) → order ≡ replicate (length (lent .order)) 0
+      → out ≡ padded plusZero (numbersOf (writtenRings to)) room (lent .output) → lens ≡ over (lengthsOf (writtenRings to)) (lent
+      .outLengths)
+      → polygonSlices scratch order out lens ≡ polygonSlicesAfter c room to lent
+  written room lent scratch order out lens hs hp ho hl = rw (passes, hs, hp, ho, hl)
 
 pub passed : (c : Check) (to : Routed) (answer : PolygonAnswer) (guards : ℕ) → sliceAnswered c to ≡ Answered answer guards
     → (c ≡ Passes) × (answerOf to ≡ answer)
@@ -105,7 +124,7 @@ module _ (flags : Flags) (bounds : TileBounds) (buffer : Float) (s : List Float)
   unfolding sliceCallAnswer routeLent
   answer-below answer guards e =
       let p = passed (sliceCallCheck s ns lent) (routeLent flags bounds buffer s ns) answer guards e in
-      let l = fitting ns s (passes-fit ns s _ _ _ _ _ (p .0)) in
+      let l = fitting ns s (passes-fit ns s _ _ _ _ (p .0)) in
       let few : length (closedRings ns s) ≤ mostRings = omega (arith, length-closed ns s, l .few) in
       rw (← p .1) (route-below (buffered bounds buffer) (closedRings ns s) few flags)
 

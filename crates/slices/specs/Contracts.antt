@@ -2,26 +2,38 @@
 -- file. Definitions only.
 use mathlib.Core.Path.{_≡_}
 use mathlib.Core.Bool.{true}
-use mathlib.Core.List.{List, [], _∷_}
-use Prim.Native.Nat.{ℕ, _+_, _*_, zero, suc, _^_, _<_, _≤_}
+use mathlib.Core.List.{List, [], _∷_, _++_}
+use Prim.Native.Nat.{ℕ, _+_, _*_, _-_, zero, suc, _^_, _<_, _≤_}
 use lib.Ieee.{Float}
-use lib.ListN.{length}
+use lib.ListN.{length, take}
 use lib.Seq.{sets}
 use Rattle.binary64.specs.Slices.{over}
 use Rattle.tile.specs.declared.Coord.{Coord}
 use Rattle.tile.specs.declared.TileBounds.{TileBounds}
+use Rattle.tile.specs.Ring.{flat}
 use Rattle.tile.specs.Contracts.{Stands}
+use Rattle.sutherland_hodgman.specs.declared.call.Check.{Check}
+use Rattle.sutherland_hodgman.specs.declared.call.Check.the-variants.{Fails, Passes}
 use Rattle.rings.specs.LentRings.{closedRings, total, largest, ringRoom, exterior}
 use Rattle.rings.specs.Contracts.{allClosed, Measurable}
 use Rattle.clip.specs.declared.polygon.Route.{Route}
-use Rattle.clip.specs.Polygon.{Routed, route, cutExterior}
-use Rattle.clip.specs.Contracts.{CutStands}
+use Rattle.clip.specs.Polygon.{Routed, cutExterior}
+use Rattle.clip.specs.Contracts.{RingRoom, CutStands}
+use Rattle.slices.specs.declared.call.RoomCheck.{RoomCheck}
+use Rattle.slices.specs.declared.call.RoomCheck.the-variants as Rooms
 use Rattle.slices.specs.declared.call.Placed.{Placed}
 use Rattle.slices.specs.SliceCall.{writtenRings, numbersOf, lengthsOf}
 
--- the rings of a cut, and their lengths, stand at the front of the output and of the second length slice
-pub record Filled (to : Routed) (out : List Float) (outLengths : List ℕ) (out′ : List Float) (outLengths′ : List ℕ) : Type 0 where
-  pub output : out′ ≡ over (numbersOf (writtenRings to)) out
+-- a check that passes tells how many numbers of the output 22 asks for
+abbrev pub withRoom : Check → ℕ → RoomCheck
+withRoom (Fails refusal) room = Rooms.Fails refusal
+withRoom Passes room = Rooms.Passes room
+
+-- so many numbers, the rings of a cut, stand at the front of the output, and their lengths at the front of the second length slice; what
+-- lies past them in the output is left open
+pub record Filled (to : Routed) (numbers : ℕ) (outLengths : List ℕ) (out′ : List Float) (outLengths′ : List ℕ) : Type 0 where
+  pub count : numbers ≡ length (numbersOf (writtenRings to))
+  pub output : take numbers out′ ≡ numbersOf (writtenRings to)
   pub lengths : outLengths′ ≡ over (lengthsOf (writtenRings to)) outLengths
 
 -- the lengths to write for a ring of n coordinates: none for a ring that is left out
@@ -33,49 +45,67 @@ lengthUnlessNone (suc n) = suc n ∷ []
 abbrev pub nonePlaced : Placed
 nonePlaced = record { rings = 0; numbers = 0 }
 
--- a ring of n coordinates at the front of a slice has room behind what is written
-pub record PutRoom (n : ℕ) (ring : List Float) (out outLengths : ℕ) (at : Placed) : Type 0 where
-  pub lent : 2 * n ≤ length ring
+-- a ring of n coordinates can be counted, and its length has room
+pub record CountRoom (n outLengths : ℕ) (at : Placed) : Type 0 where
   pub small : n < 2 ^ 32
-  pub output : at .numbers + 2 * n ≤ out
-  pub lengths : at .rings < outLengths
+  pub numbers : at .numbers + 2 * n < 2 ^ 64
+  pub lengths-room : at .rings < outLengths
 
--- the ring was written there: its numbers, and its length if it has coordinates
-pub record Put (n : ℕ) (numbers : List Float) (at : Placed) (out : List Float) (outLengths : List ℕ) (r : Placed) (out′ : List Float)
-    (outLengths′ : List ℕ) : Type 0 where
-  pub output : out′ ≡ sets out (at .numbers) numbers
+-- the ring is counted: its numbers, and its length if it has coordinates
+pub record Counted (n : ℕ) (at : Placed) (outLengths : List ℕ) (r : Placed) (outLengths′ : List ℕ) : Type 0 where
   pub lengths : outLengths′ ≡ sets outLengths (at .rings) (lengthUnlessNone n)
   pub numbers-after : r .numbers ≡ at .numbers + 2 * n
   pub rings-after : r .rings ≡ at .rings + length (lengthUnlessNone n)
 
--- Lent rings can be cut in two slices of the lengths a and b, and have room behind what is written. No first coordinate holds a NaN, so
--- that closing closes every ring.
-pub record LentRingsRoom (lengths : List ℕ) (coords : List Float) (a b out outLengths : ℕ) (at : Placed) : Type 0 where
+-- a ring of n coordinates at the front of a slice can be cut in the output behind what is written
+pub record HoleRoom (n : ℕ) (ring : List Float) (scratch out outLengths : ℕ) (at : Placed) : Type 0 where
+  pub room : RingRoom n ring scratch (out - at .numbers)
+  pub output-room : at .numbers ≤ out
+  pub lengths-room : at .rings < outLengths
+
+-- the ring stands there, what was written before it is as it was, and it is counted
+pub record Put (ring : List Coord) (at : Placed) (out : List Float) (outLengths : List ℕ) (r : Placed) (out′ : List Float)
+    (outLengths′ : List ℕ) : Type 0 where
+  pub output : take (r .numbers) out′ ≡ take (at .numbers) out ++ flat ring
+  pub counted : Counted (length ring) at outLengths r outLengths′
+
+-- Lent rings can be cut with a scratch slice of this length, and have room in the output behind what is written. No first coordinate holds
+-- a NaN, so that closing closes every ring.
+pub record LentRingsRoom (lengths : List ℕ) (coords : List Float) (scratch out outLengths : ℕ) (at : Placed) : Type 0 where
   pub measurable : Measurable lengths coords
   pub closes : allClosed (closedRings lengths coords) ≡ true
-  pub first : 2 * largest ringRoom (closedRings lengths coords) ≤ a
-  pub second : 2 * largest ringRoom (closedRings lengths coords) ≤ b
-  pub output : at .numbers + 2 * total ringRoom (closedRings lengths coords) ≤ out
-  pub room-lengths : at .rings + length lengths ≤ outLengths
+  pub scratch-room : 2 * largest ringRoom (closedRings lengths coords) ≤ scratch
+  pub output-room : at .numbers + 2 * total ringRoom (closedRings lengths coords) ≤ out
+  pub lengths-room : at .rings + length lengths ≤ outLengths
 
--- the cut holes that are not left out were written there
+-- the cut holes that are not left out stand there, what was written before them is as it was, and they are counted
 pub record PutHoles (holes : List (List Coord)) (at : Placed) (out : List Float) (outLengths : List ℕ) (r : Placed) (out′ : List Float)
     (outLengths′ : List ℕ) : Type 0 where
-  pub output : out′ ≡ sets out (at .numbers) (numbersOf holes)
+  pub output : take (r .numbers) out′ ≡ take (at .numbers) out ++ numbersOf holes
   pub lengths : outLengths′ ≡ sets outLengths (at .rings) (lengthsOf holes)
+  pub numbers-after : r .numbers ≡ at .numbers + length (numbersOf holes)
   pub rings-after : r .rings ≡ at .rings + length holes
 
--- the cut exterior, m coordinates long, stands at the front of b, and the holes can be cut
-pub record LentCutRoom (bounds : TileBounds) (lengths : List ℕ) (coords : List Float) (m a : ℕ) (b : List Float)
-    (out outLengths : ℕ) : Type 0 where
-  pub rings : LentRingsRoom lengths coords a (length b) out outLengths nonePlaced
+-- the cut exterior, m coordinates long, stands at the front of the output, and the holes can be cut
+pub record LentCutRoom (bounds : TileBounds) (lengths : List ℕ) (coords : List Float) (m scratch : ℕ) (out : List Float)
+    (outLengths : ℕ) : Type 0 where
+  pub rings : LentRingsRoom lengths coords scratch (length out) outLengths nonePlaced
   pub some : 0 < length lengths
-  pub stands : Stands (cutExterior bounds (exterior (closedRings lengths coords))) m b
+  pub stands : Stands (cutExterior bounds (exterior (closedRings lengths coords))) m out
   pub whole : 0 < m
 
--- the exterior has this route, and where it is a cut, the cut exterior stands at the front of b
-pub record LentRouteRoom (route : Route) (bounds : TileBounds) (lengths : List ℕ) (coords : List Float) (a : ℕ) (b : List Float)
-    (out outLengths : ℕ) : Type 0 where
-  pub rings : LentRingsRoom lengths coords a (length b) out outLengths nonePlaced
+-- the exterior has this route, and where it is a cut, the cut exterior stands at the front of the output
+pub record LentRouteRoom (route : Route) (bounds : TileBounds) (lengths : List ℕ) (coords : List Float) (scratch : ℕ) (out : List Float)
+    (outLengths : ℕ) : Type 0 where
+  pub rings : LentRingsRoom lengths coords scratch (length out) outLengths nonePlaced
   pub some : 0 < length lengths
-  pub stands : CutStands bounds (exterior (closedRings lengths coords)) route b
+  pub stands : CutStands bounds (exterior (closedRings lengths coords)) route out
+
+-- a polygon has room everywhere, its exterior also for the sweep's positions
+pub record PolygonRoom (lengths : List ℕ) (coords : List Float) (scratch order out outLengths : ℕ) : Type 0 where
+  pub measurable : Measurable lengths coords
+  pub some : 0 < length lengths
+  pub scratch-room : 2 * largest ringRoom (closedRings lengths coords) ≤ scratch
+  pub positions : largest ringRoom (closedRings lengths coords) ≤ order
+  pub output-room : 2 * total ringRoom (closedRings lengths coords) ≤ out
+  pub lengths-room : length lengths ≤ outLengths

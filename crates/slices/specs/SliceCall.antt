@@ -1,4 +1,5 @@
--- The slice call (document 01, "Frames"): what it answers, and what each lent slice holds afterwards. Definitions only.
+-- The slice call (document 01, "Frames", amended by document 02, Point 4): what it answers, and what each lent slice holds afterwards.
+-- Definitions only.
 use mathlib.Core.Bool.{Bool, not, cond, _&&_, _||_}
 use mathlib.Core.List.{List, [], _∷_, _++_}
 use Prim.Native.Nat.{ℕ, _+_, _*_}
@@ -6,7 +7,7 @@ use lib.Dec.{ltb, leb, eqb}
 use lib.Ieee.{Float}
 use lib.IntN.{ℤ, pos, negsuc, negℤ}
 use lib.ListN.{length, replicate}
-use Rattle.binary64.specs.Slices.{zeros, over}
+use Rattle.binary64.specs.Slices.{zeros, over, plusZero, padded}
 use Rattle.tile.specs.declared.Coord.{Coord}
 use Rattle.tile.specs.declared.TileBounds.{TileBounds}
 use Rattle.tile.specs.Bounds.{buffered}
@@ -29,42 +30,43 @@ use Rattle.slices.specs.declared.call.SliceAnswer.the-variants.{Refused,
 unfoldable pub lengthsFit : ℕ → List ℕ → Bool
 lengthsFit numbers lengths = ltb 0 (length lengths) && (leb (length lengths) mostRings && eqb (2 * sum lengths) numbers)
 
--- 21 and 22, of closed rings and the lengths of the two scratch slices, the order slice, the output and the second length slice:
--- "when, S being its largest B, either of two scratch slices is under 2 × S numbers or the order slice .. under S",
--- "when the output is under 2 × the sum of its B numbers, or the second length slice under its ring count"
-unfoldable pub checkRoom : List (List Coord) → ℕ → ℕ → ℕ → ℕ → ℕ → Check
-checkRoom rings a b order out outLengths =
+-- how many numbers 22 asks of the output, of closed rings: "2 × the sum of its B numbers"
+unfoldable pub sliceCallRoom : List (List Coord) → ℕ
+sliceCallRoom rings = 2 * total ringRoom rings
+
+-- 21 and 22, of closed rings and the lengths of the scratch slice, the order slice, the output and the second length slice: "when, S being
+-- its largest B, .. scratch .. is under 2 × S numbers or the order slice .. under S", where "21 speaks of the one slice"; "when the output
+-- is under 2 × the sum of its B numbers, or the second length slice under its ring count"
+unfoldable pub checkRoom : List (List Coord) → ℕ → ℕ → ℕ → ℕ → Check
+checkRoom rings scratch order out outLengths =
     let S = largest ringRoom rings in
-    failsIf (ltb a (2 * S) || (ltb b (2 * S) || ltb order S)) Scratch
-    (failsIf (ltb out (2 * total ringRoom rings) || ltb outLengths (length rings)) Output Passes)
+    failsIf (ltb scratch (2 * S) || ltb order S) Scratch
+    (failsIf (ltb out (sliceCallRoom rings) || ltb outLengths (length rings)) Output Passes)
 
 -- 19 to 22, "tested in that order": "Ring lengths are taken after closing in B and 20."
-unfoldable pub checkPolygon : List Float → List ℕ → ℕ → ℕ → ℕ → ℕ → ℕ → Check
-checkPolygon coords lengths a b order out outLengths =
+unfoldable pub checkPolygon : List Float → List ℕ → ℕ → ℕ → ℕ → ℕ → Check
+checkPolygon coords lengths scratch order out outLengths =
     let rings = closedRings lengths coords in
     failsIf (not (lengthsFit (length coords) lengths)) Lengths
     (failsIf (ltb mostCoordinates (total length rings)) Coordinates
-    (checkRoom rings a b order out outLengths))
+    (checkRoom rings scratch order out outLengths))
 
 -- ---- the lent slices
 
--- what is lent to be written: two scratch slices, the order slice, the output and the second length slice
+-- what is lent to be written: the scratch slice, the order slice, the output and the second length slice
 pub record PolygonSlices : Type 0 where
-  pub first : List Float
-  pub second : List Float
+  pub scratch : List Float
   pub order : List ℕ
   pub output : List Float
   pub outLengths : List ℕ
 
-abbrev pub polygonSlices : List Float → List Float → List ℕ → List Float → List ℕ → PolygonSlices
-polygonSlices a b order out outLengths =
-    record { first = a; second = b; order = order; output = out; outLengths = outLengths }
+abbrev pub polygonSlices : List Float → List ℕ → List Float → List ℕ → PolygonSlices
+polygonSlices scratch order out outLengths = record { scratch = scratch; order = order; output = out; outLengths = outLengths }
 
 -- the refusal of a slice call, if there is one
 abbrev pub sliceCallCheck : List Float → List ℕ → PolygonSlices → Check
 sliceCallCheck coords lengths lent =
-    checkPolygon coords lengths (length (lent .first)) (length (lent .second)) (length (lent .order)) (length (lent .output))
-    (length (lent .outLengths))
+    checkPolygon coords lengths (length (lent .scratch)) (length (lent .order)) (length (lent .output)) (length (lent .outLengths))
 
 -- ---- what is answered
 
@@ -99,17 +101,18 @@ unfoldable pub lengthsOf : List (List Coord) → List ℕ
 lengthsOf [] = []
 lengthsOf (r ∷ rs) = length r ∷ lengthsOf rs
 
--- "A refusal changes no lent buffer. A success fills scratch and order with zeros and leaves the output and the second length slice past
--- the answer unchanged."
-abbrev pub polygonSlicesAfter : Check → Routed → PolygonSlices → PolygonSlices
-polygonSlicesAfter (Fails refusal) outcome lent = lent
-polygonSlicesAfter Passes outcome lent =
-    polygonSlices (zeros (length (lent .first))) (zeros (length (lent .second))) (replicate (length (lent .order)) 0)
-    (over (numbersOf (writtenRings outcome)) (lent .output)) (over (lengthsOf (writtenRings outcome)) (lent .outLengths))
+-- "A refusal changes no lent buffer. A success fills scratch and order with zeros and leaves .. the second length slice past the answer
+-- unchanged"; "the output past the answer, up to what 22 asks, then holds zeros on every success, overlay and nothing included"
+abbrev pub polygonSlicesAfter : Check → ℕ → Routed → PolygonSlices → PolygonSlices
+polygonSlicesAfter (Fails refusal) room outcome lent = lent
+polygonSlicesAfter Passes room outcome lent =
+    polygonSlices (zeros (length (lent .scratch))) (replicate (length (lent .order)) 0)
+    (padded plusZero (numbersOf (writtenRings outcome)) room (lent .output)) (over (lengthsOf (writtenRings outcome)) (lent .outLengths))
 
 unfoldable pub sliceCallSlices : Flags → TileBounds → Float → List Float → List ℕ → PolygonSlices → PolygonSlices
 sliceCallSlices flags bounds buffer coords lengths lent =
-    polygonSlicesAfter (sliceCallCheck coords lengths lent) (routeLent flags bounds buffer coords lengths) lent
+    polygonSlicesAfter (sliceCallCheck coords lengths lent) (sliceCallRoom (closedRings lengths coords))
+    (routeLent flags bounds buffer coords lengths) lent
 
 -- ---- answers as numbers
 

@@ -2,14 +2,14 @@
 ghost use mathlib.Core.Path.{_≡_};
 ghost use Prim.Native.Nat.{_*_};
 ghost use lib.ListN.{length, take, replicate};
+ghost use Rattle.tile.specs.Ring as Ring;
 ghost use Rattle.rings.specs.LentRings.{closedRings};
 ghost use Rattle.rings.specs.Contracts.{Lent, Measurable};
 ghost use Rattle.clip.specs.Polygon as Polygon;
-ghost use Rattle.slices.specs.SliceCall.{lengthsFit, checkRoom, checkPolygon, polygonSlices, sliceCallCheck, sliceCallAnswer};
+ghost use Rattle.slices.specs.SliceCall.{lengthsFit, checkRoom, checkPolygon, sliceCallRoom, polygonSlices, sliceCallAnswer};
 ghost use Rattle.slices.specs.SliceCall.{sliceCallSlices};
 ghost use Rattle.slices.specs.Contracts as Contracts;
 use binary64::slices::clear;
-use binary64::slices::copy;
 use clip::polygon::Flags;
 use clip::polygon::PolygonAnswer;
 use clip::polygon::Reason;
@@ -24,7 +24,6 @@ use rings::lent::lent_count;
 use rings::lent::polygon_rect_all_rings;
 use rings::lent::room_of;
 use rings::rectangle::Rect;
-use sutherland_hodgman::call::Check;
 use sutherland_hodgman::call::MOST_COORDINATES;
 use sutherland_hodgman::call::Refusal;
 use tile::TileBounds;
@@ -35,9 +34,21 @@ pub enum SliceAnswer {
     Answered(PolygonAnswer, usize),
 }
 
+// Whether there is a refusal; if there is none, how many numbers of the output 22 asks for.
+enum RoomCheck {
+    Fails(Refusal),
+    Passes(usize),
+}
+
 // How much of the output is written: rings, and their numbers.
 struct Placed {
     rings: usize,
+    numbers: usize,
+}
+
+// What becomes of a polygon, and how many numbers of the output are its.
+struct Clipped {
+    answer: PolygonAnswer,
     numbers: usize,
 }
 
@@ -54,91 +65,105 @@ fn lengths_fit(coords: &[f64], lengths: &[u32]) -> bool
     2 * lent_count(lengths) == coords.len()
 }
 
-// Refusals 21 and 22, of rings that fit: by the lengths of the two scratch slices, the order slice, the output and the second length slice.
+// Refusals 21 and 22, of rings that fit: by the lengths of the scratch slice, the order slice, the output and the second length slice.
 fn check_room(
     coords: &[f64],
     lengths: &[u32],
-    a: usize,
-    b: usize,
+    scratch: usize,
     order: usize,
     out: usize,
     out_lengths: usize,
-) -> Check
+) -> RoomCheck
     requires { ⌜ Measurable (now lengths) (now coords) ⌝ }
-    ensures { λ r. ⌜ r ≡ checkRoom (closedRings (now (lengths .entry)) (now (coords .entry))) a b order out «out_lengths» ⌝ }
+    ensures { λ r. ⌜ r ≡ Contracts.withRoom
+        (checkRoom (closedRings (now (lengths .entry)) (now (coords .entry))) scratch order out «out_lengths»)
+        (sliceCallRoom (closedRings (now (lengths .entry)) (now (coords .entry)))) ⌝ }
 {
     let room = room_of(coords, lengths);
-    if a < 2 * room.largest {
-        return Check::Fails(Refusal::Scratch);
-    }
-    if b < 2 * room.largest {
-        return Check::Fails(Refusal::Scratch);
+    if scratch < 2 * room.largest {
+        return RoomCheck::Fails(Refusal::Scratch);
     }
     if order < room.largest {
-        return Check::Fails(Refusal::Scratch);
+        return RoomCheck::Fails(Refusal::Scratch);
     }
     if out < 2 * room.all {
-        return Check::Fails(Refusal::Output);
+        return RoomCheck::Fails(Refusal::Output);
     }
     if out_lengths < lengths.len() {
-        return Check::Fails(Refusal::Output);
+        return RoomCheck::Fails(Refusal::Output);
     }
-    Check::Passes
+    RoomCheck::Passes(2 * room.all)
 }
 
 // The refusals of a slice call, in their order.
 fn check_polygon(
     coords: &[f64],
     lengths: &[u32],
-    a: usize,
-    b: usize,
+    scratch: usize,
     order: usize,
     out: usize,
     out_lengths: usize,
-) -> Check
-    ensures { λ r. ⌜ r ≡ checkPolygon (now (coords .entry)) (now (lengths .entry)) a b order out «out_lengths» ⌝ }
+) -> RoomCheck
+    ensures { λ r. ⌜ r ≡ Contracts.withRoom
+        (checkPolygon (now (coords .entry)) (now (lengths .entry)) scratch order out «out_lengths»)
+        (sliceCallRoom (closedRings (now (lengths .entry)) (now (coords .entry)))) ⌝ }
 {
     if !lengths_fit(coords, lengths) {
-        return Check::Fails(Refusal::Lengths);
+        return RoomCheck::Fails(Refusal::Lengths);
     }
     if MOST_COORDINATES < closed_sum(coords, lengths) {
-        return Check::Fails(Refusal::Coordinates);
+        return RoomCheck::Fails(Refusal::Coordinates);
     }
-    check_room(coords, lengths, a, b, order, out, out_lengths)
+    check_room(coords, lengths, scratch, order, out, out_lengths)
 }
 
-// Writes the ring of n coordinates at the front of a slice behind what is written, and its length; a ring without coordinates is left out.
-fn put_ring(ring: &[f64], n: usize, out: &mut [f64], out_lengths: &mut [u32], at: Placed) -> Placed
-    requires { ⌜ Contracts.PutRoom n (now ring) (length (now out)) (length (now «out_lengths»)) at ⌝ }
-    ensures { λ r. ⌜ Contracts.Put n (take (2 * n) (now (ring .entry))) at (now (out .entry)) (now («out_lengths» .entry))
-        r (now (out .exit)) (now («out_lengths» .exit)) ⌝ }
+// Counts the ring of n coordinates that stands behind what is written, and writes its length; a ring without coordinates is left out.
+fn count_ring(n: usize, out_lengths: &mut [u32], at: Placed) -> Placed
+    requires { ⌜ Contracts.CountRoom n (length (now «out_lengths»)) at ⌝ }
+    ensures { λ r. ⌜ Contracts.Counted n at (now («out_lengths» .entry)) r (now («out_lengths» .exit)) ⌝ }
 {
     if n == 0 {
         return at;
     }
     let rings = at.rings;
-    let numbers = at.numbers;
-    copy(ring, &mut out[numbers..], 2 * n);
     out_lengths[rings] = n as u32;
     Placed {
         rings: rings + 1,
-        numbers: numbers + 2 * n,
+        numbers: at.numbers + 2 * n,
     }
 }
 
-// Cuts lent rings as holes and writes those that stay behind what is written.
+// Cuts the ring of n coordinates at the front of a slice as a hole, in the output behind what is written, where it is to stand.
+fn put_hole(
+    ring: &[f64],
+    n: usize,
+    bounds: TileBounds,
+    scratch: &mut [f64],
+    out: &mut [f64],
+    out_lengths: &mut [u32],
+    at: Placed,
+) -> Placed
+    requires { ⌜ Contracts.HoleRoom n (now ring) (length (now scratch)) (length (now out)) (length (now «out_lengths»)) at ⌝ }
+    ensures { λ r. ⌜ Contracts.Put (Polygon.cutHole bounds (Ring.close (Ring.coords (take (2 * n) (now (ring .entry)))))) at
+        (now (out .entry)) (now («out_lengths» .entry)) r (now (out .exit)) (now («out_lengths» .exit)) ⌝ }
+{
+    let numbers = at.numbers;
+    let m = clip_hole(ring, n, bounds, scratch, &mut out[numbers..]);
+    count_ring(m, out_lengths, at)
+}
+
+// Cuts lent rings as holes, each in the output behind what is written.
 fn put_holes(
     coords: &[f64],
     lengths: &[u32],
     bounds: TileBounds,
-    a: &mut [f64],
-    b: &mut [f64],
+    scratch: &mut [f64],
     out: &mut [f64],
     out_lengths: &mut [u32],
     exterior: Placed,
 ) -> Placed
-    requires { ⌜ Contracts.LentRingsRoom (now lengths) (now coords) (length (now a)) (length (now b))
-        (length (now out)) (length (now «out_lengths»)) exterior ⌝ }
+    requires { ⌜ Contracts.LentRingsRoom (now lengths) (now coords) (length (now scratch)) (length (now out))
+        (length (now «out_lengths»)) exterior ⌝ }
     ensures { λ r. ⌜ Contracts.PutHoles (Polygon.cutHoles bounds (closedRings (now (lengths .entry)) (now (coords .entry)))) exterior
         (now (out .entry)) (now («out_lengths» .entry)) r (now (out .exit)) (now («out_lengths» .exit)) ⌝ }
 {
@@ -147,49 +172,45 @@ fn put_holes(
     let mut k = 0usize;
     while k < lengths.len() {
         let n = lengths[k] as usize;
-        let m = clip_hole(&coords[at..], n, bounds, a, b);
-        placed = put_ring(b, m, out, out_lengths, placed);
+        placed = put_hole(&coords[at..], n, bounds, scratch, out, out_lengths, placed);
         at += 2 * n;
         k += 1;
     }
     placed
 }
 
-// Writes the cut exterior of m coordinates, which stands at the front of b, then the holes, and answers how many rings there are.
+// Puts the holes behind the cut exterior of m coordinates, which stands at the front of the output, and answers how much is written.
 fn put_cut(
     coords: &[f64],
     lengths: &[u32],
     m: usize,
     bounds: TileBounds,
-    a: &mut [f64],
-    b: &mut [f64],
+    scratch: &mut [f64],
     out: &mut [f64],
     out_lengths: &mut [u32],
-) -> usize
-    requires { ⌜ Contracts.LentCutRoom bounds (now lengths) (now coords) m (length (now a)) (now b)
-        (length (now out)) (length (now «out_lengths»)) ⌝ }
-    ensures count { λ r. ⌜ r ≡ length (Polygon.cutRings bounds (closedRings (now (lengths .entry)) (now (coords .entry)))) ⌝ }
-    ensures written { λ _. ⌜ Contracts.Filled
+) -> Placed
+    requires { ⌜ Contracts.LentCutRoom bounds (now lengths) (now coords) m (length (now scratch)) (now out)
+        (length (now «out_lengths»)) ⌝ }
+    ensures count { λ r. ⌜ r .rings ≡ length (Polygon.cutRings bounds (closedRings (now (lengths .entry)) (now (coords .entry)))) ⌝ }
+    ensures written { λ r. ⌜ Contracts.Filled
         (Polygon.cut (Polygon.cutRings bounds (closedRings (now (lengths .entry)) (now (coords .entry)))))
-        (now (out .entry)) (now («out_lengths» .entry)) (now (out .exit)) (now («out_lengths» .exit)) ⌝ }
+        (r .numbers) (now («out_lengths» .entry)) (now (out .exit)) (now («out_lengths» .exit)) ⌝ }
 {
     let none = Placed {
         rings: 0,
         numbers: 0,
     };
-    let exterior = put_ring(b, m, out, out_lengths, none);
+    let exterior = count_ring(m, out_lengths, none);
     let start = 2 * lengths[0] as usize;
-    let all = put_holes(
+    put_holes(
         &coords[start..],
         &lengths[1..],
         bounds,
-        a,
-        b,
+        scratch,
         out,
         out_lengths,
         exterior,
-    );
-    all.rings
+    )
 }
 
 // An overlay is wanted, unless a coordinate is too large for it.
@@ -203,62 +224,80 @@ fn overlay_or_dropped(coords: &[f64], lengths: &[u32], reason: Reason) -> Polygo
     PolygonAnswer::Overlay(reason)
 }
 
-// What becomes of a polygon whose exterior has this route; a cut exterior stands at the front of b.
+// What becomes of a polygon whose exterior has this route; a cut exterior stands at the front of the output.
 fn answer_route(
     route: Route,
     bounds: TileBounds,
     coords: &[f64],
     lengths: &[u32],
-    a: &mut [f64],
-    b: &mut [f64],
+    scratch: &mut [f64],
     out: &mut [f64],
     out_lengths: &mut [u32],
-) -> PolygonAnswer
-    requires { ⌜ Contracts.LentRouteRoom route bounds (now lengths) (now coords) (length (now a)) (now b)
-        (length (now out)) (length (now «out_lengths»)) ⌝ }
-    ensures answer { λ r. ⌜ r ≡ Polygon.answerOf
+) -> Clipped
+    requires { ⌜ Contracts.LentRouteRoom route bounds (now lengths) (now coords) (length (now scratch)) (now out)
+        (length (now «out_lengths»)) ⌝ }
+    ensures answer { λ r. ⌜ r .answer ≡ Polygon.answerOf
         (Polygon.routed route bounds (closedRings (now (lengths .entry)) (now (coords .entry)))) ⌝ }
-    ensures written { λ _. ⌜ Contracts.Filled (Polygon.routed route bounds (closedRings (now (lengths .entry)) (now (coords .entry))))
-        (now (out .entry)) (now («out_lengths» .entry)) (now (out .exit)) (now («out_lengths» .exit)) ⌝ }
+    ensures written { λ r. ⌜ Contracts.Filled (Polygon.routed route bounds (closedRings (now (lengths .entry)) (now (coords .entry))))
+        (r .numbers) (now («out_lengths» .entry)) (now (out .exit)) (now («out_lengths» .exit)) ⌝ }
 {
     match route {
-        Route::Nothing => PolygonAnswer::Nothing,
-        Route::Unchanged => PolygonAnswer::Unchanged,
-        Route::Overlay(reason) => overlay_or_dropped(coords, lengths, reason),
+        Route::Nothing => Clipped {
+            answer: PolygonAnswer::Nothing,
+            numbers: 0,
+        },
+        Route::Unchanged => Clipped {
+            answer: PolygonAnswer::Unchanged,
+            numbers: 0,
+        },
+        Route::Overlay(reason) => {
+            let answer = overlay_or_dropped(coords, lengths, reason);
+            Clipped { answer, numbers: 0 }
+        }
         Route::Cut(m) => {
-            let rings = put_cut(coords, lengths, m, bounds, a, b, out, out_lengths);
-            PolygonAnswer::Cut(rings)
+            let all = put_cut(coords, lengths, m, bounds, scratch, out, out_lengths);
+            Clipped {
+                answer: PolygonAnswer::Cut(all.rings),
+                numbers: all.numbers,
+            }
         }
     }
 }
 
-// What becomes of a polygon that the checks pass; the bounds are buffered. The scratch and order slices are left open.
+// What becomes of a polygon that has room everywhere; the bounds are buffered. The output serves for every second pass: past a cut's rings
+// it is left open, as are the scratch and order slices.
 fn clip_polygon(
     flags: Flags,
     bounds: TileBounds,
     coords: &[f64],
     lengths: &[u32],
-    a: &mut [f64],
-    b: &mut [f64],
+    scratch: &mut [f64],
     order: &mut [u32],
     out: &mut [f64],
     out_lengths: &mut [u32],
-) -> PolygonAnswer
-    requires { ⌜ sliceCallCheck (now coords) (now lengths)
-        (polygonSlices (now a) (now b) (now order) (now out) (now «out_lengths»)) ≡ Check.Passes ⌝ }
-    ensures answer { λ r. ⌜ r ≡ Polygon.answerOf (Polygon.route flags bounds (closedRings (now (lengths .entry)) (now (coords .entry)))) ⌝ }
-    ensures written { λ _. ⌜ Contracts.Filled (Polygon.route flags bounds (closedRings (now (lengths .entry)) (now (coords .entry))))
-        (now (out .entry)) (now («out_lengths» .entry)) (now (out .exit)) (now («out_lengths» .exit)) ⌝ }
+) -> Clipped
+    requires { ⌜ Contracts.PolygonRoom (now lengths) (now coords) (length (now scratch)) (length (now order)) (length (now out))
+        (length (now «out_lengths»)) ⌝ }
+    ensures answer { λ r. ⌜ r .answer ≡ Polygon.answerOf
+        (Polygon.route flags bounds (closedRings (now (lengths .entry)) (now (coords .entry)))) ⌝ }
+    ensures written { λ r. ⌜ Contracts.Filled (Polygon.route flags bounds (closedRings (now (lengths .entry)) (now (coords .entry))))
+        (r .numbers) (now («out_lengths» .entry)) (now (out .exit)) (now («out_lengths» .exit)) ⌝ }
 {
     let rect = polygon_rect_all_rings(coords, lengths);
     match rect {
-        Rect::Nothing => PolygonAnswer::Nothing,
-        Rect::NotFinite => PolygonAnswer::Dropped,
+        Rect::Nothing => Clipped {
+            answer: PolygonAnswer::Nothing,
+            numbers: 0,
+        },
+        Rect::NotFinite => Clipped {
+            answer: PolygonAnswer::Dropped,
+            numbers: 0,
+        },
         Rect::Box(west, south, east, north) => {
             let found = Rect::Box(west, south, east, north);
             let n = lengths[0] as usize;
-            let route = route_exterior(coords, n, flags, found, bounds, a, b, order);
-            answer_route(route, bounds, coords, lengths, a, b, out, out_lengths)
+            let route = route_exterior(coords, n, flags, found, bounds, scratch, out, order);
+            answer_route(route, bounds, coords, lengths, scratch, out, out_lengths)
         }
     }
 }
@@ -274,53 +313,54 @@ fn clear_order(s: &mut [u32])
     }
 }
 
-// What becomes of one polygon, whose rings it closes. A refusal changes nothing lent. Any other answer fills both scratch slices and the
-// order slice with zeros, whole, and leaves the output and the second length slice past a cut's rings unchanged. The logic has one NaN:
-// a NaN stands exactly where the definition has one, and its bits are free, also in a slice that is left unchanged.
+// What becomes of one polygon, whose rings it closes. A refusal changes nothing lent. Any other answer fills the scratch and order slices
+// with zeros, whole, and the output past a cut's rings up to what 22 asks; it leaves the output beyond that, and the second length slice
+// past a cut's lengths, unchanged. The logic has one NaN: a NaN stands exactly where the definition has one, and its bits are free, also in
+// a slice that is left unchanged.
 pub fn polygon(
     flags: Flags,
     bounds: TileBounds,
     buffer: f64,
     coords: &[f64],
     lengths: &[u32],
-    a: &mut [f64],
-    b: &mut [f64],
+    scratch: &mut [f64],
     order: &mut [u32],
     out: &mut [f64],
     out_lengths: &mut [u32],
 ) -> SliceAnswer
     ensures answer { λ r. ⌜ r ≡ sliceCallAnswer flags bounds buffer (now (coords .entry)) (now (lengths .entry))
-        (polygonSlices (now (a .entry)) (now (b .entry)) (now (order .entry)) (now (out .entry)) (now («out_lengths» .entry))) ⌝ }
-    ensures lent { λ _. ⌜ polygonSlices (now (a .exit)) (now (b .exit)) (now (order .exit)) (now (out .exit)) (now («out_lengths» .exit))
+        (polygonSlices (now (scratch .entry)) (now (order .entry)) (now (out .entry)) (now («out_lengths» .entry))) ⌝ }
+    ensures lent { λ _. ⌜ polygonSlices (now (scratch .exit)) (now (order .exit)) (now (out .exit)) (now («out_lengths» .exit))
         ≡ sliceCallSlices flags bounds buffer (now (coords .entry)) (now (lengths .entry))
-        (polygonSlices (now (a .entry)) (now (b .entry)) (now (order .entry)) (now (out .entry)) (now («out_lengths» .entry))) ⌝ }
+        (polygonSlices (now (scratch .entry)) (now (order .entry)) (now (out .entry)) (now («out_lengths» .entry))) ⌝ }
 {
-    let check = check_polygon(
+    match check_polygon(
         coords,
         lengths,
-        a.len(),
-        b.len(),
+        scratch.len(),
         order.len(),
         out.len(),
         out_lengths.len(),
-    );
-    if let Check::Fails(refusal) = check {
-        return SliceAnswer::Refused(refusal);
+    ) {
+        RoomCheck::Fails(refusal) => SliceAnswer::Refused(refusal),
+        RoomCheck::Passes(room) => {
+            let clipped = clip_polygon(
+                flags,
+                bounds.buffered(buffer),
+                coords,
+                lengths,
+                scratch,
+                order,
+                &mut out[..room],
+                out_lengths,
+            );
+            let answer = clipped.answer;
+            let used = clipped.numbers;
+            clear(&mut out[used..room]);
+            clear(scratch);
+            clear_order(order);
+            let guards = guard_count(answer);
+            SliceAnswer::Answered(answer, guards)
+        }
     }
-    let answer = clip_polygon(
-        flags,
-        bounds.buffered(buffer),
-        coords,
-        lengths,
-        a,
-        b,
-        order,
-        out,
-        out_lengths,
-    );
-    clear(a);
-    clear(b);
-    clear_order(order);
-    let guards = guard_count(answer);
-    SliceAnswer::Answered(answer, guards)
 }

@@ -1,7 +1,6 @@
 mod Calls
 mod Cases
 mod Growth
-mod LastPass
 mod LeavingOff
 pub mod Offered
 mod Promises

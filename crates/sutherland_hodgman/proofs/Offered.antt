@@ -3,21 +3,22 @@
 use mathlib.Core.Path.{_≡_, refl}
 use mathlib.Core.Bool.{Bool, true, false}
 use mathlib.Core.List.{List, [], _∷_}
-use Prim.Native.Nat.{ℕ, zero, suc, _+_, _*_, _<_, _≤_}
+use Prim.Native.Nat.{ℕ, zero, suc, _+_, _*_, _/_, _<_, _≤_}
 use native.Mathlib.Omega.{arith}
 use lib.Ieee.{Float}
-use lib.ListN.{length}
+use lib.ListN.{length, take}
 use Rattle.binary64.specs.Slices.{zeros}
 use Rattle.tile.specs.declared.Coord.{Coord}
 use Rattle.tile.specs.declared.TileBounds.{TileBounds}
-use Rattle.tile.specs.Ring.{closed, close}
+use Rattle.tile.specs.Ring.{coords, closed, close}
 use Rattle.sutherland_hodgman.specs.declared.call.Refusal.{Refusal}
 use Rattle.sutherland_hodgman.specs.declared.call.Check.{Check}
 use Rattle.sutherland_hodgman.specs.declared.call.Check.the-variants.{Passes}
 use Rattle.sutherland_hodgman.specs.declared.call.RingAnswer.the-variants.{Clipped}
 use Rattle.sutherland_hodgman.specs.Clip.{leaveOff, around, pass, passes, finish, clipRing}
 use Rattle.sutherland_hodgman.specs.Growth.{halfGrowth, fourHalfGrowths, B, mostCoordinates}
-use Rattle.sutherland_hodgman.specs.RingCall.{failsIf, RingSlices, ringCallAnswer}
+use Rattle.sutherland_hodgman.specs.RingCall.{failsIf, RingSlices, ringCallCheck, ringCallAnswer}
+use Rattle.sutherland_hodgman.specs.Contracts.{CutterRoom}
 use Rattle.sutherland_hodgman.proofs.Calls as calls
 use Rattle.sutherland_hodgman.proofs.Growth as growth
 use Rattle.sutherland_hodgman.proofs.LeavingOff.{leaveOff-close}
@@ -111,6 +112,17 @@ not-refused = calls.not-refused
 -- a scratch slice that is filled with zeros has kept its length
 pub cleared : (m n : ℕ) (l : List Float) → l ≡ zeros m → m ≡ n → l ≡ zeros n
 cleared = calls.cleared
+
+-- a ring that a ring call does not refuse has room for the cutter, and is all of what is lent
+pub lent-room : (ring : List Float) (lent : RingSlices) → ringCallCheck ring lent ≡ Passes
+    → CutterRoom (length ring / 2) (length ring) (length (lent .scratch)) (length (lent .output))
+lent-room ring lent e =
+    let p = calls.passes-cuttable (length ring) _ _ e in
+    record { vertices = omega (arith, p .even); scratch-room = p .scratch-room; output-room = p .output-room }
+
+pub lent-whole : (ring : List Float) (lent : RingSlices) → ringCallCheck ring lent ≡ Passes
+    → coords (take (2 * (length ring / 2)) ring) ≡ coords ring
+lent-whole ring lent e = calls.whole-ring ring (calls.passes-cuttable (length ring) _ _ e .even)
 
 -- a ring call answers at most 2^19 coordinates, so that the count fits an i64
 pub answer-few : (ring : List Float) (bounds : TileBounds) (lent : RingSlices) (n : ℕ) → ringCallAnswer ring bounds lent ≡ Clipped n

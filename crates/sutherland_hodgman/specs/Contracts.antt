@@ -7,15 +7,16 @@ use Prim.Native.Nat.{_-_, ℕ, zero, suc, _+_, _≤_, _<_, _*_}
 use lib.Ieee.{Float, nan}
 use lib.ListN.{length, take, getD, drop}
 use lib.Seq.{sets}
+use Rattle.binary64.specs.Slices.{plusZero, padded}
 use Rattle.tile.specs.declared.Coord.{Coord}
 use Rattle.tile.specs.declared.TileBounds.{TileBounds}
 use Rattle.tile.specs.declared.Edge.{Edge}
-use Rattle.tile.specs.declared.Edge.the-variants.{Left, Right, Bottom, Top}
 use Rattle.tile.specs.Ring.{coords, flat}
-use Rattle.tile.specs.Contracts.{Stands, Written}
+use Rattle.tile.specs.Contracts.{Stands}
 use Rattle.sutherland_hodgman.specs.declared.Walk.{Walk}
-use Rattle.sutherland_hodgman.specs.Clip.{steps, pass, finish, clipRing}
+use Rattle.sutherland_hodgman.specs.Clip.{steps, clipRing}
 use Rattle.sutherland_hodgman.specs.Growth.{halfGrowth, B}
+use Rattle.sutherland_hodgman.specs.RingCall.{ringCallRoom}
 use Rattle.sutherland_hodgman.specs.Promise.{Promise}
 
 -- ---- a pass
@@ -65,28 +66,20 @@ pub record RunVerdicts (m i verdicts : ℕ) : Type 0 where
 
 -- ---- the four passes
 
--- the passes but the last
-unfoldable pub threePasses : TileBounds → List Coord → List Coord
-threePasses b r = pass Bottom b (pass Right b (pass Left b r))
-
--- What the last pass and the closing make of the ring r stands at the front of the slice, k vertices long. Past it the slice is as it was,
--- if r has four vertices or more.
-pub record LastPassDone (b : TileBounds) (r : List Coord) (d : List Float) (k : ℕ) (d′ : List Float) : Type 0 where
-  pub stands : Stands (finish (pass Top b r)) k d′
-  pub rest : 4 ≤ length r → Written (finish (pass Top b r)) d k d′
-
--- a ring of n vertices at the front of a slice of length `ring` can be cut in two slices of the lengths a and b
-pub record CutterRoom (n ring a b : ℕ) : Type 0 where
+-- a ring of n vertices at the front of a slice of length `ring` can be cut with a scratch slice and an output of these lengths
+pub record CutterRoom (n ring scratch out : ℕ) : Type 0 where
   pub vertices : 2 * n ≤ ring
-  pub first : 2 * B n ≤ a
-  pub second : 2 * B n ≤ b
+  pub scratch-room : 2 * B n ≤ scratch
+  pub output-room : 2 * B n ≤ out
 
 -- the cut ring stands at the front of the slice, r vertices long; demand 3 holds of what stands there; what lies past it is left open
 pub record RingCut (bounds : TileBounds) (ring : List Coord) (r : ℕ) (after : List Float) : Type 0 where
   pub stands : Stands (clipRing bounds ring) r after
   pub promise : Promise bounds ring (coords (take (2 * r) after))
 
--- the cut of a lent ring stands at the front of the output, r coordinates long; demand 3 holds of what stands there
+-- the cut of a lent ring stands at the front of the output, r coordinates long, and zeros from there up to what 22 asks; demand 3 holds of
+-- the ring that stands there
 pub record ClippedTo (ring : List Float) (bounds : TileBounds) (out : List Float) (r : ℕ) (out′ : List Float) : Type 0 where
-  pub written : Written (clipRing bounds (coords ring)) out r out′
+  pub count : r ≡ length (clipRing bounds (coords ring))
+  pub numbers : out′ ≡ padded plusZero (flat (clipRing bounds (coords ring))) (ringCallRoom (length ring)) out
   pub promise : Promise bounds (coords ring) (coords (take (2 * r) out′))

@@ -1,12 +1,13 @@
--- The ring call (document 01, "Frames"): what it answers, and what each lent slice holds afterwards. Definitions only.
-use mathlib.Core.Bool.{Bool, true, false, _||_}
+-- The ring call (document 01, "Frames", amended by document 02, Point 4): what it answers, and what each lent slice holds afterwards.
+-- Definitions only.
+use mathlib.Core.Bool.{Bool, true, false}
 use mathlib.Core.List.{List}
 use Prim.Native.Nat.{ℕ, _*_, _/_, _%_}
 use lib.Dec.{ltb, eqb}
 use lib.Ieee.{Float}
 use lib.IntN.{ℤ, pos, negℤ}
 use lib.ListN.{length, take}
-use Rattle.binary64.specs.Slices.{zeros, over}
+use Rattle.binary64.specs.Slices.{zeros, plusZero, padded}
 use Rattle.tile.specs.declared.Coord.{Coord}
 use Rattle.tile.specs.declared.TileBounds.{TileBounds}
 use Rattle.tile.specs.Ring.{coords, flat}
@@ -34,30 +35,33 @@ abbrev pub failsIf : Bool → Refusal → Check → Check
 failsIf true refusal later = Fails refusal
 failsIf false refusal later = later
 
--- "19 for an odd count of numbers, then 20 to 22 without order and length slices, its length taken unclosed": a, b and out are the
--- lengths of the scratch slices and of the output
-unfoldable pub checkRing : ℕ → ℕ → ℕ → ℕ → Check
-checkRing numbers a b out =
-    let room = 2 * B (numbers / 2) in
+-- how many numbers 21 asks of the scratch slice and 22 of the output: "2 × S", "2 × the sum of its B", "its length taken unclosed"
+unfoldable pub ringCallRoom : ℕ → ℕ
+ringCallRoom numbers = 2 * B (numbers / 2)
+
+-- "19 for an odd count of numbers, then 20 to 22 without order and length slices", "The refusal 21 speaks of the one slice": `scratch` and
+-- `out` are the lengths of the scratch slice and of the output
+unfoldable pub checkRing : ℕ → ℕ → ℕ → Check
+checkRing numbers scratch out =
+    let room = ringCallRoom numbers in
     failsIf (eqb (numbers % 2) 1) Lengths
     (failsIf (ltb mostCoordinates (numbers / 2)) Coordinates
-    (failsIf (ltb a room || ltb b room) Scratch
+    (failsIf (ltb scratch room) Scratch
     (failsIf (ltb out room) Output Passes)))
 
 -- ---- the lent slices
 
--- what is lent to be written: two scratch slices and the output
+-- what is lent to be written: the scratch slice and the output
 pub record RingSlices : Type 0 where
-  pub first : List Float
-  pub second : List Float
+  pub scratch : List Float
   pub output : List Float
 
-abbrev pub ringSlices : List Float → List Float → List Float → RingSlices
-ringSlices a b out = record { first = a; second = b; output = out }
+abbrev pub ringSlices : List Float → List Float → RingSlices
+ringSlices scratch out = record { scratch = scratch; output = out }
 
 -- the refusal of a ring call, if there is one
 abbrev pub ringCallCheck : List Float → RingSlices → Check
-ringCallCheck ring lent = checkRing (length ring) (length (lent .first)) (length (lent .second)) (length (lent .output))
+ringCallCheck ring lent = checkRing (length ring) (length (lent .scratch)) (length (lent .output))
 
 -- ---- what is answered
 
@@ -76,15 +80,17 @@ ringCallCode (Clipped n) = pos n
 
 -- ---- the lent slices afterwards
 
--- "A refusal changes no lent buffer. A success fills scratch .. with zeros and leaves the output .. past the answer unchanged."
-abbrev pub ringSlicesAfter : Check → List Coord → RingSlices → RingSlices
-ringSlicesAfter (Fails refusal) cut lent = lent
-ringSlicesAfter Passes cut lent =
-    ringSlices (zeros (length (lent .first))) (zeros (length (lent .second))) (over (flat cut) (lent .output))
+-- "A refusal changes no lent buffer. A success fills scratch .. with zeros"; "the output past the answer, up to what 22 asks, then holds
+-- zeros on every success"
+abbrev pub ringSlicesAfter : Check → ℕ → List Coord → RingSlices → RingSlices
+ringSlicesAfter (Fails refusal) room cut lent = lent
+ringSlicesAfter Passes room cut lent =
+    ringSlices (zeros (length (lent .scratch))) (padded plusZero (flat cut) room (lent .output))
 
 -- "writes the coordinates from the front of the output"
 unfoldable pub ringCallSlices : List Float → TileBounds → RingSlices → RingSlices
-ringCallSlices ring bounds lent = ringSlicesAfter (ringCallCheck ring lent) (clipRing bounds (coords ring)) lent
+ringCallSlices ring bounds lent =
+    ringSlicesAfter (ringCallCheck ring lent) (ringCallRoom (length ring)) (clipRing bounds (coords ring)) lent
 
 -- "Demand 3 speaks of .. the ring that a ring call not refused answers": n coordinates at the front of the output
 abbrev pub RingCallPromise : List Float → TileBounds → RingAnswer → List Float → Type 0

@@ -1,15 +1,13 @@
-// The ring call: a lent ring, four bounds used as given, two scratch slices and an output. It is open to callers and refuses what it
-// can't cut.
+// The ring call: a lent ring, four bounds used as given, a scratch slice and an output. It is open to callers and refuses what it can't
+// cut.
 ghost use mathlib.Core.Path.{_≡_};
 ghost use Prim.Native.Nat.{_*_, _≤_};
 ghost use Rattle.sutherland_hodgman.specs.Growth.{halfGrowth, B, mostCoordinates};
 ghost use Rattle.sutherland_hodgman.specs.RingCall.{checkRing, ringSlices, ringCallCheck, ringCallAnswer, ringCallSlices};
 ghost use Rattle.sutherland_hodgman.specs.RingCall.{RingCallPromise};
 ghost use Rattle.sutherland_hodgman.specs.Contracts.{ClippedTo};
-use super::clip_three_edges;
-use super::clip_top;
+use super::clip_ring;
 use binary64::slices::clear;
-use binary64::slices::copy;
 use tile::TileBounds;
 
 pub const MOST_COORDINATES: usize = 65536;
@@ -54,8 +52,8 @@ pub fn room_for(n: usize) -> usize
 }
 
 // The refusals of a ring call, in their order, by the count of numbers and the lengths of the other slices.
-pub fn check_ring(numbers: usize, a: usize, b: usize, out: usize) -> Check
-    ensures { λ r. ⌜ r ≡ checkRing numbers a b out ⌝ }
+pub fn check_ring(numbers: usize, scratch: usize, out: usize) -> Check
+    ensures { λ r. ⌜ r ≡ checkRing numbers scratch out ⌝ }
 {
     if numbers % 2 == 1 {
         return Check::Fails(Refusal::Lengths);
@@ -65,10 +63,7 @@ pub fn check_ring(numbers: usize, a: usize, b: usize, out: usize) -> Check
         return Check::Fails(Refusal::Coordinates);
     }
     let room = 2 * room_for(n);
-    if a < room {
-        return Check::Fails(Refusal::Scratch);
-    }
-    if b < room {
+    if scratch < room {
         return Check::Fails(Refusal::Scratch);
     }
     if out < room {
@@ -77,49 +72,34 @@ pub fn check_ring(numbers: usize, a: usize, b: usize, out: usize) -> Check
     Check::Passes
 }
 
-// Cuts a ring that the checks pass. The last pass writes the output itself, but for a ring that may be given up: what stands there past
-// the answer must not change. The scratch slices are left as the passes leave them.
-pub fn clip_lent(
-    ring: &[f64],
-    bounds: TileBounds,
-    a: &mut [f64],
-    b: &mut [f64],
-    out: &mut [f64],
-) -> usize
-    requires { ⌜ ringCallCheck (now ring) (ringSlices (now a) (now b) (now out)) ≡ Check.Passes ⌝ }
+// Cuts a ring that the checks pass to the front of the output, and fills the output with zeros from there up to what 22 asks. The scratch
+// slice is left as the passes leave it.
+fn clip_padded(ring: &[f64], bounds: TileBounds, scratch: &mut [f64], out: &mut [f64]) -> usize
+    requires { ⌜ ringCallCheck (now ring) (ringSlices (now scratch) (now out)) ≡ Check.Passes ⌝ }
     ensures { λ r. ⌜ ClippedTo (now (ring .entry)) bounds (now (out .entry)) r (now (out .exit)) ⌝ }
 {
-    let len = clip_three_edges(ring, ring.len() / 2, bounds, a, b);
-    if len < 4 {
-        let n = clip_top(a, len, bounds, b);
-        copy(b, out, 2 * n);
-        return n;
-    }
-    clip_top(a, len, bounds, out)
+    let n = ring.len() / 2;
+    let room = 2 * room_for(n);
+    let len = clip_ring(ring, n, bounds, scratch, &mut out[..room]);
+    let used = 2 * len;
+    clear(&mut out[used..room]);
+    len
 }
 
-// `clip_ring` on the ring as lent, not closed beforehand. A refusal changes nothing lent; a success fills both scratch slices with zeros,
-// whole, and leaves the output past the answer unchanged. The logic has one NaN: a NaN stands exactly where the definition has one, and
-// its bits are free, also in a slice that is left unchanged.
-pub fn ring(
-    ring: &[f64],
-    bounds: TileBounds,
-    a: &mut [f64],
-    b: &mut [f64],
-    out: &mut [f64],
-) -> RingAnswer
-    ensures answer { λ r. ⌜ r ≡ ringCallAnswer (now (ring .entry)) bounds
-        (ringSlices (now (a .entry)) (now (b .entry)) (now (out .entry))) ⌝ }
-    ensures lent { λ _. ⌜ ringSlices (now (a .exit)) (now (b .exit)) (now (out .exit)) ≡ ringCallSlices (now (ring .entry)) bounds
-        (ringSlices (now (a .entry)) (now (b .entry)) (now (out .entry))) ⌝ }
+// `clip_ring` on the ring as lent, not closed beforehand. A refusal changes nothing lent; a success fills the scratch slice with zeros,
+// whole, and the output past the answer up to what 22 asks, and leaves the output beyond that unchanged. The logic has one NaN: a NaN
+// stands exactly where the definition has one, and its bits are free, also in a slice that is left unchanged.
+pub fn ring(ring: &[f64], bounds: TileBounds, scratch: &mut [f64], out: &mut [f64]) -> RingAnswer
+    ensures answer { λ r. ⌜ r ≡ ringCallAnswer (now (ring .entry)) bounds (ringSlices (now (scratch .entry)) (now (out .entry))) ⌝ }
+    ensures lent { λ _. ⌜ ringSlices (now (scratch .exit)) (now (out .exit))
+        ≡ ringCallSlices (now (ring .entry)) bounds (ringSlices (now (scratch .entry)) (now (out .entry))) ⌝ }
     ensures promise { λ r. ⌜ RingCallPromise (now (ring .entry)) bounds r (now (out .exit)) ⌝ }
 {
-    match check_ring(ring.len(), a.len(), b.len(), out.len()) {
+    match check_ring(ring.len(), scratch.len(), out.len()) {
         Check::Fails(refusal) => RingAnswer::Refused(refusal),
         Check::Passes => {
-            let n = clip_lent(ring, bounds, a, b, out);
-            clear(a);
-            clear(b);
+            let n = clip_padded(ring, bounds, scratch, out);
+            clear(scratch);
             RingAnswer::Clipped(n)
         }
     }

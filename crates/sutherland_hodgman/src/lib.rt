@@ -4,7 +4,7 @@ ghost use mathlib.Core.Bool.{true, false, not};
 ghost use Prim.Native.Nat.{_+_, _*_, _≤_, _<_};
 ghost use lib.ListN.{length, take};
 ghost use Rattle.tile.specs.Ring.{coords};
-ghost use Rattle.tile.specs.Contracts.{coordAt, Stands, Written};
+ghost use Rattle.tile.specs.Contracts.{coordAt, Written};
 ghost use Rattle.sutherland_hodgman.specs.CuttingLines as CuttingLines;
 ghost use Rattle.sutherland_hodgman.specs.Clip as Clip;
 ghost use Rattle.sutherland_hodgman.specs.Contracts as Contracts;
@@ -275,40 +275,22 @@ fn finish(ring: &mut [f64], n: usize) -> usize
     close(ring, n)
 }
 
-// The passes but the last, over two slices in turn: what they leave stands at the front of a, and the answer is its length.
-fn clip_three_edges(
+// Cuts the ring of n vertices at the front of a slice at all four edges. The passes go from the ring to the scratch slice, to the output,
+// to the scratch slice and to the output, at whose front the result stands; the answer is its length. Demand 3 holds of it. What lies past
+// it in the output, and all of the scratch slice, is left open.
+pub fn clip_ring(
     ring: &[f64],
     n: usize,
     bounds: TileBounds,
-    a: &mut [f64],
-    b: &mut [f64],
+    scratch: &mut [f64],
+    out: &mut [f64],
 ) -> usize
-    requires { ⌜ CutterRoom n (length (now ring)) (length (now a)) (length (now b)) ⌝ }
-    ensures { λ r. ⌜ Stands (Contracts.threePasses bounds (coords (take (2 * n) (now (ring .entry))))) r (now (a .exit)) ⌝ }
+    requires { ⌜ CutterRoom n (length (now ring)) (length (now scratch)) (length (now out)) ⌝ }
+    ensures { λ r. ⌜ RingCut bounds (coords (take (2 * n) (now (ring .entry)))) r (now (out .exit)) ⌝ }
 {
-    let left = clip_ring_against_edge(ring, n, Edge::Left, bounds, a);
-    let right = clip_ring_against_edge(a, left.len, Edge::Right, bounds, b);
-    let bottom = clip_ring_against_edge(b, right.len, Edge::Bottom, bounds, a);
-    bottom.len
-}
-
-// The last pass, and the closing. From a ring of four vertices or more it writes no number past its answer; of fewer it may, as it then
-// gives up a pass of one or two.
-fn clip_top(ring: &[f64], n: usize, bounds: TileBounds, out: &mut [f64]) -> usize
-    requires { ⌜ (2 * n ≤ length (now ring)) × (2 * halfGrowth n ≤ length (now out)) × (0 < n → 2 * halfGrowth n + 2 ≤ length (now out)) ⌝ }
-    ensures { λ r. ⌜ Contracts.LastPassDone bounds (coords (take (2 * n) (now (ring .entry)))) (now (out .entry)) r (now (out .exit)) ⌝ }
-{
-    let top = clip_ring_against_edge(ring, n, Edge::Top, bounds, out);
+    let left = clip_ring_against_edge(ring, n, Edge::Left, bounds, scratch);
+    let right = clip_ring_against_edge(scratch, left.len, Edge::Right, bounds, out);
+    let bottom = clip_ring_against_edge(out, right.len, Edge::Bottom, bounds, scratch);
+    let top = clip_ring_against_edge(scratch, bottom.len, Edge::Top, bounds, out);
     finish(out, top.len)
-}
-
-// Cuts the ring of n vertices at the front of a slice at all four edges; the result stands at the front of b, and the answer is its length.
-// Demand 3 holds of it.
-// What lies past it in b, and all of a, is left open.
-pub fn clip_ring(ring: &[f64], n: usize, bounds: TileBounds, a: &mut [f64], b: &mut [f64]) -> usize
-    requires { ⌜ CutterRoom n (length (now ring)) (length (now a)) (length (now b)) ⌝ }
-    ensures { λ r. ⌜ RingCut bounds (coords (take (2 * n) (now (ring .entry)))) r (now (b .exit)) ⌝ }
-{
-    let len = clip_three_edges(ring, n, bounds, a, b);
-    clip_top(a, len, bounds, b)
 }

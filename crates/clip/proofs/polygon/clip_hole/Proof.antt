@@ -34,7 +34,7 @@ close-requires c κs =
     let a = c .before .before .before .before .before .before .before .before .before .before .before .before in
     let f = cut-fits (a .args .n) (now (a .args .ring)) _ _ (a .pre) (a .args .bounds) _ _
     (c .before .before .before .before .before .before .clip-ring .ensures) (omega (arith, c .before .if1 .left)) in
-    omega (arith, a .pre .second)
+    omega (arith, a .pre .output-room)
 
 same-length-3 : tie.Need-same-length-3
 same-length-3 c = search needs

@@ -23,7 +23,7 @@ find-issue-requires c κs =
     let g = le-B (length (close (coords (take (2 * a .n) (now (a .ring)))))) in
     record {
       ring-room = p .room .lent;
-      work-room = omega (arith, p .room .first);
+      work-room = omega (arith, p .room .scratch-room);
       order-room = omega (arith, p .positions);
       small =
           omega (arith, p .room .few);
@@ -53,7 +53,7 @@ copy-requires c κs =
     let n = c .before .before .before .before .before .before .before .args .n in
     let m = lent-count (c .before .before .before .before .before .before .before .args .n) s _ _ (p .room) in
     let g = le-B (length (close (coords (take (2 * n) s)))) in
-    (p .room .lent, omega (arith, p .room .second))
+    (p .room .lent, omega (arith, p .room .output-room))
 
 close-requires : tie.Need-close-requires
 close-requires c κs =
@@ -63,7 +63,7 @@ close-requires c κs =
     let m = count-open (coords (take (2 * n) s)) (sym (c .before .before .before .before .before .before .is-closed .ensures)
     ∙ c .before .before .before .before .before .if1 .left) in
     let g = le-B (length (close (coords (take (2 * n) s)))) in
-    omega (arith, p .room .second, length-front s n (p .room .lent))
+    omega (arith, p .room .output-room, length-front s n (p .room .lent))
 
 find-issue-requires-2 : tie.Need-find-issue-requires-2
 find-issue-requires-2 c κs =
@@ -74,14 +74,14 @@ find-issue-requires-2 c κs =
     let n = c .before .before .before .before .before .before .before .before .before .before .before .before .before .before .before
     .before .before .args .n in
     let e = copied-front (2 * n) s (now (c .before .before .before .before .before .before .before .before .before .before .before
-    .before .before .before .before .before .before .args .b)) _ (p .room .lent)
+    .before .before .before .before .before .before .args .out)) _ (p .room .lent)
     (c .before .before .before .before .before .before .before .before .before .copy .ensures) in
     let w = c .before .before .before .before .before .close .ensures in
     let m : c .before .before .before .before .before .close .result ≡ length (close (coords (take (2 * n) s))) = w .count ∙ rw e in
     let g = le-B (length (close (coords (take (2 * n) s)))) in
     record {
-      ring-room = omega (arith, p .room .second);
-      work-room = omega (arith, p .room .first);
+      ring-room = omega (arith, p .room .output-room);
+      work-room = omega (arith, p .room .scratch-room);
       order-room =
           omega (arith, p .positions);
       small = omega (arith, p .room .few);
@@ -105,7 +105,7 @@ returns-2 c =
     let n = c .before .before .before .before .before .before .before .before .before .before .before .before .before .before .before
     .before .before .before .before .before .before .before .args .n in
     let e = copied-front (2 * n) s (now (c .before .before .before .before .before .before .before .before .before .before .before
-    .before .before .before .before .before .before .before .before .before .before .before .args .b)) _ (p .room .lent)
+    .before .before .before .before .before .before .before .before .before .before .before .args .out)) _ (p .room .lent)
     (c .before .before .before .before .before .before .before .before .before .before .before .before .before .before
     .copy .ensures) in
     let f = written-front (c .before .before .before .before .before .before .before .before .before .before .close .ensures) in

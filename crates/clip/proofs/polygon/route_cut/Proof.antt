@@ -36,7 +36,7 @@ close-requires c κs =
     let a = c .before .before .before .before .before .before .before .before .before .before .before .before .before in
     let f = cut-fits (a .args .n) (now (a .args .ring)) _ _ (a .pre .room) (a .args .bounds) _ _
     (c .before .before .before .before .before .before .clip-ring .ensures) (omega (arith, c .before .if1 .left)) in
-    omega (arith, a .pre .room .second)
+    omega (arith, a .pre .room .output-room)
 
 find-issue-requires : tie.Need-find-issue-requires
 find-issue-requires c κs =
@@ -47,8 +47,8 @@ find-issue-requires c κs =
     (c .before .before .before .before .before .close .ensures)
     (omega (arith, c .before .before .before .before .before .before .before .if1 .left)) in
     record {
-      ring-room = omega (arith, a .pre .room .second);
-      work-room = omega (arith, a .pre .room .first);
+      ring-room = omega (arith, a .pre .room .output-room);
+      work-room = omega (arith, a .pre .room .scratch-room);
       order-room =
           omega (arith, a .pre .positions);
       small = omega (arith, a .pre .room .few, B-le _ (a .pre .room .few));
@@ -67,7 +67,7 @@ judge-cut-requires c κs =
       c .before .before .before .before .before .before .before .before .before .before .before .before .before
           .if1 .left,
     )) in
-    omega (arith, a .pre .room .second)
+    omega (arith, a .pre .room .output-room)
 
 same-length-3 : tie.Need-same-length-3
 same-length-3 c = search needs

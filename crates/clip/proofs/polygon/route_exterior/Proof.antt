@@ -87,9 +87,9 @@ route-cut-requires c κs =
         lent = r .lent;
         few = r .few;
         closes = r .closes;
-        first = omega (arith, r .first);
-        second =
-            omega (arith, r .second);
+        scratch-room = omega (arith, r .scratch-room);
+        output-room =
+            omega (arith, r .output-room);
       };
       positions = omega (arith, p .positions);
     }

@@ -25,36 +25,16 @@ returns-2 c =
     let z = rw (c .before .before .before .is-refusal .ensures) at (c .before .before .scratch-after .ensures) in
     rw (eq-eqb _ _ (c .before .before .before .before .if1 .left), sym (rw z at (c .before .are-all .ensures)) ∙ not-true _ (c .if2 .taken))
 
-are-all-requires-2 : tie.Need-are-all-requires-2
-are-all-requires-2 c κs = search needs
+holds-requires : tie.Need-holds-requires
+holds-requires c κs = search needs
 
 returns-3 : tie.Need-returns-3
 unfolding Calls.answerAgrees
 returns-3 c =
-    let z = rw (c .before .before .before .before .before .is-refusal .ensures)
-    at (c .before .before .before .before .scratch-after .ensures) in
+    let z = rw (c .before .before .before .before .is-refusal .ensures) at (c .before .before .before .scratch-after .ensures) in
     rw (
-      eq-eqb _ _ (c .before .before .before .before .before .before .if1 .left),
-      sym
-          (rw z at (c .before .before .before .are-all .ensures)) ∙ not-false _ (c .before .before .if2 .left),
-      sym
-          (rw z at (c .before .are-all2 .ensures)) ∙ not-true _ (c .if3 .taken),
-    )
-
-holds-requires : tie.Need-holds-requires
-holds-requires c κs = search needs
-
-returns-4 : tie.Need-returns-4
-unfolding Calls.answerAgrees
-returns-4 c =
-    let z = rw (c .before .before .before .before .before .before .is-refusal .ensures)
-    at (c .before .before .before .before .before .scratch-after .ensures) in
-    rw (
-      eq-eqb _ _ (c .before .before .before .before .before .before .before .if1 .left),
-      sym
-          (rw z at (c .before .before .before .before .are-all .ensures)) ∙ not-false _ (c .before .before .before .if2 .left),
-      sym
-          (rw z at (c .before .before .are-all2 .ensures)) ∙ not-false _ (c .before .if3 .left),
+      eq-eqb _ _ (c .before .before .before .before .before .if1 .left),
+      sym (rw z at (c .before .before .are-all .ensures)) ∙ not-false _ (c .before .if2 .left),
     ) (c .holds .ensures)
 
 pub answer-agrees-spec : {M : Type 1} → statement M
@@ -66,7 +46,5 @@ answer-agrees-spec =
     scratch-after-requires
     are-all-requires
     returns-2
-    are-all-requires-2
-    returns-3
     holds-requires
-    returns-4)
+    returns-3)

@@ -19,14 +19,11 @@ same-length c = search needs
 same-length-2 : tie.Need-same-length-2
 same-length-2 c = search needs
 
-same-length-3 : tie.Need-same-length-3
-same-length-3 c = search needs
-
 returns : tie.Need-returns
 unfolding ringAgrees
 returns c =
-    let e = c .before .before .before .before .before .before .before .before .before .before .before .ring .ensures in
-    rw (← e .0, ← c .before .before .before .before .of-ring .ensures, ← e .1 .0) (c .answer-agrees .ensures)
+    let e = c .before .before .before .before .before .before .before .before .ring .ensures in
+    rw (← e .0, ← c .before .before .before .of-ring .ensures, ← e .1 .0) (c .answer-agrees .ensures)
 
 pub agrees-spec : {M : Type 1} → statement M
 agrees-spec =
@@ -37,5 +34,4 @@ agrees-spec =
     answer-agrees-requires
     same-length
     same-length-2
-    same-length-3
     returns)

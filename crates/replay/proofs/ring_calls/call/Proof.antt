@@ -20,51 +20,31 @@ marks-requires c κs = search needs
 marks-requires-2 : tie.Need-marks-requires-2
 marks-requires-2 c κs = search needs
 
-marks-requires-3 : tie.Need-marks-requires-3
-marks-requires-3 c κs = search needs
-
-array-borrow-prefix-a : tie.Need-array-borrow-prefix-a
-array-borrow-prefix-a c = (front (c .before .before .marks .result)
-    (c .before .before .before .before .before .before .before .args .head .a) (c .before .before .marks .ensures)
-    (ring-room (c .before .before .before .before .before .before .before .args .head)
-    (sym (c .before .before .before .before .has-room .ensures) ∙ not-false _ (c .before .before .before .if1 .left)) .0)) .within
+array-borrow-prefix-scratch : tie.Need-array-borrow-prefix-scratch
+array-borrow-prefix-scratch c =
+    let h = c .before .before .before .before .before .before .args .head in
+    front (c .before .marks .result) (h .scratch) (c .before .marks .ensures)
+    (ring-room h (sym (c .before .before .before .has-room .ensures) ∙ not-false _ (c .before .before .if1 .left)) .0) .within
 
 slice-aggregate-agrees : tie.Need-slice-aggregate-agrees
-slice-aggregate-agrees c = (front (c .before .before .before .marks .result)
-    (c .before .before .before .before .before .before .before .before .args .head .a) (c .before .before .before .marks .ensures)
-    (ring-room (c .before .before .before .before .before .before .before .before .args .head)
-    (sym (c .before .before .before .before .before .has-room .ensures)
-    ∙ not-false _ (c .before .before .before .before .if1 .left)) .0)) .here
-
-array-borrow-prefix-b : tie.Need-array-borrow-prefix-b
-array-borrow-prefix-b c = (front (c .before .before .marks2 .result)
-    (c .before .before .before .before .before .before .before .before .args .head .b) (c .before .before .marks2 .ensures)
-    (ring-room (c .before .before .before .before .before .before .before .before .args .head)
-    (sym (c .before .before .before .before .before .has-room .ensures)
-    ∙ not-false _ (c .before .before .before .before .if1 .left)) .1)) .within
-
-slice-aggregate-agrees-2 : tie.Need-slice-aggregate-agrees-2
-slice-aggregate-agrees-2 c = (front (c .before .before .before .marks2 .result)
-    (c .before .before .before .before .before .before .before .before .before .args .head .b)
-    (c .before .before .before .marks2 .ensures) (ring-room
-    (c .before .before .before .before .before .before .before .before .before .args .head)
-    (sym (c .before .before .before .before .before .before .has-room .ensures)
-    ∙ not-false _ (c .before .before .before .before .before .if1 .left)) .1)) .here
+slice-aggregate-agrees c =
+    let h = c .before .before .before .before .before .before .before .args .head in
+    front (c .before .before .marks .result) (h .scratch) (c .before .before .marks .ensures)
+    (ring-room h (sym (c .before .before .before .before .has-room .ensures) ∙ not-false _ (c .before .before .before .if1 .left)) .0) .here
 
 array-borrow-prefix-out : tie.Need-array-borrow-prefix-out
-array-borrow-prefix-out c = (front (c .before .before .marks3 .result)
-    (c .before .before .before .before .before .before .before .before .before .args .head .out) (c .before .before .marks3 .ensures)
-    (ring-room (c .before .before .before .before .before .before .before .before .before .args .head)
-    (sym (c .before .before .before .before .before .before .has-room .ensures)
-    ∙ not-false _ (c .before .before .before .before .before .if1 .left)) .2)) .within
+array-borrow-prefix-out c =
+    let h = c .before .before .before .before .before .before .before .args .head in
+    front (c .before .marks2 .result) (h .out) (c .before .marks2 .ensures)
+    (ring-room h (sym (c .before .before .before .before .has-room .ensures) ∙ not-false _ (c .before .before .before .if1 .left)) .1)
+    .within
 
-slice-aggregate-agrees-3 : tie.Need-slice-aggregate-agrees-3
-slice-aggregate-agrees-3 c = (front (c .before .before .before .marks3 .result)
-    (c .before .before .before .before .before .before .before .before .before .before .args .head .out)
-    (c .before .before .before .marks3 .ensures) (ring-room
-    (c .before .before .before .before .before .before .before .before .before .before .args .head)
-    (sym (c .before .before .before .before .before .before .before .has-room .ensures)
-    ∙ not-false _ (c .before .before .before .before .before .before .if1 .left)) .2)) .here
+slice-aggregate-agrees-2 : tie.Need-slice-aggregate-agrees-2
+slice-aggregate-agrees-2 c =
+    let h = c .before .before .before .before .before .before .before .before .args .head in
+    front (c .before .before .marks2 .result) (h .out) (c .before .before .marks2 .ensures)
+    (ring-room h (sym (c .before .before .before .before .before .has-room .ensures) ∙ not-false _ (c .before .before .before .before .if1
+    .left)) .1) .here
 
 agrees-requires : tie.Need-agrees-requires
 agrees-requires c κs = search needs
@@ -72,46 +52,34 @@ agrees-requires c κs = search needs
 returns-2 : tie.Need-returns-2
 unfolding Calls.ringOutcome
 returns-2 c =
-    let h = c .before .before .before .before .before .before .before .before .before .before .before .before .before .before .before
-    .args .head in
-    let r = sym (c .before .before .before .before .before .before .before .before .before .before .before .before .has-room .ensures)
-    ∙ not-false _ (c .before .before .before .before .before .before .before .before .before .before .before .if1 .left) in
+    let h = c .before .before .before .before .before .before .before .before .before .before .before .before .args .head in
+    let r = sym (c .before .before .before .before .before .before .before .before .before .has-room .ensures) ∙ not-false _ (c .before
+    .before .before .before .before .before .before .before .if1 .left) in
     let f = ring-room h r in
     rw (
       r,
-      ← front (c .before .before .before .before .before .before .before .before .before .before .marks .result) (h .a)
-          (c .before .before .before .before .before .before .before .before .before .before .marks .ensures) (f .0) .is,
-      ← front
-          (c .before .before .before .before .before .before .before .before .before .marks2 .result) (h .b)
-          (c .before .before .before .before .before .before .before .before .before .marks2 .ensures) (f .1) .is,
-      ← front
-          (c .before .before .before .before .before .before .before .before .marks3 .result) (h .out)
-          (c .before .before .before .before .before .before .before .before .marks3 .ensures) (f .2) .is,
-      ←
-          c .before .before .before .before .agrees .ensures,
+      ← front (c .before .before .before .before .before .before .before .marks .result) (h .scratch) (c .before .before .before .before
+          .before .before .before .marks .ensures) (f .0) .is,
+      ← front (c .before .before .before .before .before .before .marks2 .result) (h .out) (c .before .before .before .before .before
+          .before .marks2 .ensures) (f .1) .is,
+      ← c .before .before .before .agrees .ensures,
       c .if2 .taken,
     )
 
 returns-3 : tie.Need-returns-3
 unfolding Calls.ringOutcome
 returns-3 c =
-    let h = c .before .before .before .before .before .before .before .before .before .before .before .before .before .before .before
-    .args .head in
-    let r = sym (c .before .before .before .before .before .before .before .before .before .before .before .before .has-room .ensures)
-    ∙ not-false _ (c .before .before .before .before .before .before .before .before .before .before .before .if1 .left) in
+    let h = c .before .before .before .before .before .before .before .before .before .before .before .before .args .head in
+    let r = sym (c .before .before .before .before .before .before .before .before .before .has-room .ensures) ∙ not-false _ (c .before
+    .before .before .before .before .before .before .before .if1 .left) in
     let f = ring-room h r in
     rw (
       r,
-      ← front (c .before .before .before .before .before .before .before .before .before .before .marks .result) (h .a)
-          (c .before .before .before .before .before .before .before .before .before .before .marks .ensures) (f .0) .is,
-      ← front
-          (c .before .before .before .before .before .before .before .before .before .marks2 .result) (h .b)
-          (c .before .before .before .before .before .before .before .before .before .marks2 .ensures) (f .1) .is,
-      ← front
-          (c .before .before .before .before .before .before .before .before .marks3 .result) (h .out)
-          (c .before .before .before .before .before .before .before .before .marks3 .ensures) (f .2) .is,
-      ←
-          c .before .before .before .before .agrees .ensures,
+      ← front (c .before .before .before .before .before .before .before .marks .result) (h .scratch) (c .before .before .before .before
+          .before .before .before .marks .ensures) (f .0) .is,
+      ← front (c .before .before .before .before .before .before .marks2 .result) (h .out) (c .before .before .before .before .before
+          .before .marks2 .ensures) (f .1) .is,
+      ← c .before .before .before .agrees .ensures,
       c .if2 .left,
     )
 
@@ -123,13 +91,10 @@ call-spec =
     returns
     marks-requires
     marks-requires-2
-    marks-requires-3
-    array-borrow-prefix-a
+    array-borrow-prefix-scratch
     slice-aggregate-agrees
-    array-borrow-prefix-b
-    slice-aggregate-agrees-2
     array-borrow-prefix-out
-    slice-aggregate-agrees-3
+    slice-aggregate-agrees-2
     agrees-requires
     returns-2
     returns-3)

@@ -18,11 +18,26 @@ enum-told c = search needs
 returns : tie.Need-returns
 returns c = search needs
 
-numbers-of-requires : tie.Need-numbers-of-requires
-numbers-of-requires c κs = search needs
+read-count-requires : tie.Need-read-count-requires
+read-count-requires c κs = search needs
+
+enum-known-written : tie.Need-enum-known-written
+enum-known-written c = search needs
+
+enum-told-2 : tie.Need-enum-told-2
+enum-told-2 c = search needs
 
 returns-2 : tie.Need-returns-2
 returns-2 c = search needs
+
+returns-3 : tie.Need-returns-3
+returns-3 c = search needs
+
+numbers-of-requires : tie.Need-numbers-of-requires
+numbers-of-requires c κs = search needs
+
+returns-4 : tie.Need-returns-4
+returns-4 c = search needs
 
 slice-aggregate-read-numbers : tie.Need-slice-aggregate-read-numbers
 slice-aggregate-read-numbers c = search needs
@@ -30,8 +45,8 @@ slice-aggregate-read-numbers c = search needs
 read-numbers-requires : tie.Need-read-numbers-requires
 read-numbers-requires c κs = search needs
 
-returns-3 : tie.Need-returns-3
-returns-3 c = search needs
+returns-5 : tie.Need-returns-5
+returns-5 c = search needs
 
 array-share-prefix-expected : tie.Need-array-share-prefix-expected
 array-share-prefix-expected c = search needs
@@ -42,8 +57,8 @@ slice-aggregate-call c = sym (length-take-le _ _ (omega arith))
 call-requires : tie.Need-call-requires
 call-requires c κs = search needs
 
-returns-4 : tie.Need-returns-4
-returns-4 c = search needs
+returns-6 : tie.Need-returns-6
+returns-6 c = search needs
 
 pub replay-answer-spec : {M : Type 1} → statement M
 replay-answer-spec =
@@ -53,12 +68,17 @@ replay-answer-spec =
     enum-known-code
     enum-told
     returns
-    numbers-of-requires
+    read-count-requires
+    enum-known-written
+    enum-told-2
     returns-2
+    returns-3
+    numbers-of-requires
+    returns-4
     slice-aggregate-read-numbers
     read-numbers-requires
-    returns-3
+    returns-5
     array-share-prefix-expected
     slice-aggregate-call
     call-requires
-    returns-4)
+    returns-6)

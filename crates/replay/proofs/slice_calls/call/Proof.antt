@@ -17,98 +17,72 @@ returns c = rw (sym (c .before .has-room .ensures) ∙ not-true _ (c .if1 .taken
 marks-requires : tie.Need-marks-requires
 marks-requires c κs = search needs
 
-marks-requires-2 : tie.Need-marks-requires-2
-marks-requires-2 c κs = search needs
-
 whole-marks-requires : tie.Need-whole-marks-requires
 whole-marks-requires c κs = search needs
 
-marks-requires-3 : tie.Need-marks-requires-3
-marks-requires-3 c κs = search needs
+marks-requires-2 : tie.Need-marks-requires-2
+marks-requires-2 c κs = search needs
 
 whole-marks-requires-2 : tie.Need-whole-marks-requires-2
 whole-marks-requires-2 c κs = search needs
 
-array-borrow-prefix-a : tie.Need-array-borrow-prefix-a
-array-borrow-prefix-a c = (front (c .before .before .before .before .marks .result)
-    (c .before .before .before .before .before .before .before .before .before .before .before .args .head .a)
-    (c .before .before .before .before .marks .ensures)
-    (slice-room (c .before .before .before .before .before .before .before .before .before .before .before .args .head)
-    (sym (c .before .before .before .before .before .before .has-room .ensures)
-    ∙ not-false _ (c .before .before .before .before .before .if1 .left)) .0)) .within
+array-borrow-prefix-scratch : tie.Need-array-borrow-prefix-scratch
+array-borrow-prefix-scratch c =
+    let h = c .before .before .before .before .before .before .before .before .before .before .args .head in
+    front (c .before .before .before .marks .result) (h .scratch) (c .before .before .before .marks .ensures)
+    (slice-room h (sym (c .before .before .before .before .before .has-room .ensures) ∙ not-false _ (c .before .before .before .before .if1
+    .left)) .0) .within
 
 slice-aggregate-agrees : tie.Need-slice-aggregate-agrees
-slice-aggregate-agrees c = (front (c .before .before .before .before .before .marks .result)
-    (c .before .before .before .before .before .before .before .before .before .before .before .before .args .head .a)
-    (c .before .before .before .before .before .marks .ensures)
-    (slice-room (c .before .before .before .before .before .before .before .before .before .before .before .before .args .head)
-    (sym (c .before .before .before .before .before .before .before .has-room .ensures)
-    ∙ not-false _ (c .before .before .before .before .before .before .if1 .left)) .0)) .here
-
-array-borrow-prefix-b : tie.Need-array-borrow-prefix-b
-array-borrow-prefix-b c = (front (c .before .before .before .before .marks2 .result)
-    (c .before .before .before .before .before .before .before .before .before .before .before .before .args .head .b)
-    (c .before .before .before .before .marks2 .ensures)
-    (slice-room (c .before .before .before .before .before .before .before .before .before .before .before .before .args .head)
-    (sym (c .before .before .before .before .before .before .before .has-room .ensures)
-    ∙ not-false _ (c .before .before .before .before .before .before .if1 .left)) .1)) .within
-
-slice-aggregate-agrees-2 : tie.Need-slice-aggregate-agrees-2
-slice-aggregate-agrees-2 c = (front (c .before .before .before .before .before .marks2 .result)
-    (c .before .before .before .before .before .before .before .before .before .before .before .before .before .args .head .b)
-    (c .before .before .before .before .before .marks2 .ensures)
-    (slice-room (c .before .before .before .before .before .before .before .before .before .before .before .before .before .args .head)
-    (sym (c .before .before .before .before .before .before .before .before .has-room .ensures)
-    ∙ not-false _ (c .before .before .before .before .before .before .before .if1 .left)) .1)) .here
+slice-aggregate-agrees c =
+    let h = c .before .before .before .before .before .before .before .before .before .before .before .args .head in
+    front (c .before .before .before .before .marks .result) (h .scratch) (c .before .before .before .before .marks .ensures)
+    (slice-room h (sym (c .before .before .before .before .before .before .has-room .ensures) ∙ not-false _ (c .before .before .before
+    .before .before .if1 .left)) .0) .here
 
 array-borrow-prefix-order : tie.Need-array-borrow-prefix-order
-array-borrow-prefix-order c = (whole-front (c .before .before .before .before .whole-marks .result)
-    (c .before .before .before .before .before .before .before .before .before .before .before .before .before .args .head .order)
-    (c .before .before .before .before .whole-marks .ensures)
-    (slice-room (c .before .before .before .before .before .before .before .before .before .before .before .before .before .args .head)
-    (sym (c .before .before .before .before .before .before .before .before .has-room .ensures)
-    ∙ not-false _ (c .before .before .before .before .before .before .before .if1 .left)) .2)) .within
+array-borrow-prefix-order c =
+    let h = c .before .before .before .before .before .before .before .before .before .before .before .args .head in
+    whole-front (c .before .before .before .whole-marks .result) (h .order) (c .before .before .before .whole-marks .ensures)
+    (slice-room h (sym (c .before .before .before .before .before .before .has-room .ensures) ∙ not-false _ (c .before .before .before
+    .before .before .if1 .left)) .1) .within
 
-slice-aggregate-agrees-3 : tie.Need-slice-aggregate-agrees-3
-slice-aggregate-agrees-3 c = (whole-front (c .before .before .before .before .before .whole-marks .result)
-    (c .before .before .before .before .before .before .before .before .before .before .before .before .before .before .args .head
-    .order) (c .before .before .before .before .before .whole-marks .ensures)
-    (slice-room (c .before .before .before .before .before .before .before .before .before .before .before .before .before .before .args
-    .head) (sym (c .before .before .before .before .before .before .before .before .before .has-room .ensures)
-    ∙ not-false _ (c .before .before .before .before .before .before .before .before .if1 .left)) .2)) .here
+slice-aggregate-agrees-2 : tie.Need-slice-aggregate-agrees-2
+slice-aggregate-agrees-2 c =
+    let h = c .before .before .before .before .before .before .before .before .before .before .before .before .args .head in
+    whole-front (c .before .before .before .before .whole-marks .result) (h .order) (c .before .before .before .before .whole-marks
+    .ensures)
+    (slice-room h (sym (c .before .before .before .before .before .before .before .has-room .ensures) ∙ not-false _ (c .before .before
+    .before .before .before .before .if1 .left)) .1) .here
 
 array-borrow-prefix-out : tie.Need-array-borrow-prefix-out
-array-borrow-prefix-out c = (front (c .before .before .before .before .marks3 .result)
-    (c .before .before .before .before .before .before .before .before .before .before .before .before .before .before .args .head .out)
-    (c .before .before .before .before .marks3 .ensures)
-    (slice-room (c .before .before .before .before .before .before .before .before .before .before .before .before .before .before .args
-    .head) (sym (c .before .before .before .before .before .before .before .before .before .has-room .ensures)
-    ∙ not-false _ (c .before .before .before .before .before .before .before .before .if1 .left)) .3)) .within
+array-borrow-prefix-out c =
+    let h = c .before .before .before .before .before .before .before .before .before .before .before .before .args .head in
+    front (c .before .before .before .marks2 .result) (h .out) (c .before .before .before .marks2 .ensures)
+    (slice-room h (sym (c .before .before .before .before .before .before .before .has-room .ensures) ∙ not-false _ (c .before .before
+    .before .before .before .before .if1 .left)) .2) .within
 
-slice-aggregate-agrees-4 : tie.Need-slice-aggregate-agrees-4
-slice-aggregate-agrees-4 c = (front (c .before .before .before .before .before .marks3 .result)
-    (c .before .before .before .before .before .before .before .before .before .before .before .before .before .before .before .args
-    .head .out) (c .before .before .before .before .before .marks3 .ensures)
-    (slice-room (c .before .before .before .before .before .before .before .before .before .before .before .before .before .before
-    .before .args .head) (sym (c .before .before .before .before .before .before .before .before .before .before .has-room .ensures)
-    ∙ not-false _ (c .before .before .before .before .before .before .before .before .before .if1 .left)) .3)) .here
+slice-aggregate-agrees-3 : tie.Need-slice-aggregate-agrees-3
+slice-aggregate-agrees-3 c =
+    let h = c .before .before .before .before .before .before .before .before .before .before .before .before .before .args .head in
+    front (c .before .before .before .before .marks2 .result) (h .out) (c .before .before .before .before .marks2 .ensures)
+    (slice-room h (sym (c .before .before .before .before .before .before .before .before .has-room .ensures) ∙ not-false _ (c .before
+    .before .before .before .before .before .before .if1 .left)) .2) .here
 
 array-borrow-prefix-out-lengths : tie.Need-array-borrow-prefix-out-lengths
-array-borrow-prefix-out-lengths c = (whole-front (c .before .before .before .before .whole-marks2 .result)
-    (c .before .before .before .before .before .before .before .before .before .before .before .before .before .before .before .args
-    .head .«out_lengths») (c .before .before .before .before .whole-marks2 .ensures)
-    (slice-room (c .before .before .before .before .before .before .before .before .before .before .before .before .before .before
-    .before .args .head) (sym (c .before .before .before .before .before .before .before .before .before .before .has-room .ensures)
-    ∙ not-false _ (c .before .before .before .before .before .before .before .before .before .if1 .left)) .4)) .within
+array-borrow-prefix-out-lengths c =
+    let h = c .before .before .before .before .before .before .before .before .before .before .before .before .before .args .head in
+    whole-front (c .before .before .before .whole-marks2 .result) (h .«out_lengths») (c .before .before .before .whole-marks2 .ensures)
+    (slice-room h (sym (c .before .before .before .before .before .before .before .before .has-room .ensures) ∙ not-false _ (c .before
+    .before .before .before .before .before .before .if1 .left)) .3) .within
 
-slice-aggregate-agrees-5 : tie.Need-slice-aggregate-agrees-5
-slice-aggregate-agrees-5 c = (whole-front (c .before .before .before .before .before .whole-marks2 .result)
-    (c .before .before .before .before .before .before .before .before .before .before .before .before .before .before .before .before
-    .args .head .«out_lengths») (c .before .before .before .before .before .whole-marks2 .ensures)
-    (slice-room (c .before .before .before .before .before .before .before .before .before .before .before .before .before .before
-    .before .before .args .head) (sym (c .before .before .before .before .before .before .before .before .before .before .before
-    .has-room .ensures) ∙ not-false _ (c .before .before .before .before .before .before .before .before .before .before .if1
-    .left)) .4)) .here
+slice-aggregate-agrees-4 : tie.Need-slice-aggregate-agrees-4
+slice-aggregate-agrees-4 c =
+    let h = c .before .before .before .before .before .before .before .before .before .before .before .before .before .before .args .head in
+    whole-front (c .before .before .before .before .whole-marks2 .result) (h .«out_lengths») (c .before .before .before .before
+    .whole-marks2 .ensures)
+    (slice-room h (sym (c .before .before .before .before .before .before .before .before .before .has-room .ensures) ∙ not-false _ (c
+    .before .before .before .before .before .before .before .before .if1 .left)) .3) .here
 
 agrees-requires : tie.Need-agrees-requires
 agrees-requires c κs = search needs
@@ -117,34 +91,25 @@ returns-2 : tie.Need-returns-2
 unfolding Calls.sliceOutcome
 returns-2 c =
     let h = c .before .before .before .before .before .before .before .before .before .before .before .before .before .before .before
-    .before .before .before .before .before .before .before .before .args .head in
-    let r = sym (c .before .before .before .before .before .before .before .before .before .before .before .before .before .before
-    .before .before .before .before .has-room .ensures)
-    ∙ not-false _ (c .before .before .before .before .before .before .before .before .before .before .before .before .before .before
-    .before .before .before .if1 .left) in
+    .before .before .before .before .before .args .head in
+    let r = sym (c .before .before .before .before .before .before .before .before .before .before .before .before .before .before .before
+    .has-room .ensures) ∙ not-false _ (c .before .before .before .before .before .before .before .before .before .before .before .before
+    .before .before .if1 .left) in
     let f = slice-room h r in
     rw (
       r,
-      ← front (c .before .before .before .before .before .before .before .before .before .before .before .before .before .before
-          .before .before .marks .result) (h .a) (c .before .before .before .before .before .before .before .before .before .before
-          .before .before .before .before .before .before .marks .ensures) (f .0) .is,
-      ← front
-          (c .before .before .before .before .before .before .before .before .before .before .before .before .before .before .before
-          .marks2 .result) (h .b) (c .before .before .before .before .before .before .before .before .before .before .before .before
-          .before .before .before .marks2 .ensures) (f .1) .is,
-      ← whole-front
-          (c .before .before .before .before .before .before .before .before .before .before .before .before .before .before .whole-marks
-          .result) (h .order) (c .before .before .before .before .before .before .before .before .before .before .before .before .before
-          .before .whole-marks .ensures) (f .2) .is,
-      ← front
-          (c .before .before .before .before .before .before .before .before .before .before .before .before .before .marks3 .result)
-          (h .out) (c .before .before .before .before .before .before .before .before .before .before .before .before .before .marks3
-          .ensures) (f .3) .is,
-      ← whole-front (c .before .before .before .before .before .before .before .before .before .before .before
-          .before .whole-marks2 .result) (h .«out_lengths»)
-          (c .before .before .before .before .before .before .before .before .before .before .before .before .whole-marks2 .ensures)
-          (f .4) .is,
-      ← c .before .before .before .before .before .before .agrees .ensures,
+      ← front (c .before .before .before .before .before .before .before .before .before .before .before .before .before .marks .result) (h
+          .scratch) (c .before .before .before .before .before .before .before .before .before .before .before .before .before .marks
+          .ensures) (f .0) .is,
+      ← whole-front (c .before .before .before .before .before .before .before .before .before .before .before .before .whole-marks
+          .result) (h .order) (c .before .before .before .before .before .before .before .before .before .before .before .before
+          .whole-marks .ensures) (f .1) .is,
+      ← front (c .before .before .before .before .before .before .before .before .before .before .before .marks2 .result) (h .out) (c
+          .before .before .before .before .before .before .before .before .before .before .before .marks2 .ensures) (f .2) .is,
+      ← whole-front (c .before .before .before .before .before .before .before .before .before .before .whole-marks2 .result) (h
+          .«out_lengths») (c .before .before .before .before .before .before .before .before .before .before .whole-marks2 .ensures) (f .3)
+          .is,
+      ← c .before .before .before .before .before .agrees .ensures,
       c .if2 .taken,
     )
 
@@ -152,34 +117,25 @@ returns-3 : tie.Need-returns-3
 unfolding Calls.sliceOutcome
 returns-3 c =
     let h = c .before .before .before .before .before .before .before .before .before .before .before .before .before .before .before
-    .before .before .before .before .before .before .before .before .args .head in
-    let r = sym (c .before .before .before .before .before .before .before .before .before .before .before .before .before .before
-    .before .before .before .before .has-room .ensures)
-    ∙ not-false _ (c .before .before .before .before .before .before .before .before .before .before .before .before .before .before
-    .before .before .before .if1 .left) in
+    .before .before .before .before .before .args .head in
+    let r = sym (c .before .before .before .before .before .before .before .before .before .before .before .before .before .before .before
+    .has-room .ensures) ∙ not-false _ (c .before .before .before .before .before .before .before .before .before .before .before .before
+    .before .before .if1 .left) in
     let f = slice-room h r in
     rw (
       r,
-      ← front (c .before .before .before .before .before .before .before .before .before .before .before .before .before .before
-          .before .before .marks .result) (h .a) (c .before .before .before .before .before .before .before .before .before .before
-          .before .before .before .before .before .before .marks .ensures) (f .0) .is,
-      ← front
-          (c .before .before .before .before .before .before .before .before .before .before .before .before .before .before .before
-          .marks2 .result) (h .b) (c .before .before .before .before .before .before .before .before .before .before .before .before
-          .before .before .before .marks2 .ensures) (f .1) .is,
-      ← whole-front
-          (c .before .before .before .before .before .before .before .before .before .before .before .before .before .before .whole-marks
-          .result) (h .order) (c .before .before .before .before .before .before .before .before .before .before .before .before .before
-          .before .whole-marks .ensures) (f .2) .is,
-      ← front
-          (c .before .before .before .before .before .before .before .before .before .before .before .before .before .marks3 .result)
-          (h .out) (c .before .before .before .before .before .before .before .before .before .before .before .before .before .marks3
-          .ensures) (f .3) .is,
-      ← whole-front (c .before .before .before .before .before .before .before .before .before .before .before
-          .before .whole-marks2 .result) (h .«out_lengths»)
-          (c .before .before .before .before .before .before .before .before .before .before .before .before .whole-marks2 .ensures)
-          (f .4) .is,
-      ← c .before .before .before .before .before .before .agrees .ensures,
+      ← front (c .before .before .before .before .before .before .before .before .before .before .before .before .before .marks .result) (h
+          .scratch) (c .before .before .before .before .before .before .before .before .before .before .before .before .before .marks
+          .ensures) (f .0) .is,
+      ← whole-front (c .before .before .before .before .before .before .before .before .before .before .before .before .whole-marks
+          .result) (h .order) (c .before .before .before .before .before .before .before .before .before .before .before .before
+          .whole-marks .ensures) (f .1) .is,
+      ← front (c .before .before .before .before .before .before .before .before .before .before .before .marks2 .result) (h .out) (c
+          .before .before .before .before .before .before .before .before .before .before .before .marks2 .ensures) (f .2) .is,
+      ← whole-front (c .before .before .before .before .before .before .before .before .before .before .whole-marks2 .result) (h
+          .«out_lengths») (c .before .before .before .before .before .before .before .before .before .before .whole-marks2 .ensures) (f .3)
+          .is,
+      ← c .before .before .before .before .before .agrees .ensures,
       c .if2 .left,
     )
 
@@ -190,20 +146,17 @@ call-spec =
     has-room-requires
     returns
     marks-requires
-    marks-requires-2
     whole-marks-requires
-    marks-requires-3
+    marks-requires-2
     whole-marks-requires-2
-    array-borrow-prefix-a
+    array-borrow-prefix-scratch
     slice-aggregate-agrees
-    array-borrow-prefix-b
-    slice-aggregate-agrees-2
     array-borrow-prefix-order
-    slice-aggregate-agrees-3
+    slice-aggregate-agrees-2
     array-borrow-prefix-out
-    slice-aggregate-agrees-4
+    slice-aggregate-agrees-3
     array-borrow-prefix-out-lengths
-    slice-aggregate-agrees-5
+    slice-aggregate-agrees-4
     agrees-requires
     returns-2
     returns-3)

@@ -6,11 +6,26 @@ use borrow.Author.Needs.{needs}
 use Rattle.replay.proofs.slice_calls.replay_expected.Statement.{statement}
 use Rattle.replay.proofs.slice_calls.replay_expected.Tie as tie
 
-numbers-in-requires : tie.Need-numbers-in-requires
-numbers-in-requires c κs = search needs
+read-count-requires : tie.Need-read-count-requires
+read-count-requires c κs = search needs
+
+enum-known-written : tie.Need-enum-known-written
+enum-known-written c = search needs
+
+enum-told : tie.Need-enum-told
+enum-told c = search needs
 
 returns : tie.Need-returns
 returns c = search needs
+
+returns-2 : tie.Need-returns-2
+returns-2 c = search needs
+
+numbers-in-requires : tie.Need-numbers-in-requires
+numbers-in-requires c κs = search needs
+
+returns-3 : tie.Need-returns-3
+returns-3 c = search needs
 
 slice-aggregate-read-numbers : tie.Need-slice-aggregate-read-numbers
 slice-aggregate-read-numbers c = search needs
@@ -18,8 +33,8 @@ slice-aggregate-read-numbers c = search needs
 read-numbers-requires : tie.Need-read-numbers-requires
 read-numbers-requires c κs = search needs
 
-returns-2 : tie.Need-returns-2
-returns-2 c = search needs
+returns-4 : tie.Need-returns-4
+returns-4 c = search needs
 
 array-share-prefix-expected : tie.Need-array-share-prefix-expected
 array-share-prefix-expected c = search needs
@@ -30,19 +45,24 @@ slice-aggregate-call c = sym (length-take-le _ _ (omega arith))
 call-requires : tie.Need-call-requires
 call-requires c κs = search needs
 
-returns-3 : tie.Need-returns-3
-returns-3 c = search needs
+returns-5 : tie.Need-returns-5
+returns-5 c = search needs
 
 pub replay-expected-spec : {M : Type 1} → statement M
 replay-expected-spec =
     tie.close
     (tie.spec
-    numbers-in-requires
+    read-count-requires
+    enum-known-written
+    enum-told
     returns
+    returns-2
+    numbers-in-requires
+    returns-3
     slice-aggregate-read-numbers
     read-numbers-requires
-    returns-2
+    returns-4
     array-share-prefix-expected
     slice-aggregate-call
     call-requires
-    returns-3)
+    returns-5)

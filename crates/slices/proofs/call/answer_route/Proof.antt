@@ -17,24 +17,24 @@ enum-known-route : tie.Need-enum-known-route
 enum-known-route c = search needs
 
 overlay-or-dropped-requires : tie.Need-overlay-or-dropped-requires
-overlay-or-dropped-requires c κs = c .before .before .before .before .before .before .before .before .before .pre .rings .measurable .lent
+overlay-or-dropped-requires c κs = c .before .before .before .before .before .before .before .before .pre .rings .measurable .lent
 
 enum-known-route-2 : tie.Need-enum-known-route-2
 enum-known-route-2 c = search needs
 
 put-cut-requires : tie.Need-put-cut-requires
 put-cut-requires c κs =
-    let p = c .before .before .before .before .before .before .before .before .before .before .before .before .before .pre in
-    let st = rw (c .before .before .before .before .before .route2 .given .1) at (p .stands) in
+    let p = c .before .before .before .before .before .before .before .before .before .before .before .pre in
+    let st = rw (c .before .before .before .before .route2 .given .1) at (p .stands) in
     record { rings = p .rings; some = p .some; stands = st .0; whole = st .1 }
 
 returns : tie.Need-returns
 unfolding numbersOf lengthsOf
-returns c = (rw (c .enum-told .given .1), rw (c .enum-told .given .1) (record { output = refl; lengths = refl }))
+returns c = (rw (c .enum-told .given .1), rw (c .enum-told .given .1) (record { count = refl; output = refl; lengths = refl }))
 
 returns-2 : tie.Need-returns-2
 unfolding numbersOf lengthsOf
-returns-2 c = (rw (c .enum-told2 .given .1), rw (c .enum-told2 .given .1) (record { output = refl; lengths = refl }))
+returns-2 c = (rw (c .enum-told2 .given .1), rw (c .enum-told2 .given .1) (record { count = refl; output = refl; lengths = refl }))
 
 returns-3 : tie.Need-returns-3
 returns-3 c = (
@@ -52,15 +52,12 @@ same-length-2 c = search needs
 same-length-3 : tie.Need-same-length-3
 same-length-3 c = search needs
 
-same-length-4 : tie.Need-same-length-4
-same-length-4 c = search needs
-
 returns-4 : tie.Need-returns-4
 returns-4 c = (
-  rw (c .before .before .before .before .before .before .before .before .before .before .before .before .before .before
-      .route2 .given .1) (ap Cut (c .before .before .before .before .before .before .before .before .put-cut .ensures .0)),
-  rw (c .before .before .before .before .before .before .before .before .before .before .before .before .before .before .route2 .given
-      .1) (c .before .before .before .before .before .before .before .before .put-cut .ensures .1),
+  rw (c .before .before .before .before .before .before .before .before .before .before .before .route2 .given .1) (ap Cut (c
+      .before .before .before .before .before .before .put-cut .ensures .0)),
+  rw (c .before .before .before .before .before .before .before
+      .before .before .before .before .route2 .given .1) (c .before .before .before .before .before .before .put-cut .ensures .1),
 )
 
 pub answer-route-spec : {M : Type 1} → statement M
@@ -79,5 +76,4 @@ answer-route-spec =
     same-length
     same-length-2
     same-length-3
-    same-length-4
     returns-4)

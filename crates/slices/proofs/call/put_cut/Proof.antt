@@ -1,4 +1,4 @@
--- `put_cut` meets its contract: the exterior is written as it stands in b, then the holes behind it. Assumes nothing.
+-- `put_cut` meets its contract: the exterior is counted where it stands, then the holes are put behind it. Assumes nothing.
 use mathlib.Core.Path.{refl}
 use Prim.Native.Nat.{_*_}
 use native.Mathlib.Omega.{arith}
@@ -13,15 +13,13 @@ use Rattle.slices.proofs.Holes.{exterior-room, start-fits, holes-room, 
 use Rattle.slices.proofs.call.put_cut.Statement.{statement}
 use Rattle.slices.proofs.call.put_cut.Tie as tie
 
-put-ring-requires : tie.Need-put-ring-requires
-put-ring-requires c κs =
-    let a = c .before .before .before .before .before .before .before .before .before .args in
-    exterior-room (a .bounds) (now (a .lengths)) (now (a .coords)) _ _ _ _ _
-    (c .before .before .before .before .before .before .before .before .before .pre)
+count-ring-requires : tie.Need-count-ring-requires
+count-ring-requires c κs =
+    let a = c .before .before .before .before .before .before .args in
+    exterior-room (a .bounds) (now (a .lengths)) (now (a .coords)) _ _ _ _ (c .before .before .before .before .before .before .pre)
 
 shared-slice-read-start : tie.Need-shared-slice-read-start
-shared-slice-read-start c =
-    c .before .before .before .before .before .before .before .before .before .before .before .before .before .before .before .pre .some
+shared-slice-read-start c = c .before .before .before .before .before .before .before .before .before .before .pre .some
 
 cast-start : tie.Need-cast-start
 cast-start c =
@@ -39,20 +37,16 @@ mul-put-holes c =
     omega arith
 
 sub-put-holes : tie.Need-sub-put-holes
-sub-put-holes c = start-fits (c .before .before .before .before .before .before .before .before .before .before .before .before .before
-    .before .before .args .bounds) (now (c .before .before .before .before .before .before .before .before .before .before .before
-    .before .before .before .before .args .lengths))
-    (now (c .before .before .before .before .before .before .before .before .before .before .before .before .before .before .before
-    .args .coords)) _ _ _ _ _ (c .before .before .before .before .before .before .before .before .before .before .before .before .before
-    .before .before .pre)
+sub-put-holes c = start-fits (c .before .before .before .before .before .before .before .before .before .before .args .bounds) (now (c
+    .before .before .before .before .before .before .before .before .before .before .args .lengths)) (now (c .before .before .before
+    .before .before .before .before .before .before .before .args .coords)) _ _ _ _ (c .before .before .before .before .before .before
+    .before .before .before .before .pre)
 
 part-put-holes-start : tie.Need-part-put-holes-start
-part-put-holes-start c = start-fits (c .before .before .before .before .before .before .before .before .before .before .before .before
-    .before .before .before .args .bounds) (now (c .before .before .before .before .before .before .before .before .before .before
-    .before .before .before .before .before .args .lengths))
-    (now (c .before .before .before .before .before .before .before .before .before .before .before .before .before .before .before
-    .args .coords)) _ _ _ _ _ (c .before .before .before .before .before .before .before .before .before .before .before .before .before
-    .before .before .pre)
+part-put-holes-start c = start-fits (c .before .before .before .before .before .before .before .before .before .before .args .bounds) (now
+    (c .before .before .before .before .before .before .before .before .before .before .args .lengths)) (now (c .before .before .before
+    .before .before .before .before .before .before .before .args .coords)) _ _ _ _ (c .before .before .before .before .before .before
+    .before .before .before .before .pre)
 
 part-put-holes-end : tie.Need-part-put-holes-end
 part-put-holes-end c = search needs
@@ -61,25 +55,21 @@ sub-put-holes-2 : tie.Need-sub-put-holes-2
 sub-put-holes-2 c = search needs
 
 part-put-holes-start-2 : tie.Need-part-put-holes-start-2
-part-put-holes-start-2 c =
-    c .before .before .before .before .before .before .before .before .before .before .before .before .before .before .before
-    .before .pre .some
+part-put-holes-start-2 c = c .before .before .before .before .before .before .before .before .before .before .before .pre .some
 
 part-put-holes-end-2 : tie.Need-part-put-holes-end-2
 part-put-holes-end-2 c = search needs
 
 put-holes-requires : tie.Need-put-holes-requires
 put-holes-requires c κs =
-    let a = c .before .before .before .before .before .before .before .before .before .before .before .before .before .before .before
-    .before .before .before .before .before .before .args in
+    let a = c .before .before .before .before .before .before .before .before .before .before .before .before .before .before .before .args
+    in
     let s = now (a .coords) in
     let ns = now (a .lengths) in
-    let put = c .before .before .before .before .before .before .before .before .before .before .before .put-ring in
-    let r = holes-room (a .bounds) ns s _ _ _ _ _ (c .before .before .before .before .before .before .before .before .before .before
-    .before .before .before .before .before .before .before .before .before .before .before .pre) (put .result)
-    (put .ensures .numbers-after) (put .ensures .rings-after) in
-    rw (tail-part s (2 * getD ns 0 0), tail-part ns 1) (same-room _ _ _ _ _ _ _ _ _ _ _ refl refl (put .kept .1 .1 .0)
-    (put .kept .1 .1 .1 .0) r)
+    let count = c .before .before .before .before .before .before .before .before .count-ring in
+    let r = holes-room (a .bounds) ns s _ _ _ _ (c .before .before .before .before .before .before .before .before .before .before .before
+    .before .before .before .before .pre) _ (count .result) _ (count .ensures) in
+    rw (tail-part s (2 * getD ns 0 0), tail-part ns 1) (same-room _ _ _ _ _ _ _ _ _ refl refl (count .kept .1 .0) r)
 
 same-length : tie.Need-same-length
 same-length c = search needs
@@ -90,29 +80,26 @@ same-length-2 c = search needs
 same-length-3 : tie.Need-same-length-3
 same-length-3 c = search needs
 
-same-length-4 : tie.Need-same-length-4
-same-length-4 c = search needs
-
 returns : tie.Need-returns
 returns c =
     let a = c .before .before .before .before .before .before .before .before .before .before .before .before .before .before .before
-    .before .before .before .before .before .before .before .before .before .before .before .before .before .before .before .args in
+    .before .before .before .before .before .before .before .args in
     let s = now (a .coords) in
     let ns = now (a .lengths) in
-    let put = c .before .before .before .before .before .before .before .before .before .before .before .before .before .before .before
-    .before .before .before .before .before .put-ring in
-    let holes : PutHoles (cutHoles (a .bounds) (closedRings (drop 1 ns) (drop (2 * getD ns 0 0) s))) _ _ _ _ _ _ =
-    rw (tail-part s (2 * getD ns 0 0), tail-part ns 1)
-    at (c .before .before .before .before .before .before .before .before .put-holes .ensures) in
-    cut-done (a .bounds) ns s _ _ _ _ _ (c .before .before .before .before .before .before .before .before .before .before .before
-    .before .before .before .before .before .before .before .before .before .before .before .before .before .before .before .before
-    .before .before .before .pre) (now (a .out)) (now (a .out-lengths)) _ _ _ _ _ _ refl refl (put .ensures) holes
+    let put : PutHoles (cutHoles (a .bounds) (closedRings (drop 1 ns) (drop (2 * getD ns 0 0) s))) _ _ _ _ _ _ = rw (
+      tail-part s (2 * getD
+          ns 0 0),
+      tail-part ns 1,
+    ) at (c .before .before .before .before .before .before .put-holes .ensures) in
+    cut-done (a .bounds) ns s _ _ _ _ (c .before .before .before .before .before .before .before .before .before .before .before .before
+    .before .before .before .before .before .before .before .before .before .before .pre) _ _ _ _ _ _ refl (c .before .before .before
+    .before .before .before .before .before .before .before .before .before .before .before .before .count-ring .ensures) put
 
 pub put-cut-spec : {M : Type 1} → statement M
 put-cut-spec =
     tie.close
     (tie.spec
-    put-ring-requires
+    count-ring-requires
     shared-slice-read-start
     cast-start
     mul-start
@@ -127,5 +114,4 @@ put-cut-spec =
     same-length
     same-length-2
     same-length-3
-    same-length-4
     returns)

@@ -8,37 +8,45 @@ use lib.ListN.{length, getD, take, drop}
 use borrow.Author.Needs.{needs}
 use Rattle.binary64.proofs.Fill.{tail-part}
 use Rattle.tile.specs.Ring.{coords as coordinates, close}
-use Rattle.tile.specs.Contracts.{Stands}
 use Rattle.rings.specs.LentRings.{closedRings}
 use Rattle.rings.proofs.LentRings.{Left, left-start, left-ring, left-next, rings-step}
 use Rattle.clip.specs.Polygon.{cutHole, cutHoles}
 use Rattle.clip.proofs.Cuts.{hole-fits-room}
-use Rattle.slices.specs.Contracts.{LentRingsRoom}
-use Rattle.slices.proofs.Holes.{Ahead, ahead-start, ahead-then, ahead-ring, ahead-end, hole-room, put-room, next-room, room-here}
-use Rattle.slices.proofs.Holes.{room-there, same-room}
+use Rattle.slices.specs.Contracts.{LentRingsRoom, Put}
+use Rattle.slices.proofs.Holes.{
+  Ahead,
+  ahead-start,
+  ahead-then,
+  ahead-ring,
+  ahead-end,
+  hole-room,
+  next-room,
+  room-here,
+  room-there,
+  same-room,
+}
 use Rattle.slices.proofs.call.put_holes.Statement.{statement}
 use Rattle.slices.proofs.call.put_holes.Tie as tie
 
 abbrev Inv-loop : tie.InvT-loop
-Inv-loop coords lengths bounds a₀ b₀ out₀ out-lengths₀ placed₀ at₀ k₀ a b out out-lengths placed at k =
+Inv-loop coords lengths bounds scratch₀ out₀ out-lengths₀ placed₀ at₀ k₀ scratch out out-lengths placed at k =
     Left lengths coords k at
-    × LentRingsRoom (drop k lengths) (drop at coords) (length a) (length b) (length out) (length out-lengths) placed
-    × Ahead (cutHoles bounds (closedRings lengths coords)) placed₀ out₀ out-lengths₀
-    (cutHoles bounds (closedRings (drop k lengths) (drop at coords))) placed out out-lengths
-    × (length a ≡ length a₀) × (length b ≡ length b₀) × (length out ≡ length out₀) × (length out-lengths ≡ length out-lengths₀)
+    × LentRingsRoom (drop k lengths) (drop at coords) (length scratch) (length out) (length out-lengths) placed
+    × Ahead (cutHoles bounds (closedRings lengths coords)) placed₀ out₀ out-lengths₀ (cutHoles bounds (closedRings (drop k lengths) (drop
+    at coords))) placed out out-lengths
+    × (length scratch ≡ length scratch₀) × (length out ≡ length out₀) × (length out-lengths ≡ length out-lengths₀)
 
 abbrev μ-loop : tie.MeasureT-loop
-μ-loop coords lengths bounds a₀ b₀ out₀ out-lengths₀ placed₀ at₀ k₀ a b out out-lengths placed at k = length lengths - k
+μ-loop coords lengths bounds scratch₀ out₀ out-lengths₀ placed₀ at₀ k₀ scratch out out-lengths placed at k = length lengths - k
 
 loop-holds : tie.Need-loop-holds Inv-loop μ-loop
 loop-holds c =
-    let a = c .before .before .before .before .before .before .args in
-    let p = c .before .before .before .before .before .before .pre in (
+    let a = c .before .before .before .before .before .args in
+    let p = c .before .before .before .before .before .pre in (
       left-start (now (a .lengths)) (now (a .coords)) (p .measurable .lent),
       p,
-      ahead-start
-          (cutHoles (a .bounds) (closedRings (now (a .lengths)) (now (a .coords)))) (a .exterior) (now (a .out)) (now (a .out-lengths)),
-      refl,
+      ahead-start (cutHoles (a .bounds) (closedRings (now (a
+          .lengths)) (now (a .coords)))) (a .exterior) (now (a .out)) (now (a .out-lengths)),
       refl,
       refl,
       refl,
@@ -55,59 +63,41 @@ cast-n c =
     let g = c .shared-slice-known3 .given (c .before .before .loop .k) in
     omega arith
 
-mul-clip-hole : tie.Need-mul-clip-hole Inv-loop μ-loop
-mul-clip-hole c = search needs
+mul-put-hole : tie.Need-mul-put-hole Inv-loop μ-loop
+mul-put-hole c = search needs
 
-sub-clip-hole : tie.Need-sub-clip-hole Inv-loop μ-loop
-sub-clip-hole c = search needs
+sub-put-hole : tie.Need-sub-put-hole Inv-loop μ-loop
+sub-put-hole c = search needs
 
-part-clip-hole-start : tie.Need-part-clip-hole-start Inv-loop μ-loop
-part-clip-hole-start c = search needs
+part-put-hole-start : tie.Need-part-put-hole-start Inv-loop μ-loop
+part-put-hole-start c = search needs
 
-part-clip-hole-end : tie.Need-part-clip-hole-end Inv-loop μ-loop
-part-clip-hole-end c = search needs
+part-put-hole-end : tie.Need-part-put-hole-end Inv-loop μ-loop
+part-put-hole-end c = search needs
 
-clip-hole-requires : tie.Need-clip-hole-requires Inv-loop μ-loop
-clip-hole-requires c κs =
+put-hole-requires : tie.Need-put-hole-requires Inv-loop μ-loop
+put-hole-requires c κs =
     let s = now (c .before .before .before .before .before .before .before .before .before .before .before .before .args .coords) in
     let ns = now (c .before .before .before .before .before .before .before .before .before .before .before .before .args .lengths) in
-    let l = c .before .before .before .before .before .loop in
-    rw (tail-part s (l .at)) (hole-room _ _ _ _ _ _ _ _
-    (room-here ns s (l .k) (l .at) (c .before .before .before .before .loop-test .taken) _ _ _ _ _ (l .inv .1)))
-
-put-ring-requires : tie.Need-put-ring-requires Inv-loop μ-loop
-put-ring-requires c κs =
-    let s = now (c .before .before .before .before .before .before .before .before .before .before .before .before .before .before
-    .before .before .before .before .before .before .args .coords) in
-    let ns = now (c .before .before .before .before .before .before .before .before .before .before .before .before .before .before
-    .before .before .before .before .before .before .args .lengths) in
-    let l = c .before .before .before .before .before .before .before .before .before .before .before .before .before .loop in
-    let st = rw (tail-part s (l .at)) at (c .before .before .before .before .before .before .before .clip-hole .ensures) in
-    put-room _ _ _ _ _ _ _ _ (room-here ns s (l .k) (l .at)
-    (c .before .before .before .before .before .before .before .before .before .before .before .before .loop-test .taken) _ _ _ _ _
-    (l .inv .1)) _ (hole-fits-room (c .before .before .before .before .before .before .before .before .before .before .before
-    .before .before .before .before .before .before .before .before .before .args .bounds) _) _ _ st
-    (c .before .before .before .before .before .before .before .clip-hole .kept .1 .1 .1 .1 .0)
+    let l = c .before .before .before .before .before .before .loop in
+    rw (tail-part s (l .at)) (hole-room _ _ _ _ _ _ _ (room-here ns s (l .k) (l .at) (c .before .before .before .before .before .loop-test
+    .taken) _ _ _ _ (l .inv .1)))
 
 mul-at : tie.Need-mul-at Inv-loop μ-loop
 mul-at c =
-    let g = c .before .before .before .before .before .before .before .before .before .before .before .before .before .before .before
-    .before .shared-slice-known3 .given (c .before .before .before .before .before .before .before .before .before .before .before
-    .before .before .before .before .before .before .before .loop .k) in
+    let g = c .before .before .before .before .before .before .before .before .before .before .before .shared-slice-known3 .given (c
+    .before .before .before .before .before .before .before .before .before .before .before .before .before .loop .k) in
     omega arith
 
 add-at : tie.Need-add-at Inv-loop μ-loop
 add-at c =
-    let l = c .before .before .before .before .before .before .before .before .before .before .before .before .before .before .before
-    .before .before .before .loop in
+    let l = c .before .before .before .before .before .before .before .before .before .before .before .before .before .loop in
     omega (
       arith,
-      left-ring (now (c .before .before .before .before .before .before .before .before .before .before .before .before
-          .before .before .before .before .before .before .before .before .before .before .before .before .before .args .lengths))
-          (now (c .before .before .before .before .before .before .before .before .before .before .before .before .before .before .before
-          .before .before .before .before .before .before .before .before .before .before .args .coords)) (l .k) (l .at)
-          (c .before .before .before .before .before .before .before .before .before .before .before .before .before .before .before
-          .before .before .loop-test .taken) (l .inv .0),
+      left-ring (now (c .before .before .before .before .before .before .before .before .before .before .before .before .before
+          .before .before .before .before .before .before .args .lengths)) (now (c .before .before .before .before .before .before .before
+          .before .before .before .before .before .before .before .before .before .before .before .before .args .coords)) (l .k) (l .at) (c
+          .before .before .before .before .before .before .before .before .before .before .before .before .loop-test .taken) (l .inv .0),
     )
 
 add-k : tie.Need-add-k Inv-loop μ-loop
@@ -119,34 +109,28 @@ loop-less c = search needs
 loop-again : tie.Need-loop-again Inv-loop μ-loop
 unfolding cutHoles
 loop-again c =
-    let s = now (c .before .before .before .before .before .before .before .before .before .before .before .before .before .before
-    .before .before .before .before .before .before .before .before .before .before .before .args .coords) in
-    let ns = now (c .before .before .before .before .before .before .before .before .before .before .before .before .before .before
-    .before .before .before .before .before .before .before .before .before .before .before .args .lengths) in
-    let l = c .before .before .before .before .before .before .before .before .before .before .before .before .before .before .before
-    .before .before .before .loop in
-    let h = c .before .before .before .before .before .before .before .before .before .before .before .before .before .before .before
-    .before .before .loop-test .taken in
-    let bounds = c .before .before .before .before .before .before .before .before .before .before .before .before .before .before
-    .before .before .before .before .before .before .before .before .before .before .before .args .bounds in
-    let kept = c .before .before .before .before .before .before .before .before .before .before .before .before .clip-hole .kept in
-    let put = c .before .before .before .before .put-ring in
+    let s = now (c .before .before .before .before .before .before .before .before .before .before .before .before .before .before .before
+    .before .before .before .before .args .coords) in
+    let ns = now (c .before .before .before .before .before .before .before .before .before .before .before .before .before .before .before
+    .before .before .before .before .args .lengths) in
+    let bounds = c .before .before .before .before .before .before .before .before .before .before .before .before .before .before .before
+    .before .before .before .before .args .bounds in
+    let l = c .before .before .before .before .before .before .before .before .before .before .before .before .before .loop in
+    let h = c .before .before .before .before .before .before .before .before .before .before .before .before .loop-test .taken in
+    let kept = c .before .before .before .before .before .before .put-hole .kept .1 .1 .1 in
     let ring = close (coordinates (take (2 * getD ns (l .k) 0) (drop (l .at) s))) in
-    let st : Stands (cutHole bounds ring) (c .before .before .before .before .before .before .before .before .before .before .before
-    .before .clip-hole .result) _ = rw (tail-part s (l .at))
-    at (c .before .before .before .before .before .before .before .before .before .before .before .before .clip-hole .ensures) in
-    let n = next-room _ _ _ _ _ _ _ _ (room-here ns s (l .k) (l .at) h _ _ _ _ _ (l .inv .1)) _ (hole-fits-room bounds ring) _ _ st _
-    (put .ensures .numbers-after) (put .ensures .rings-after) in
-    let f = ahead-ring (cutHole bounds ring) (cutHoles bounds
-    (closedRings (drop (l .k + 1) ns) (drop (l .at + 2 * getD ns (l .k) 0) s))) _ _ _ _ _ _ _ _ st (put .ensures) in (
+    let put : Put (cutHole bounds ring) (l .placed) (l .out) (l .out-lengths) (c .before .before .before .before .before .before .put-hole
+    .result) _ _ = rw (tail-part s (l .at)) at (c .before .before .before .before .before .before .put-hole .ensures) in
+    let n = next-room _ _ _ _ _ _ _ (room-here ns s (l .k) (l .at) h _ _ _ _ (l .inv .1)) (cutHole bounds ring) (hole-fits-room bounds
+    ring) _ (put .counted .numbers-after) (put .counted .rings-after) in
+    let f = ahead-ring (cutHole bounds ring) (cutHoles bounds (closedRings (drop (l .k + 1) ns) (drop (l .at + 2 * getD ns (l .k) 0) s))) _
+    _ _ _ _ _ put in (
       left-next ns s (l .k) (l .at) h (l .inv .0),
-      same-room _ _ _ _ _ _ _ _ _ _ _ (kept .1 .1 .1 .0) (kept .1 .1 .1 .1 .0) (put .kept .1 .1 .0) (put .kept .1 .1 .1 .0)
-          (room-there ns s (l .k) (l .at) h _ _ _ _ _ n),
+      same-room _ _ _ _ _ _ _ _ _ (kept .0) (kept .1 .0) (kept .1 .1 .0) (room-there ns s (l .k) (l .at) h _ _ _ _ n),
       ahead-then (rw (rings-step ns s (l .k) (l .at) h) at (l .inv .2)) f,
-      kept .1 .1 .1 .0 ∙ l .inv .3,
-      kept .1 .1 .1 .1 .0 ∙ l .inv .4,
-      put .kept .1 .1 .0 ∙ l .inv .5,
-      put .kept .1 .1 .1 .0 ∙ l .inv .6,
+      kept .0 ∙ l .inv .3,
+      kept .1 .0 ∙ l .inv .4,
+      kept .1 .1 .0 ∙ l .inv .5,
     )
 
 same-length : tie.Need-same-length Inv-loop μ-loop
@@ -158,12 +142,9 @@ same-length-2 c = search needs
 same-length-3 : tie.Need-same-length-3 Inv-loop μ-loop
 same-length-3 c = search needs
 
-same-length-4 : tie.Need-same-length-4 Inv-loop μ-loop
-same-length-4 c = search needs
-
 returns : tie.Need-returns Inv-loop μ-loop
 returns c =
-    let a = c .before .before .before .before .before .before .before .before .args in
+    let a = c .before .before .before .before .before .before .before .args in
     let l = c .before .loop in
     ahead-end (a .bounds) (now (a .lengths)) (now (a .coords)) (l .k) (l .at) (c .loop-test .left) _ _ _ _ _ _ _ (l .inv .2)
 
@@ -177,12 +158,11 @@ put-holes-spec =
     mul-n
     shared-slice-read-n
     cast-n
-    mul-clip-hole
-    sub-clip-hole
-    part-clip-hole-start
-    part-clip-hole-end
-    clip-hole-requires
-    put-ring-requires
+    mul-put-hole
+    sub-put-hole
+    part-put-hole-start
+    part-put-hole-end
+    put-hole-requires
     mul-at
     add-at
     add-k
@@ -191,5 +171,4 @@ put-holes-spec =
     same-length
     same-length-2
     same-length-3
-    same-length-4
     returns)

@@ -1,4 +1,4 @@
--- `ring` meets its contract: refused by the checks, or cut and the scratch slices cleared. Assumes nothing.
+-- `ring` meets its contract: refused by the checks, or cut and the scratch slice cleared. Assumes nothing.
 use mathlib.Core.Path.{sym, _∙_, ap}
 use denote.Ref.{now}
 use borrow.Author.Needs.{needs}
@@ -17,22 +17,19 @@ enum-known-refusal c = search needs
 enum-told : tie.Need-enum-told
 enum-told c = search needs
 
-clip-lent-requires : tie.Need-clip-lent-requires
-clip-lent-requires c κs =
-    sym (c .before .before .before .before .before .check-ring .ensures) ∙ c .before .before .before .enum-told .given .1
+clip-padded-requires : tie.Need-clip-padded-requires
+clip-padded-requires c κs =
+    sym (c .before .before .before .before .check-ring .ensures) ∙ c .before .before .enum-told .given .1
 
 clear-requires : tie.Need-clear-requires
 clear-requires c κs = search needs
 
-clear-requires-2 : tie.Need-clear-requires-2
-clear-requires-2 c κs = search needs
-
 returns : tie.Need-returns
 unfolding ringCallAnswer
 returns c =
-    let a = c .before .before .before .before .before .before .before .before .args in
+    let a = c .before .before .before .before .before .before .before .args in
     let e = sym (c .before .before .before .check-ring .ensures) ∙ c .before .refusal .given .1 in
-    (rw e, (refused-slices (now (a .ring)) (a .bounds) (ringSlices (now (a .a)) (now (a .b)) (now (a .out))) _ e, tt))
+    (rw e, (refused-slices (now (a .ring)) (a .bounds) (ringSlices (now (a .scratch)) (now (a .out))) _ e, tt))
 
 same-length : tie.Need-same-length
 same-length c = search needs
@@ -40,26 +37,20 @@ same-length c = search needs
 same-length-2 : tie.Need-same-length-2
 same-length-2 c = search needs
 
-same-length-3 : tie.Need-same-length-3
-same-length-3 c = search needs
-
 returns-2 : tie.Need-returns-2
 unfolding ringCallAnswer
 returns-2 c =
     let a = c .before .before .before .before .before .before .before .before .before .before .before .before .before .before .before
-    .before .before .before .before .before .before .before .before .before .before .args in
-    let cut = c .before .before .before .before .before .before .before .before .before .before .before .before .before
-    .before .clip-lent in
-    let e = sym (c .before .before .before .before .before .before .before .before .before .before .before .before .before .before
-    .before .before .before .before .before .before .check-ring .ensures)
-    ∙ c .before .before .before .before .before .before .before .before .before .before .before .before .before .before .before .before
-    .before .before .enum-told .given .1 in (
-      rw e (ap Clipped (cut .ensures .written .count)),
+    .before .before .args in
+    let clipped = c .before .before .before .before .before .before .before .before .clip-padded in
+    let e = sym (c .before .before .before .before .before .before .before .before .before .before .before .before .before
+    .check-ring .ensures)
+    ∙ c .before .before .before .before .before .before .before .before .before .before .before .enum-told .given .1 in (
+      rw e (ap Clipped (clipped .ensures .count)),
       (
-        clipped-slices (now (a .ring)) (a .bounds) (ringSlices (now (a .a)) (now (a .b)) (now (a .out))) _ _ _ _ e
-            (cleared _ _ _ (c .before .before .before .before .before .before .clear .ensures) (cut .kept .1 .1 .0))
-            (cleared _ _ _ (c .before .before .clear2 .ensures) (cut .kept .1 .1 .1 .0)) (cut .ensures),
-        cut .ensures .promise,
+        clipped-slices (now (a .ring)) (a .bounds) (ringSlices (now (a .scratch)) (now (a .out))) _ _ _ e
+            (cleared _ _ _ (c .before .before .clear .ensures) (clipped .kept .1 .1 .0)) (clipped .ensures),
+        clipped .ensures .promise,
       ),
     )
 
@@ -70,11 +61,9 @@ ring-spec =
     check-ring-requires
     enum-known-refusal
     enum-told
-    clip-lent-requires
+    clip-padded-requires
     clear-requires
-    clear-requires-2
     returns
     same-length
     same-length-2
-    same-length-3
     returns-2)
