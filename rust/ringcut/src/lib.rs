@@ -9,10 +9,15 @@
 //! nothing inside.
 //!
 //! A refused call leaves every lent buffer as it was. One that is not refused fills scratch and order slices with zeros, from
-//! end to end, and leaves the output past its answer as it was. That is proved: of bytes and whole numbers exactly, of numbers
-//! in `f64` as far as the proofs tell two of them apart, which is by number and sign of zero, all NaNs being one. The library
-//! writes nothing where it leaves a buffer as it was, so the bits of a NaN stay there too: the tests see that, and no
-//! contract says it.
+//! end to end. What it leaves in the output past its answer:
+//!
+//! - [`cut_frame`] leaves it as it was.
+//! - [`cut_polygon`] and [`cut_ring`], which work in the output too, leave zeros (+0.0) up to the length that they ask of it,
+//!   whatever they answer, and all that is beyond that length as it was.
+//!
+//! That is proved: of bytes and whole numbers exactly, of numbers in `f64` as far as the proofs tell two of them apart, which
+//! is by number and sign of zero, all NaNs being one. The library writes nothing where it leaves a buffer as it was, so the
+//! bits of a NaN stay there too: the tests see that, and no contract says it.
 //!
 //! It is for x86-64 Linux, with 64-bit pointers and doubles in SSE2 registers; a build for another target is refused.
 //!
@@ -66,15 +71,14 @@ pub struct Flags {
     pub skip_boundary_fallback: bool,
 }
 
-/// What is lent to a ring call to write to: for a ring of n coordinates each slice has at least 2 × [`room_for_ring`]`(n)`
-/// numbers.
+/// What is lent to a ring call to write to: for a ring lent with n coordinates each slice has at least
+/// 2 × [`room_for_ring`]`(n)` numbers.
 #[derive(Debug)]
 pub struct RingBuffers<'a> {
     /// Zero after an answer.
-    pub scratch_a: &'a mut [f64],
-    /// Zero after an answer.
-    pub scratch_b: &'a mut [f64],
-    /// The cut ring from its front, as x, y numbers.
+    pub scratch: &'a mut [f64],
+    /// After an answer: the cut ring from its front, as x, y numbers, then zeros up to 2 × [`room_for_ring`]`(n)` numbers. All
+    /// that is beyond these stays as it was.
     pub out: &'a mut [f64],
 }
 
@@ -83,15 +87,15 @@ pub struct RingBuffers<'a> {
 #[derive(Debug)]
 pub struct PolygonBuffers<'a> {
     /// At least 2 × the largest ring's [`room_for_ring`] numbers; zero after an answer.
-    pub scratch_a: &'a mut [f64],
-    /// As long as the other; zero after an answer.
-    pub scratch_b: &'a mut [f64],
+    pub scratch: &'a mut [f64],
     /// At least the largest ring's [`room_for_ring`]; zero after an answer.
     pub order: &'a mut [u32],
-    /// At least 2 × the sum of the rings' [`room_for_ring`] numbers; the rings of a cut from its front, one behind the
-    /// other, as x, y numbers.
+    /// At least 2 × the sum of the rings' [`room_for_ring`] numbers. After an answer: the rings of a cut from its front, one
+    /// behind the other, as x, y numbers, then zeros up to that many numbers; zeros alone if nothing was cut. All that is
+    /// beyond these stays as it was.
     pub out: &'a mut [f64],
-    /// At least as many as rings are lent; how many coordinates each ring of a cut has, from its front.
+    /// At least as many as rings are lent. After a cut: how many coordinates each of its rings has, from its front. All else
+    /// in it stays as it was.
     pub out_lengths: &'a mut [u32],
 }
 
@@ -144,17 +148,21 @@ pub fn cut_frame(frame: &[u8], out: &mut [u8]) -> Result<usize, Refusal> {
 /// Cuts one polygon, its rings one behind the other in `coords` as x, y numbers, exterior first, and their lengths in
 /// coordinates in `lengths`. The bounds are widened by `buffer` on each side. Which bits a NaN in the output has is open.
 ///
+/// Behind the rings of a cut, and from its front on every other answer, `lent.out` holds zeros after the call: up to 2 × the sum
+/// of [`room_for_ring`] of the rings, the closing coordinates counted. What was lent beyond that stays as it was.
+/// [`PolygonBuffers`] says which coordinates are closing ones.
+///
 /// ```
 /// use ringcut::{cut_polygon, room_for_ring, Answer, Bounds, Edge, Flags, PolygonBuffers, Reason};
 ///
 /// const ROOM: usize = room_for_ring(5);
-/// let (mut scratch_a, mut scratch_b, mut order) = ([0.0; 2 * ROOM], [0.0; 2 * ROOM], [0; ROOM]);
-/// let (mut out, mut out_lengths) = ([0.0; 2 * ROOM], [0; 1]);
+/// let (mut scratch, mut order) = ([0.0; 2 * ROOM], [0; ROOM]);
+/// // One number more than is asked for.
+/// let (mut out, mut out_lengths) = ([7.0; 2 * ROOM + 1], [0; 1]);
 /// let mut cut = |flags, coords: &[f64; 10]| {
 ///     let bounds = Bounds { west: 0.0, south: 0.0, east: 10.0, north: 10.0 };
 ///     let lent = PolygonBuffers {
-///         scratch_a: &mut scratch_a,
-///         scratch_b: &mut scratch_b,
+///         scratch: &mut scratch,
 ///         order: &mut order,
 ///         out: &mut out,
 ///         out_lengths: &mut out_lengths,
@@ -175,6 +183,8 @@ pub fn cut_frame(frame: &[u8], out: &mut [u8]) -> Result<usize, Refusal> {
 /// assert_eq!(cut(both, &across), Ok(Answer::Cut { rings: 1 }));
 /// assert_eq!(out_lengths, [5]);
 /// assert_eq!(out[..10], [5., 5., 10., 5., 10., 8., 5., 8., 5., 5.]);
+/// assert_eq!(out[10..2 * ROOM], [0.0; 2 * ROOM - 10]);
+/// assert_eq!(out[2 * ROOM], 7.0);
 /// ```
 #[inline]
 pub fn cut_polygon(
@@ -200,20 +210,23 @@ pub fn cut_polygon(
 /// Cuts one ring of x, y numbers, closed or not, and answers how many coordinates of `lent.out` the cut ring takes: none, or
 /// at least three, the closing one counted. Which bits a NaN in the output has is open.
 ///
+/// Behind the cut ring, from its front if there is none, `lent.out` holds zeros after the call: up to 2 × [`room_for_ring`]`(n)`
+/// numbers for a ring lent with n coordinates. What was lent beyond that stays as it was.
+///
 /// ```
 /// use ringcut::{cut_ring, room_for_ring, Bounds, RingBuffers};
 ///
 /// const ROOM: usize = room_for_ring(4);
 /// let bounds = Bounds { west: 0.0, south: 0.0, east: 10.0, north: 10.0 };
-/// let (mut scratch_a, mut scratch_b, mut out) = ([0.0; 2 * ROOM], [0.0; 2 * ROOM], [0.0; 2 * ROOM]);
-/// let mut cut = |ring: &[f64; 8]| {
-///     let lent = RingBuffers { scratch_a: &mut scratch_a, scratch_b: &mut scratch_b, out: &mut out };
-///     cut_ring(ring, bounds, lent)
-/// };
+/// // One number more than is asked for.
+/// let (mut scratch, mut out) = ([0.0; 2 * ROOM], [7.0; 2 * ROOM + 1]);
+/// let mut cut = |ring: &[f64; 8]| cut_ring(ring, bounds, RingBuffers { scratch: &mut scratch, out: &mut out });
 ///
 /// assert_eq!(cut(&[1., 1., 2., 2., 1., 1., 1., 1.]), Ok(0));
 /// assert_eq!(cut(&[5., 5., 15., 5., 15., 8., 5., 8.]), Ok(5));
 /// assert_eq!(out[..10], [5., 5., 10., 5., 10., 8., 5., 8., 5., 5.]);
+/// assert_eq!(out[10..2 * ROOM], [0.0; 2 * ROOM - 10]);
+/// assert_eq!(out[2 * ROOM], 7.0);
 /// ```
 #[inline]
 pub fn cut_ring(ring: &[f64], bounds: Bounds, lent: RingBuffers) -> Result<usize, Refusal> {

@@ -15,10 +15,8 @@ mod exported {
             south: f64,
             east: f64,
             north: f64,
-            scratch_a: *mut f64,
-            scratch_a_len: usize,
-            scratch_b: *mut f64,
-            scratch_b_len: usize,
+            scratch: *mut f64,
+            scratch_len: usize,
             out: *mut f64,
             out_len: usize,
         ) -> i64;
@@ -35,10 +33,8 @@ mod exported {
             coords_len: usize,
             lengths: *const u32,
             lengths_len: usize,
-            scratch_a: *mut f64,
-            scratch_a_len: usize,
-            scratch_b: *mut f64,
-            scratch_b_len: usize,
+            scratch: *mut f64,
+            scratch_len: usize,
             order: *mut u32,
             order_len: usize,
             out: *mut f64,
@@ -60,7 +56,7 @@ pub fn frame(frame: &[u8], out: &mut [u8]) -> i64 {
 #[inline]
 pub fn ring(ring: &[f64], bounds: Bounds, lent: RingBuffers) -> i64 {
     let Bounds { west, south, east, north } = bounds;
-    let RingBuffers { scratch_a, scratch_b, out } = lent;
+    let RingBuffers { scratch, out } = lent;
     // SAFETY: each pointer and length is that of a slice borrowed for the call, and the call asks nothing else.
     unsafe {
         exported::ringcut_ring(
@@ -70,10 +66,8 @@ pub fn ring(ring: &[f64], bounds: Bounds, lent: RingBuffers) -> i64 {
             south,
             east,
             north,
-            scratch_a.as_mut_ptr(),
-            scratch_a.len(),
-            scratch_b.as_mut_ptr(),
-            scratch_b.len(),
+            scratch.as_mut_ptr(),
+            scratch.len(),
             out.as_mut_ptr(),
             out.len(),
         )
@@ -92,7 +86,7 @@ pub fn polygon(
     lent: PolygonBuffers,
 ) -> i64 {
     let Bounds { west, south, east, north } = bounds;
-    let PolygonBuffers { scratch_a, scratch_b, order, out, out_lengths } = lent;
+    let PolygonBuffers { scratch, order, out, out_lengths } = lent;
     // SAFETY: each pointer and length is that of a slice borrowed for the call, and the call asks nothing else.
     unsafe {
         exported::ringcut_polygon(
@@ -107,10 +101,8 @@ pub fn polygon(
             coords.len(),
             lengths.as_ptr(),
             lengths.len(),
-            scratch_a.as_mut_ptr(),
-            scratch_a.len(),
-            scratch_b.as_mut_ptr(),
-            scratch_b.len(),
+            scratch.as_mut_ptr(),
+            scratch.len(),
             order.as_mut_ptr(),
             order.len(),
             out.as_mut_ptr(),

@@ -13,8 +13,7 @@ const WHOLE_UNWRITTEN: u32 = 77;
 /// The slices lent to a call: numbers in scratch, positions, numbers and lengths of output.
 #[derive(Clone, Copy)]
 struct Room {
-    scratch_a: usize,
-    scratch_b: usize,
+    scratch: usize,
     order: usize,
     out: usize,
     out_lengths: usize,
@@ -25,7 +24,7 @@ impl Room {
     fn of(closed: &[usize]) -> Room {
         let rooms = closed.iter().map(|&n| room_for_ring(n));
         let (largest, sum) = (rooms.clone().max().unwrap(), rooms.sum::<usize>());
-        Room { scratch_a: 2 * largest, scratch_b: 2 * largest, order: largest, out: 2 * sum, out_lengths: closed.len() }
+        Room { scratch: 2 * largest, order: largest, out: 2 * sum, out_lengths: closed.len() }
     }
 }
 
@@ -47,33 +46,47 @@ fn cut_to(
     room: Room,
 ) -> Result<(Answer, Vec<Vec<f64>>), Refusal> {
     let unwritten = f64::from_bits(UNWRITTEN);
-    let (mut scratch_a, mut scratch_b) = (vec![unwritten; room.scratch_a], vec![unwritten; room.scratch_b]);
-    let mut order = vec![WHOLE_UNWRITTEN; room.order];
+    let (mut scratch, mut order) = (vec![unwritten; room.scratch], vec![WHOLE_UNWRITTEN; room.order]);
     let (mut out, mut out_lengths) = (vec![unwritten; room.out], vec![WHOLE_UNWRITTEN; room.out_lengths]);
-    let lent = PolygonBuffers {
-        scratch_a: &mut scratch_a,
-        scratch_b: &mut scratch_b,
-        order: &mut order,
-        out: &mut out,
-        out_lengths: &mut out_lengths,
-    };
+    let lent =
+        PolygonBuffers { scratch: &mut scratch, order: &mut order, out: &mut out, out_lengths: &mut out_lengths };
     let answered = cut_polygon(flags, bounds, buffer, coords, lengths, lent);
 
-    let (working, whole_working) = if answered.is_ok() { (0, 0) } else { (UNWRITTEN, WHOLE_UNWRITTEN) };
-    assert!(scratch_a.iter().chain(&scratch_b).all(|number| number.to_bits() == working));
-    assert!(order.iter().all(|&position| position == whole_working));
-    let count = if let Ok(Answer::Cut { rings }) = answered { rings } else { 0 };
+    let Ok(answer) = answered else {
+        assert!(scratch.iter().chain(&out).all(|number| number.to_bits() == UNWRITTEN));
+        assert!(order.iter().chain(&out_lengths).all(|&number| number == WHOLE_UNWRITTEN));
+        return answered.map(|answer| (answer, vec![]));
+    };
+    assert!(scratch.iter().all(|number| number.to_bits() == 0));
+    assert!(order.iter().all(|&position| position == 0));
+    let count = if let Answer::Cut { rings } = answer { rings } else { 0 };
     let (written, beyond) = out_lengths.split_at(count);
     assert!(beyond.iter().all(|&length| length == WHOLE_UNWRITTEN));
-    let mut rest = out.as_slice();
+    let (asked_for, beyond) = out.split_at(Room::of(&closed(coords, lengths)).out);
+    assert!(beyond.iter().all(|number| number.to_bits() == UNWRITTEN));
+    let mut rest = asked_for;
     let mut rings = Vec::new();
     for &length in written {
         let (ring, behind) = rest.split_at(2 * length as usize);
         rings.push(ring.to_vec());
         rest = behind;
     }
-    assert!(rest.iter().all(|number| number.to_bits() == UNWRITTEN));
-    answered.map(|answer| (answer, rings))
+    assert!(rest.iter().all(|number| number.to_bits() == 0));
+    Ok((answer, rings))
+}
+
+/// How many coordinates each ring has when it is closed.
+fn closed(coords: &[f64], lengths: &[u32]) -> Vec<usize> {
+    let mut rest = coords;
+    let mut counts = Vec::new();
+    for &length in lengths {
+        let (ring, behind) = rest.split_at(2 * length as usize);
+        // A NaN equals nothing, not even itself in a ring of one coordinate.
+        let is_open = !ring.is_empty() && ring[..2] != ring[ring.len() - 2..];
+        counts.push(length as usize + usize::from(is_open));
+        rest = behind;
+    }
+    counts
 }
 
 /// One closed ring in slices that are exactly as long as it asks.
@@ -162,14 +175,12 @@ fn slices_are_exact_one_short_and_larger() {
         change(&mut room);
         cut(flags(3), &coords, &lengths, room)
     };
-    assert_eq!(with(&|room| room.scratch_a -= 1), Err(Refusal::Scratch));
-    assert_eq!(with(&|room| room.scratch_b -= 1), Err(Refusal::Scratch));
+    assert_eq!(with(&|room| room.scratch -= 1), Err(Refusal::Scratch));
     assert_eq!(with(&|room| room.order -= 1), Err(Refusal::Scratch));
     assert_eq!(with(&|room| room.out -= 1), Err(Refusal::Output));
     assert_eq!(with(&|room| room.out_lengths -= 1), Err(Refusal::Output));
     let larger = |room: &mut Room| {
-        for length in [&mut room.scratch_a, &mut room.scratch_b, &mut room.order, &mut room.out, &mut room.out_lengths]
-        {
+        for length in [&mut room.scratch, &mut room.order, &mut room.out, &mut room.out_lengths] {
             *length += 3;
         }
     };

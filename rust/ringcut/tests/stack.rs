@@ -147,21 +147,19 @@ fn ring_and_slice_calls_take_under_4_kib() {
     let flags = Flags { assume_simple: true, skip_boundary_fallback: true };
     for n in [5, 317, 5_000] {
         let (ring, room) = (circle(n, 9.), room_for_ring(n));
-        let [mut scratch_a, mut scratch_b, mut out] = [(); 3].map(|()| vec![0.; 2 * room]);
+        let (mut scratch, mut out) = (vec![0.; 2 * room], vec![0.; 2 * room]);
         let (mut order, mut out_lengths) = (vec![0; room], [0]);
 
         let mut coordinates = Ok(0);
         let of_ring = stack_of(|| {
-            let lent = RingBuffers { scratch_a: &mut scratch_a, scratch_b: &mut scratch_b, out: &mut out };
-            coordinates = cut_ring(&ring, BOUNDS, lent);
+            coordinates = cut_ring(&ring, BOUNDS, RingBuffers { scratch: &mut scratch, out: &mut out });
         });
         assert!(coordinates.unwrap() > 0 && of_ring < 4 * KIB, "{of_ring} bytes for {n} coordinates");
 
         let mut answer = Ok(Answer::Nothing);
         let of_polygon = stack_of(|| {
             let lent = PolygonBuffers {
-                scratch_a: &mut scratch_a,
-                scratch_b: &mut scratch_b,
+                scratch: &mut scratch,
                 order: &mut order,
                 out: &mut out,
                 out_lengths: &mut out_lengths,
