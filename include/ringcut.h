@@ -14,17 +14,19 @@
  *   18  bytes behind the last part
  *   19  no ring, over 64 rings, or numbers that are not two for each coordinate
  *   20  over 65,536 coordinates
- *   21  a scratch or order slice too short
+ *   21  the scratch or the order slice too short
  *   22  an output or a slice for lengths too short
  *
  * A frame call gives 11 to 18 and 22, the others 19 to 22: the first that holds in this order, 15 to 17 as a walk from the
  * frame's front meets them.
  *
  * What a call leaves in the slices that are not const. A refused call leaves them as they were. One that is not refused fills
- * scratch and order slices with zeros, from end to end, and leaves output and lengths past its answer as they were. That is
- * proved: of bytes and whole numbers exactly, of doubles as far as the proofs tell two of them apart, which is by number and
- * sign of zero, all NaNs being one. The code writes nothing where it leaves a slice as it was, so the bits of a NaN stay
- * there too: the tests see that, and no contract says it.
+ * scratch and order slices with zeros, from end to end. In a ring call and a slice call, which work in the output too, it also
+ * fills the output with zeros (+0.0) past its answer, whatever that is, up to the length that the call needs of it, and leaves
+ * all beyond that length as it was. A frame call leaves the output past its answer as it was. The slice for lengths stays as it
+ * was past a cut's lengths. All this is proved: of bytes and whole numbers exactly, of doubles as far as the proofs tell two of
+ * them apart, which is by number and sign of zero, all NaNs being one. The code writes nothing where it leaves a slice as it
+ * was, so the bits of a NaN stay there too: the tests see that, and no contract says it.
  *
  * What every call asks. A slice is a pointer and a length, counted in values of the pointer's type. The pointer is not null
  * and is aligned for its type, also where the length is 0 (any address of that type will do); that many values behind it can
@@ -78,12 +80,12 @@ int64_t ringcut_frame(const uint8_t *frame, size_t frame_len, uint8_t *out, size
 
 /*
  * Cuts one ring of x, y numbers, closed or not, to four bounds used as given. Answers how many coordinates of out the cut ring
- * takes: none, or at least three, the closing one counted. For a ring of n coordinates, not closed beforehand, each of the
- * other slices needs 2 * RINGCUT_ROOM(n) numbers. Which bits a NaN in out has is open.
+ * takes: none, or at least three, the closing one counted. For a ring of n coordinates, not closed beforehand, scratch and out
+ * need 2 * RINGCUT_ROOM(n) numbers each. Of out the first 2 * RINGCUT_ROOM(n) are written: the cut ring, then zeros. Which bits
+ * a NaN in out has is open.
  */
 int64_t ringcut_ring(const double *ring, size_t ring_len, double west, double south, double east, double north,
-                     double *scratch_a, size_t scratch_a_len, double *scratch_b, size_t scratch_b_len, double *out,
-                     size_t out_len);
+                     double *scratch, size_t scratch_len, double *out, size_t out_len);
 
 /* What becomes of a polygon: the lowest 8 bits of a slice call's code. */
 enum ringcut_answer {
@@ -103,16 +105,16 @@ enum ringcut_answer {
  *     exterior along the left, right, bottom or top bound
  *   + 65536 * the count of a cut's rings.
  *
- * Only a cut writes out and out_lengths. A ring whose last coordinate doesn't equal its first is closed, and the closing one
- * counts in what follows and in 20. With S the largest RINGCUT_ROOM of its rings: each scratch slice needs 2 * S numbers,
- * order S, out 2 * the sum of RINGCUT_ROOM over the rings, and out_lengths as many as there are rings. Which bits a NaN in out
- * has is open.
+ * A ring whose last coordinate doesn't equal its first is closed, and the closing one counts in what follows and in 20; a NaN
+ * equals nothing, so that even a single coordinate with a NaN counts as two. With S the largest RINGCUT_ROOM of its rings, and A
+ * the sum of RINGCUT_ROOM over them: scratch needs 2 * S numbers, order S, out 2 * A, and out_lengths as many as there are
+ * rings. Of out the first 2 * A are written: a cut's rings, then zeros; on every other answer, zeros alone. Only a cut writes
+ * out_lengths. Which bits a NaN in out has is open.
  */
 int64_t ringcut_polygon(uint8_t assume_simple, uint8_t skip_boundary_fallback, double west, double south, double east,
                         double north, double buffer, const double *coords, size_t coords_len, const uint32_t *lengths,
-                        size_t lengths_len, double *scratch_a, size_t scratch_a_len, double *scratch_b,
-                        size_t scratch_b_len, uint32_t *order, size_t order_len, double *out, size_t out_len,
-                        uint32_t *out_lengths, size_t out_lengths_len);
+                        size_t lengths_len, double *scratch, size_t scratch_len, uint32_t *order, size_t order_len,
+                        double *out, size_t out_len, uint32_t *out_lengths, size_t out_lengths_len);
 
 #ifdef __cplusplus
 }

@@ -31,13 +31,13 @@ int main(void)
         6, 6, 12, 6, 12, 7, 6, 7, 6, 6  /* hole */
     };
     static const uint32_t lengths[RINGS] = {COORDINATES, COORDINATES};
-    double scratch_a[2 * ROOM], scratch_b[2 * ROOM], out[2 * RINGS * ROOM];
+    double scratch[2 * ROOM], out[2 * RINGS * ROOM];
     uint32_t order[ROOM], out_lengths[RINGS];
     const uint8_t assume_simple = 1, skip_boundary_fallback = 1;
 
     int64_t code = ringcut_polygon(assume_simple, skip_boundary_fallback, 0, 0, 10, 10, 0, coords, COUNT(coords), lengths,
-                                   COUNT(lengths), scratch_a, COUNT(scratch_a), scratch_b, COUNT(scratch_b), order,
-                                   COUNT(order), out, COUNT(out), out_lengths, COUNT(out_lengths));
+                                   COUNT(lengths), scratch, COUNT(scratch), order, COUNT(order), out, COUNT(out),
+                                   out_lengths, COUNT(out_lengths));
     if (code < 0) {
         fprintf(stderr, "refused: %" PRId64 "\n", -code);
         return 1;

@@ -57,8 +57,8 @@ const MISTAKES: [(&str, &str, &str, &str); 17] = [
     // Parameters exchanged.
     (
         HEADER,
-        "double west, double south, double east, double north,\n                     double *scratch_a",
-        "double south, double west, double east, double north,\n                     double *scratch_a",
+        "double west, double south, double east, double north,\n                     double *scratch",
+        "double south, double west, double east, double north,\n                     double *scratch",
         "include/ringcut.h: ringcut_ring: parameter 3 is `double south`, by the export it is `double west`",
     ),
     (
