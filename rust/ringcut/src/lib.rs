@@ -77,7 +77,7 @@ pub struct Flags {
 pub struct RingBuffers<'a> {
     /// Zero after an answer.
     pub scratch: &'a mut [f64],
-    /// After an answer: the cut ring from its front, as x, y numbers, then zeros up to 2 × [`room_for_ring`]`(n)` numbers. All
+    /// After an answer: the cut ring from the front, as x, y numbers, then zeros up to 2 × [`room_for_ring`]`(n)` numbers. All
     /// that is beyond these stays as it was.
     pub out: &'a mut [f64],
 }
@@ -90,11 +90,11 @@ pub struct PolygonBuffers<'a> {
     pub scratch: &'a mut [f64],
     /// At least the largest ring's [`room_for_ring`]; zero after an answer.
     pub order: &'a mut [u32],
-    /// At least 2 × the sum of the rings' [`room_for_ring`] numbers. After an answer: the rings of a cut from its front, one
-    /// behind the other, as x, y numbers, then zeros up to that many numbers; zeros alone if nothing was cut. All that is
-    /// beyond these stays as it was.
+    /// At least 2 × the sum of the rings' [`room_for_ring`] numbers. After a cut: its rings from the front, one behind the
+    /// other, as x, y numbers, then zeros up to that many numbers; after every other answer zeros alone. All that is beyond
+    /// these stays as it was.
     pub out: &'a mut [f64],
-    /// At least as many as rings are lent. After a cut: how many coordinates each of its rings has, from its front. All else
+    /// At least as many as rings are lent. After a cut: how many coordinates each of its rings has, from the front. All else
     /// in it stays as it was.
     pub out_lengths: &'a mut [u32],
 }
@@ -148,9 +148,9 @@ pub fn cut_frame(frame: &[u8], out: &mut [u8]) -> Result<usize, Refusal> {
 /// Cuts one polygon, its rings one behind the other in `coords` as x, y numbers, exterior first, and their lengths in
 /// coordinates in `lengths`. The bounds are widened by `buffer` on each side. Which bits a NaN in the output has is open.
 ///
-/// Behind the rings of a cut, and from its front on every other answer, `lent.out` holds zeros after the call: up to 2 × the sum
-/// of [`room_for_ring`] of the rings, the closing coordinates counted. What was lent beyond that stays as it was.
-/// [`PolygonBuffers`] says which coordinates are closing ones.
+/// Past the rings of a cut, and from the front after every other answer, `lent.out` holds zeros up to 2 × the sum of
+/// [`room_for_ring`] of the rings, their closing coordinates counted as [`PolygonBuffers`] says. What was lent beyond that stays
+/// as it was.
 ///
 /// ```
 /// use ringcut::{cut_polygon, room_for_ring, Answer, Bounds, Edge, Flags, PolygonBuffers, Reason};
@@ -210,8 +210,8 @@ pub fn cut_polygon(
 /// Cuts one ring of x, y numbers, closed or not, and answers how many coordinates of `lent.out` the cut ring takes: none, or
 /// at least three, the closing one counted. Which bits a NaN in the output has is open.
 ///
-/// Behind the cut ring, from its front if there is none, `lent.out` holds zeros after the call: up to 2 × [`room_for_ring`]`(n)`
-/// numbers for a ring lent with n coordinates. What was lent beyond that stays as it was.
+/// Past the cut ring, from the front where it takes none, `lent.out` holds zeros up to 2 × [`room_for_ring`]`(n)` numbers, for a
+/// ring lent with n coordinates. What was lent beyond that stays as it was.
 ///
 /// ```
 /// use ringcut::{cut_ring, room_for_ring, Bounds, RingBuffers};
