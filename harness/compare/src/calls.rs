@@ -66,11 +66,9 @@ fn label(answer: &SliceAnswer) -> &'static str {
 
 /// The second reading's answer to a ring call, and the lent slices as it leaves them.
 pub fn ring_call(reading: &Reading, call: &RingCall) -> RingAfter {
-    let mut lent =
-        Lent { scratch: [call.scratch_a.clone(), call.scratch_b.clone()], out: call.out.clone(), ..Lent::default() };
+    let mut lent = Lent { scratch: call.scratch.clone(), out: call.out.clone(), ..Lent::default() };
     let answer = reading.ring_call(&call.ring, call.bounds, &mut lent);
-    let [scratch_a, scratch_b] = lent.scratch;
-    RingAfter { answer, scratch_a, scratch_b, out: lent.out }
+    RingAfter { answer, scratch: lent.scratch, out: lent.out }
 }
 
 /// The second reading's answer to a slice call, and the lent slices as it leaves them.
@@ -83,12 +81,12 @@ pub fn slice_call(reading: &Reading, call: &SliceCall) -> SliceAfter {
         lengths: &call.lengths,
     };
     let mut lent = Lent {
-        scratch: [call.scratch_a.clone(), call.scratch_b.clone()],
+        scratch: call.scratch.clone(),
         order: call.order.clone(),
         out: call.out.clone(),
         out_lengths: call.out_lengths.clone(),
     };
     let answer = reading.slice_call(&slices, &mut lent);
-    let Lent { scratch: [scratch_a, scratch_b], order, out, out_lengths } = lent;
-    SliceAfter { answer, scratch_a, scratch_b, order, out, out_lengths }
+    let Lent { scratch, order, out, out_lengths } = lent;
+    SliceAfter { answer, scratch, order, out, out_lengths }
 }

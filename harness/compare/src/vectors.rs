@@ -118,14 +118,14 @@ fn sample<T>(count: u64, sampled: impl Fn(Style, u64) -> Sampled<T>) -> Vec<T> {
 }
 
 fn with_marks_in_ring_call(mut call: RingCall) -> RingCall {
-    for lent in [&mut call.scratch_a, &mut call.scratch_b, &mut call.out] {
+    for lent in [&mut call.scratch, &mut call.out] {
         lent.fill(MARK);
     }
     call
 }
 
 fn with_marks_in_slice_call(mut call: SliceCall) -> SliceCall {
-    for lent in [&mut call.scratch_a, &mut call.scratch_b, &mut call.out] {
+    for lent in [&mut call.scratch, &mut call.out] {
         lent.fill(MARK);
     }
     for lent in [&mut call.order, &mut call.out_lengths] {
@@ -136,7 +136,7 @@ fn with_marks_in_slice_call(mut call: SliceCall) -> SliceCall {
 
 fn too_long_ring_call() -> RingCall {
     let ring = vec![0.0; 2 * MOST_COORDINATES + 2];
-    RingCall { ring, bounds: [0.0; 4], scratch_a: marks(2), scratch_b: marks(2), out: marks(2) }
+    RingCall { ring, bounds: [0.0; 4], scratch: marks(2), out: marks(2) }
 }
 
 fn too_long_slice_call() -> SliceCall {
@@ -148,8 +148,7 @@ fn too_long_slice_call() -> SliceCall {
         buffer: 0.0,
         coords: vec![0.0; 2 * coordinates],
         lengths: vec![coordinates as u32],
-        scratch_a: marks(2),
-        scratch_b: marks(2),
+        scratch: marks(2),
         order: vec![WHOLE_MARK; 2],
         out: marks(2),
         out_lengths: vec![WHOLE_MARK],

@@ -101,13 +101,7 @@ fn overflowing_differences_close_twice() {
 /// What a ring call answers and the numbers it writes.
 fn assert_cut_ring(ring: &[f64], expected: &[f64]) {
     let lent = vec![1.0; 64];
-    let call = RingCall {
-        ring: ring.to_vec(),
-        bounds: [0.0, 0.0, 10.0, 10.0],
-        scratch_a: lent.clone(),
-        scratch_b: lent.clone(),
-        out: lent,
-    };
+    let call = RingCall { ring: ring.to_vec(), bounds: [0.0, 0.0, 10.0, 10.0], scratch: lent.clone(), out: lent };
     let cut = oracle::ring_call(&call).unwrap();
     assert!(same_numbers(&cut, expected), "the Rust, {ring:?}: {cut:?}");
     let after = compare::calls::ring_call(&Reading::RIGHT, &call);

@@ -1,5 +1,6 @@
 //! Ring calls and slice calls with the slices lent to them, and what a call leaves there: after a refusal everything as it
-//! was; after a success scratch and order zero from end to end, and the output past the answer as it was.
+//! was; after a success scratch and order zero from end to end, and the output zero from the answer's end as far as 22 asks
+//! for room, whatever the answer is. Past that the output is as it was, and so is the second length slice past a cut's lengths.
 
 use std::fmt::Debug;
 
@@ -15,8 +16,7 @@ pub const MOST_COORDINATES: usize = 65_536;
 pub struct RingCall {
     pub ring: Vec<f64>,
     pub bounds: Bounds,
-    pub scratch_a: Vec<f64>,
-    pub scratch_b: Vec<f64>,
+    pub scratch: Vec<f64>,
     pub out: Vec<f64>,
 }
 
@@ -24,23 +24,30 @@ pub struct RingCall {
 #[derive(Clone, Debug)]
 pub struct RingAfter {
     pub answer: i64,
-    pub scratch_a: Vec<f64>,
-    pub scratch_b: Vec<f64>,
+    pub scratch: Vec<f64>,
     pub out: Vec<f64>,
 }
 
 impl RingCall {
-    /// The refusal, if any; lengths are taken unclosed.
+    /// The numbers that 21 asks of the scratch slice and 22 of the output; lengths are taken unclosed.
+    pub fn room(&self) -> usize {
+        2 * most_cut(self.ring.len() / 2)
+    }
+
+    /// How many numbers of the output a call with that answer writes, its zeros among them.
+    pub fn written(&self, answer: &Result<Vec<f64>, Refusal>) -> usize {
+        answer.as_ref().map_or(0, |_| self.room())
+    }
+
+    /// The refusal, if any.
     pub fn refusal(&self) -> Option<Refusal> {
-        let coordinates = self.ring.len() / 2;
-        let room = 2 * most_cut(coordinates);
         if self.ring.len() % 2 == 1 {
             Some(19)
-        } else if coordinates > MOST_COORDINATES {
+        } else if self.ring.len() / 2 > MOST_COORDINATES {
             Some(20)
-        } else if self.scratch_a.len() < room || self.scratch_b.len() < room {
+        } else if self.scratch.len() < self.room() {
             Some(21)
-        } else if self.out.len() < room {
+        } else if self.out.len() < self.room() {
             Some(22)
         } else {
             None
@@ -49,17 +56,13 @@ impl RingCall {
 
     pub fn after(&self, answer: &Result<Vec<f64>, Refusal>) -> RingAfter {
         match answer {
-            Err(refusal) => RingAfter {
-                answer: -i64::from(*refusal),
-                scratch_a: self.scratch_a.clone(),
-                scratch_b: self.scratch_b.clone(),
-                out: self.out.clone(),
-            },
+            Err(refusal) => {
+                RingAfter { answer: -i64::from(*refusal), scratch: self.scratch.clone(), out: self.out.clone() }
+            }
             Ok(numbers) => RingAfter {
                 answer: numbers.len() as i64 / 2,
-                scratch_a: vec![0.0; self.scratch_a.len()],
-                scratch_b: vec![0.0; self.scratch_b.len()],
-                out: written_over(&self.out, numbers),
+                scratch: vec![0.0; self.scratch.len()],
+                out: padded(&self.out, numbers, self.room()),
             },
         }
     }
@@ -68,11 +71,7 @@ impl RingCall {
 impl RingAfter {
     /// The first thing that is not the same in the other; a NaN's bits are free.
     pub fn difference(&self, other: &Self) -> Option<String> {
-        let numbers = [
-            ("scratch a", &self.scratch_a, &other.scratch_a),
-            ("scratch b", &self.scratch_b, &other.scratch_b),
-            ("output", &self.out, &other.out),
-        ];
+        let numbers = [("scratch", &self.scratch, &other.scratch), ("output", &self.out, &other.out)];
         difference_in([self.answer, other.answer], &numbers, &[])
     }
 }
@@ -86,8 +85,7 @@ pub struct SliceCall {
     pub buffer: f64,
     pub coords: Vec<f64>,
     pub lengths: Vec<u32>,
-    pub scratch_a: Vec<f64>,
-    pub scratch_b: Vec<f64>,
+    pub scratch: Vec<f64>,
     pub order: Vec<u32>,
     pub out: Vec<f64>,
     pub out_lengths: Vec<u32>,
@@ -113,14 +111,21 @@ impl SliceAnswer {
             SliceAnswer::Overlay(reason) => 5 + 256 * i64::from(*reason),
         }
     }
+
+    /// The rings that a cut writes; any other answer writes none.
+    pub fn cut_rings(&self) -> &[Ring] {
+        match self {
+            SliceAnswer::Cut(rings) => rings,
+            _ => &[],
+        }
+    }
 }
 
 /// What a slice call answers, minus the number for a refusal, and the lent slices afterwards.
 #[derive(Clone, Debug)]
 pub struct SliceAfter {
     pub answer: i64,
-    pub scratch_a: Vec<f64>,
-    pub scratch_b: Vec<f64>,
+    pub scratch: Vec<f64>,
     pub order: Vec<u32>,
     pub out: Vec<f64>,
     pub out_lengths: Vec<u32>,
@@ -144,19 +149,27 @@ impl SliceCall {
 
     /// The refusal 20 to 22 of rings that the lengths fit, if any; lengths are taken closed.
     pub fn refusal(&self, rings: &[Ring]) -> Option<Refusal> {
-        let closed: Vec<usize> = rings.iter().map(|ring| closed_length(ring)).collect();
-        let largest = closed.iter().map(|&n| most_cut(n)).max().unwrap_or(0);
-        let sum: usize = closed.iter().map(|&n| most_cut(n)).sum();
-        if closed.iter().sum::<usize>() > MOST_COORDINATES {
+        let coordinates: usize = rings.iter().map(|ring| closed_length(ring)).sum();
+        let largest = rooms(rings).max().unwrap_or(0);
+        if coordinates > MOST_COORDINATES {
             Some(20)
-        } else if self.scratch_a.len() < 2 * largest || self.scratch_b.len() < 2 * largest || self.order.len() < largest
-        {
+        } else if self.scratch.len() < 2 * largest || self.order.len() < largest {
             Some(21)
-        } else if self.out.len() < 2 * sum || self.out_lengths.len() < rings.len() {
+        } else if self.out.len() < 2 * rooms(rings).sum::<usize>() || self.out_lengths.len() < rings.len() {
             Some(22)
         } else {
             None
         }
+    }
+
+    /// The numbers that 22 asks of the output; none where the lengths don't fit the numbers.
+    pub fn room(&self) -> usize {
+        self.rings().map_or(0, |rings| 2 * rooms(&rings).sum::<usize>())
+    }
+
+    /// How many numbers of the output a call with that answer writes, its zeros among them.
+    pub fn written(&self, answer: &Result<SliceAnswer, Refusal>) -> usize {
+        answer.as_ref().map_or(0, |_| self.room())
     }
 
     pub fn after(&self, answer: &Result<SliceAnswer, Refusal>) -> SliceAfter {
@@ -164,19 +177,14 @@ impl SliceCall {
             Err(refusal) => return self.untouched(-i64::from(*refusal)),
             Ok(answer) => answer,
         };
-        let (numbers, lengths) = match answer {
-            SliceAnswer::Cut(rings) => (
-                rings.iter().flat_map(|ring| flat(ring)).collect(),
-                rings.iter().map(|ring| ring.len() as u32).collect(),
-            ),
-            _ => (Vec::new(), Vec::new()),
-        };
+        let rings = answer.cut_rings();
+        let numbers: Vec<f64> = rings.iter().flat_map(|ring| flat(ring)).collect();
+        let lengths: Vec<u32> = rings.iter().map(|ring| ring.len() as u32).collect();
         SliceAfter {
             answer: answer.code(),
-            scratch_a: vec![0.0; self.scratch_a.len()],
-            scratch_b: vec![0.0; self.scratch_b.len()],
+            scratch: vec![0.0; self.scratch.len()],
             order: vec![0; self.order.len()],
-            out: written_over(&self.out, &numbers),
+            out: padded(&self.out, &numbers, self.room()),
             out_lengths: written_over(&self.out_lengths, &lengths),
         }
     }
@@ -184,8 +192,7 @@ impl SliceCall {
     fn untouched(&self, answer: i64) -> SliceAfter {
         SliceAfter {
             answer,
-            scratch_a: self.scratch_a.clone(),
-            scratch_b: self.scratch_b.clone(),
+            scratch: self.scratch.clone(),
             order: self.order.clone(),
             out: self.out.clone(),
             out_lengths: self.out_lengths.clone(),
@@ -196,14 +203,15 @@ impl SliceCall {
 impl SliceAfter {
     /// The first thing that is not the same in the other; a NaN's bits are free.
     pub fn difference(&self, other: &Self) -> Option<String> {
-        let numbers = [
-            ("scratch a", &self.scratch_a, &other.scratch_a),
-            ("scratch b", &self.scratch_b, &other.scratch_b),
-            ("output", &self.out, &other.out),
-        ];
+        let numbers = [("scratch", &self.scratch, &other.scratch), ("output", &self.out, &other.out)];
         let wholes = [("order", &self.order, &other.order), ("lengths", &self.out_lengths, &other.out_lengths)];
         difference_in([self.answer, other.answer], &numbers, &wholes)
     }
+}
+
+/// B of each ring, closed.
+fn rooms(rings: &[Ring]) -> impl Iterator<Item = usize> + '_ {
+    rings.iter().map(|ring| most_cut(closed_length(ring)))
 }
 
 /// A slice of either side, by its name.
@@ -239,23 +247,74 @@ pub(crate) fn written_over<T: Copy>(lent: &[T], answer: &[T]) -> Vec<T> {
     [answer, &lent[answer.len()..]].concat()
 }
 
+/// A lent output with an answer written from its front and zeros from there up to `room` numbers.
+fn padded(lent: &[f64], answer: &[f64], room: usize) -> Vec<f64> {
+    let mut after = lent.to_vec();
+    after.iter_mut().take(room).for_each(|number| *number = 0.0);
+    written_over(&after, answer)
+}
+
 #[cfg(test)]
 mod tests {
-    use super::RingAfter;
+    use super::{RingAfter, RingCall, SliceAnswer, SliceCall};
 
     #[test]
     fn differences_are_named() {
-        let after = |answer: i64, out: &[f64]| RingAfter {
-            answer,
-            scratch_a: vec![0.0; 2],
-            scratch_b: vec![0.0; 2],
-            out: out.to_vec(),
-        };
+        let after = |answer: i64, out: &[f64]| RingAfter { answer, scratch: vec![0.0; 2], out: out.to_vec() };
         let negative_nan = f64::from_bits(0xfff8_0000_0000_0001);
         assert_eq!(after(1, &[f64::NAN, 2.0]).difference(&after(1, &[negative_nan, 2.0])), None);
         let difference = |other: RingAfter| after(1, &[0.0, 2.0]).difference(&other).unwrap();
         assert_eq!(difference(after(-22, &[0.0, 2.0])), "answer, value 0: 1 and -22");
         assert_eq!(difference(after(1, &[-0.0, 2.0])), "output, value 0: 0.0 and -0.0");
         assert_eq!(difference(after(1, &[0.0])), "output: 2 values and 1");
+        let other_scratch = RingAfter { scratch: vec![0.0, -0.0], ..after(1, &[0.0, 2.0]) };
+        assert_eq!(difference(other_scratch), "scratch, value 1: 0.0 and -0.0");
+    }
+
+    /// B(1) is 3, so that 22 asks for six numbers.
+    #[test]
+    fn a_ring_call_leaves_zeros_as_far_as_22_asks() {
+        let lent: Vec<f64> = (1..=8).map(f64::from).collect();
+        let call = RingCall { ring: vec![5.0, 5.0], bounds: [0.0; 4], scratch: lent.clone(), out: lent.clone() };
+        assert_eq!(call.room(), 6);
+        let none = call.after(&Ok(Vec::new()));
+        assert_eq!((none.answer, none.scratch), (0, vec![0.0; 8]));
+        assert_eq!(none.out, [0.0, 0.0, 0.0, 0.0, 0.0, 0.0, 7.0, 8.0]);
+        let some = call.after(&Ok(vec![9.0; 4]));
+        assert_eq!((some.answer, some.out), (2, vec![9.0, 9.0, 9.0, 9.0, 0.0, 0.0, 7.0, 8.0]));
+        let refused = call.after(&Err(22));
+        assert_eq!((refused.answer, refused.scratch, refused.out), (-22, lent.clone(), lent));
+    }
+
+    /// The first ring is closed by a second coordinate and the second is empty: 2 x B(2) numbers and no more. Where it is
+    /// refused or not cut, the second length slice is as it was.
+    #[test]
+    fn a_slice_call_leaves_zeros_as_far_as_22_asks() {
+        let call = SliceCall {
+            assume_simple: false,
+            skip_boundary_fallback: false,
+            bounds: [0.0; 4],
+            buffer: 0.0,
+            coords: vec![f64::NAN, 5.0],
+            lengths: vec![1, 0],
+            scratch: vec![7.0; 22],
+            order: vec![7; 11],
+            out: vec![7.0; 24],
+            out_lengths: vec![7; 3],
+        };
+        assert_eq!(call.room(), 22);
+        let zeros_behind = |numbers: &[f64]| [numbers, &vec![0.0; 22 - numbers.len()], &[7.0; 2]].concat();
+        for answer in [SliceAnswer::Nothing, SliceAnswer::Dropped, SliceAnswer::Unchanged, SliceAnswer::Overlay(2)] {
+            let after = call.after(&Ok(answer));
+            assert_eq!((after.out, after.out_lengths), (zeros_behind(&[]), vec![7; 3]));
+            assert_eq!((after.scratch, after.order), (vec![0.0; 22], vec![0; 11]));
+        }
+        let cut = call.after(&Ok(SliceAnswer::Cut(vec![vec![(1.0, 2.0); 3]])));
+        assert_eq!((cut.out, cut.out_lengths), (zeros_behind(&[1.0, 2.0, 1.0, 2.0, 1.0, 2.0]), vec![3, 7, 7]));
+        let refused = call.after(&Err(19));
+        assert_eq!((refused.scratch, refused.out), (call.scratch.clone(), call.out.clone()));
+        assert_eq!((refused.order, refused.out_lengths), (call.order.clone(), call.out_lengths.clone()));
+        let unfit = SliceCall { lengths: vec![2], ..call };
+        assert_eq!(unfit.room(), 0);
     }
 }

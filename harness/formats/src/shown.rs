@@ -23,8 +23,7 @@ pub fn shortened<T: Debug>(values: &[T]) -> String {
 impl Display for RingCall {
     fn fmt(&self, f: &mut fmt::Formatter) -> fmt::Result {
         write!(f, "ring {} in {:?}, ", shortened(&self.ring), self.bounds)?;
-        write!(f, "lent scratch {} and {}, ", self.scratch_a.len(), self.scratch_b.len())?;
-        write!(f, "output {}", self.out.len())
+        write!(f, "lent scratch {}, output {}", self.scratch.len(), self.out.len())
     }
 }
 
@@ -33,8 +32,8 @@ impl Display for SliceCall {
         write!(f, "numbers {} of lengths {:?} ", shortened(&self.coords), self.lengths)?;
         write!(f, "in {:?}, buffer {:?}, ", self.bounds, self.buffer)?;
         write!(f, "assume_simple {}, skip_boundary_fallback {}, ", self.assume_simple, self.skip_boundary_fallback)?;
-        write!(f, "lent scratch {} and {}, ", self.scratch_a.len(), self.scratch_b.len())?;
-        write!(f, "order {}, output {}, lengths {}", self.order.len(), self.out.len(), self.out_lengths.len())
+        write!(f, "lent scratch {}, order {}, ", self.scratch.len(), self.order.len())?;
+        write!(f, "output {}, lengths {}", self.out.len(), self.out_lengths.len())
     }
 }
 

@@ -7,6 +7,9 @@ use crate::{flat, pairs, Bounds, Refusal};
 pub const MARK: f64 = 7.25;
 pub const WHOLE_MARK: u32 = 77;
 
+/// The longest slice to write to that a program which replays has room for.
+pub const MOST_LENT: usize = 4_096;
+
 pub type RingVector = (RingCall, Result<Vec<f64>, Refusal>);
 pub type SliceVector = (SliceCall, Result<SliceAnswer, Refusal>);
 
@@ -14,23 +17,27 @@ pub type SliceVector = (SliceCall, Result<SliceAnswer, Refusal>);
 pub fn encode_rings(vectors: &[RingVector]) -> Vec<u8> {
     let mut bytes = Writer::new(vectors.len());
     for (call, answer) in vectors {
-        bytes.wholes(&[call.scratch_a.len(), call.scratch_b.len(), call.out.len()]);
+        bytes.wholes(&[call.scratch.len(), call.out.len()]);
         bytes.numbers(&call.bounds);
         bytes.lent(&call.ring);
         bytes.code(&answer.as_ref().map(|numbers| numbers.len() as i64 / 2));
+        bytes.wholes(&[call.written(answer)]);
         bytes.numbers(answer.as_deref().unwrap_or_default());
     }
     bytes.0
 }
 
-pub fn decode_rings(bytes: &[u8]) -> Vec<RingVector> {
+/// The ring calls of a file, each with the count of numbers that the file says are written.
+pub fn decode_rings(bytes: &[u8]) -> Vec<(RingVector, usize)> {
     let mut bytes = Reader { rest: bytes };
     let vector = |bytes: &mut Reader| {
-        let [scratch_a, scratch_b, out] = bytes.wholes().map(marks);
+        let [scratch, out] = bytes.wholes().map(marks);
         let bounds = bytes.bounds();
-        let call = RingCall { ring: bytes.lent(), bounds, scratch_a, scratch_b, out };
-        let answer = bytes.code().map(|count| bytes.numbers(2 * count as usize));
-        (call, answer)
+        let call = RingCall { ring: bytes.lent(), bounds, scratch, out };
+        let code = bytes.code();
+        let [written] = bytes.wholes();
+        let answer = code.map(|count| bytes.numbers(2 * count as usize));
+        ((call, answer), written)
     };
     bytes.all(vector)
 }
@@ -40,27 +47,27 @@ pub fn encode_slices(vectors: &[SliceVector]) -> Vec<u8> {
     let mut bytes = Writer::new(vectors.len());
     for (call, answer) in vectors {
         let flags = usize::from(call.assume_simple) + 2 * usize::from(call.skip_boundary_fallback);
-        bytes.wholes(&[flags, call.scratch_a.len(), call.scratch_b.len(), call.order.len()]);
-        bytes.wholes(&[call.out.len(), call.out_lengths.len()]);
+        bytes.wholes(&[flags, call.scratch.len(), call.order.len(), call.out.len(), call.out_lengths.len()]);
         bytes.numbers(&call.bounds);
         bytes.numbers(&[call.buffer]);
         bytes.wholes(&[call.lengths.len()]);
         call.lengths.iter().for_each(|&length| bytes.wholes(&[length as usize]));
         bytes.lent(&call.coords);
         bytes.code(&answer.as_ref().map(SliceAnswer::code));
-        if let Ok(SliceAnswer::Cut(rings)) = answer {
-            rings.iter().for_each(|ring| bytes.wholes(&[ring.len()]));
-            rings.iter().for_each(|ring| bytes.numbers(&flat(ring)));
-        }
+        let rings = answer.as_ref().map_or(&[][..], SliceAnswer::cut_rings);
+        rings.iter().for_each(|ring| bytes.wholes(&[ring.len()]));
+        bytes.wholes(&[call.written(answer)]);
+        rings.iter().for_each(|ring| bytes.numbers(&flat(ring)));
     }
     bytes.0
 }
 
-pub fn decode_slices(bytes: &[u8]) -> Vec<SliceVector> {
+/// The slice calls of a file, each with the count of numbers that the file says are written.
+pub fn decode_slices(bytes: &[u8]) -> Vec<(SliceVector, usize)> {
     let mut bytes = Reader { rest: bytes };
     let vector = |bytes: &mut Reader| {
         let [flags] = bytes.wholes();
-        let [scratch_a, scratch_b] = bytes.wholes().map(marks);
+        let [scratch] = bytes.wholes().map(marks);
         let [order] = bytes.wholes().map(|length| vec![WHOLE_MARK; length]);
         let [out] = bytes.wholes().map(marks);
         let [out_lengths] = bytes.wholes().map(|length| vec![WHOLE_MARK; length]);
@@ -74,14 +81,16 @@ pub fn decode_slices(bytes: &[u8]) -> Vec<SliceVector> {
             buffer,
             lengths,
             coords: bytes.lent(),
-            scratch_a,
-            scratch_b,
+            scratch,
             order,
             out,
             out_lengths,
         };
-        let answer = bytes.code().map(|code| bytes.slice_answer(code));
-        (call, answer)
+        let code = bytes.code();
+        let lengths = bytes.cut_lengths(&code);
+        let [written] = bytes.wholes();
+        let answer = code.map(|code| bytes.slice_answer(code, &lengths));
+        ((call, answer), written)
     };
     bytes.all(vector)
 }
@@ -174,16 +183,98 @@ impl Reader<'_> {
         }
     }
 
-    fn slice_answer(&mut self, code: i64) -> SliceAnswer {
+    /// The length of each ring of a cut; any other answer has none.
+    fn cut_lengths(&mut self, code: &Result<i64, Refusal>) -> Vec<usize> {
+        let rings = code.map_or(0, |code| code >> 16);
+        (0..rings).map(|_| self.whole() as usize).collect()
+    }
+
+    fn slice_answer(&mut self, code: i64, lengths: &[usize]) -> SliceAnswer {
         match code & 0xff {
             0 => SliceAnswer::Nothing,
             1 => SliceAnswer::Dropped,
             2 => SliceAnswer::Unchanged,
-            4 => {
-                let lengths: Vec<u32> = (0..code >> 16).map(|_| self.whole()).collect();
-                SliceAnswer::Cut(lengths.iter().map(|&length| pairs(&self.numbers(2 * length as usize))).collect())
-            }
+            4 => SliceAnswer::Cut(lengths.iter().map(|&length| pairs(&self.numbers(2 * length))).collect()),
             _ => SliceAnswer::Overlay((code >> 8) as u8),
         }
+    }
+}
+
+#[cfg(test)]
+mod tests {
+    use super::*;
+
+    fn whole_at(bytes: &[u8], at: usize) -> u32 {
+        u32::from_le_bytes(bytes[at..at + 4].try_into().unwrap())
+    }
+
+    fn number_at(bytes: &[u8], at: usize) -> f64 {
+        f64::from_le_bytes(bytes[at..at + 8].try_into().unwrap())
+    }
+
+    /// The places of what a program that replays reads, byte by byte: the count of calls, a head of 48 bytes, the numbers
+    /// lent, the code, how many numbers are written, and the answer's own.
+    #[test]
+    fn a_ring_call_stands_in_its_places() {
+        let call = RingCall {
+            ring: vec![1.0, 2.0, 0.0, 0.0],
+            bounds: [3.0, 4.0, 5.0, 6.0],
+            scratch: marks(22),
+            out: marks(23),
+        };
+        let vectors = [(call.clone(), Ok(vec![8.0, 9.0])), (call, Err(21))];
+        let bytes = encode_rings(&vectors);
+        assert_eq!([0, 4, 8, 44, 48].map(|at| whole_at(&bytes, at)), [2, 22, 23, 4, 2]);
+        assert_eq!([12, 20, 28, 36].map(|at| number_at(&bytes, at)), [3.0, 4.0, 5.0, 6.0]);
+        assert_eq!([52, 60].map(|at| number_at(&bytes, at)), [1.0, 2.0]);
+        // One coordinate, and of the output 22 numbers are written.
+        assert_eq!([68, 72, 76].map(|at| whole_at(&bytes, at)), [1, 0, 22]);
+        assert_eq!([80, 88].map(|at| number_at(&bytes, at)), [8.0, 9.0]);
+        // A refusal writes none.
+        let refused = &bytes[96..];
+        assert_eq!(refused[64..72], (-21_i64).to_le_bytes());
+        assert_eq!((whole_at(refused, 72), refused.len()), (0, 76));
+        let decoded = decode_rings(&bytes);
+        assert_eq!(decoded.iter().map(|(_, written)| *written).collect::<Vec<_>>(), [22, 0]);
+        let again: Vec<RingVector> = decoded.into_iter().map(|(vector, _)| vector).collect();
+        assert_eq!(encode_rings(&again), bytes);
+    }
+
+    /// So with a slice call: a head of 64 bytes, the lengths, the numbers, the code, a cut's lengths, how many numbers are
+    /// written, and the cut's own.
+    #[test]
+    fn a_slice_call_stands_in_its_places() {
+        let call = SliceCall {
+            assume_simple: false,
+            skip_boundary_fallback: true,
+            bounds: [3.0, 4.0, 5.0, 6.0],
+            buffer: 7.0,
+            coords: vec![1.0, 2.0],
+            lengths: vec![1, 0],
+            scratch: marks(6),
+            order: vec![WHOLE_MARK; 3],
+            out: marks(8),
+            out_lengths: vec![WHOLE_MARK; 2],
+        };
+        let answers = [Ok(SliceAnswer::Cut(vec![vec![(8.0, 9.0)]])), Ok(SliceAnswer::Dropped), Err(22)];
+        let vectors: Vec<SliceVector> = answers.into_iter().map(|answer| (call.clone(), answer)).collect();
+        let bytes = encode_slices(&vectors);
+        assert_eq!([0, 4, 8, 12, 16, 20].map(|at| whole_at(&bytes, at)), [3, 2, 6, 3, 8, 2]);
+        assert_eq!([24, 32, 40, 48, 56].map(|at| number_at(&bytes, at)), [3.0, 4.0, 5.0, 6.0, 7.0]);
+        assert_eq!([64, 68, 72, 76, 80].map(|at| whole_at(&bytes, at)), [2, 1, 0, 2, 2]);
+        assert_eq!([84, 92].map(|at| number_at(&bytes, at)), [1.0, 2.0]);
+        // Cut to one ring of one coordinate, and of the output six numbers are written.
+        assert_eq!([100, 104, 108, 112].map(|at| whole_at(&bytes, at)), [4 + 65_536, 0, 1, 6]);
+        assert_eq!([116, 124].map(|at| number_at(&bytes, at)), [8.0, 9.0]);
+        // Dropped writes as many, all zeros; a refusal writes none.
+        let dropped = &bytes[132..];
+        assert_eq!([96, 100, 104].map(|at| whole_at(dropped, at)), [1, 0, 6]);
+        let refused = &dropped[108..];
+        assert_eq!(refused[96..104], (-22_i64).to_le_bytes());
+        assert_eq!((whole_at(refused, 104), refused.len()), (0, 108));
+        let decoded = decode_slices(&bytes);
+        assert_eq!(decoded.iter().map(|(_, written)| *written).collect::<Vec<_>>(), [6, 6, 0]);
+        let again: Vec<SliceVector> = decoded.into_iter().map(|(vector, _)| vector).collect();
+        assert_eq!(encode_slices(&again), bytes);
     }
 }

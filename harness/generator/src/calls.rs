@@ -25,13 +25,7 @@ pub fn ring_call(style: Style, seed: u64, index: u64) -> RingCall {
         ring.push(any_bits(rng));
     }
     let needed = if long && has_little_room(rng) { LITTLE } else { 2 * most_cut(ring.len() / 2) };
-    RingCall {
-        ring,
-        bounds: scene.bounds,
-        scratch_a: lent_numbers(needed, rng),
-        scratch_b: lent_numbers(needed, rng),
-        out: lent_numbers(needed, rng),
-    }
+    RingCall { ring, bounds: scene.bounds, scratch: lent_numbers(needed, rng), out: lent_numbers(needed, rng) }
 }
 
 pub fn slice_call(style: Style, seed: u64, index: u64) -> SliceCall {
@@ -57,8 +51,7 @@ pub fn slice_call(style: Style, seed: u64, index: u64) -> SliceCall {
         buffer: scene.buffer,
         coords,
         lengths,
-        scratch_a: lent_numbers(2 * largest, rng),
-        scratch_b: lent_numbers(2 * largest, rng),
+        scratch: lent_numbers(2 * largest, rng),
         order: lent_positions(largest, rng),
         out: lent_numbers(2 * sum, rng),
         out_lengths: lent_positions(part.len(), rng),

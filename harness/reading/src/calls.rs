@@ -1,4 +1,7 @@
-//! Ring calls, slice calls and single passes: their answers, and what they leave in the slices lent to them.
+//! Ring calls, slice calls and single passes: their answers, and what they leave in the slices lent to them. One scratch slice
+//! is lent, and a success leaves zeros in the output past the answer: document 02, point 4.
+
+use std::iter;
 
 use crate::cut::{Passed, Side};
 use crate::polygon::{Bounds, Box4, Flags, Routed};
@@ -11,7 +14,7 @@ const MOST_COORDINATES: usize = 65_536;
 /// The slices lent to a call; a ring call has no order slice and no second length slice.
 #[derive(Clone, Debug, Default)]
 pub struct Lent {
-    pub scratch: [Vec<f64>; 2],
+    pub scratch: Vec<f64>,
     pub order: Vec<u32>,
     pub out: Vec<f64>,
     pub out_lengths: Vec<u32>,
@@ -24,6 +27,22 @@ pub struct Slices<'a> {
     pub buffer: f64,
     pub coords: &'a [f64],
     pub lengths: &'a [u32],
+}
+
+/// The room that a call asks for, in coordinates.
+#[derive(Clone, Copy)]
+struct Room {
+    /// S: what the scratch slice has to hold, and the order slice.
+    largest: usize,
+    /// The sum of the B: what the output has to hold, and how far it is written.
+    sum: usize,
+}
+
+/// What an answer writes: numbers from the front of the output, lengths from the front of the second length slice.
+#[derive(Default)]
+struct Written {
+    numbers: Vec<f64>,
+    lengths: Vec<u32>,
 }
 
 /// How many vertices a pass wrote, and how many verdicts it worked out.
@@ -53,37 +72,38 @@ impl Reading {
         self.begin(lent);
         match self.ring_answer(ring, bounds, lent) {
             Err(refusal) => -i64::from(refusal),
-            Ok(cut) => {
-                let answer = cut.len() as i64;
-                self.leave(lent, b(ring.len() / 2), &[cut]);
-                answer
+            Ok((cut, room)) => {
+                let written = Written { numbers: numbers_of(&cut), lengths: Vec::new() };
+                self.leave(lent, room, &written);
+                cut.len() as i64
             }
         }
     }
 
-    fn ring_answer(&self, ring: &[f64], bounds: [f64; 4], lent: &Lent) -> Result<Vec<Vertex>, u8> {
+    /// The cut ring, and B of the ring as it is lent.
+    fn ring_answer(&self, ring: &[f64], bounds: [f64; 4], lent: &Lent) -> Result<(Vec<Vertex>, Room), u8> {
         if ring.len() % 2 == 1 {
             return Err(19);
         }
-        let coordinates = ring.len() / 2;
-        if self.too_many(coordinates) {
+        let ring = vertices(ring);
+        if self.too_many(ring.len()) {
             return Err(20);
         }
-        let needed = 2 * b(coordinates);
-        if lent.scratch.iter().any(|scratch| scratch.len() < needed) {
+        let room = b(self.length_in_ring_call(&ring));
+        if lent.scratch.len() < 2 * room && !self.makes(Mistake::ScratchUnseen) {
             return Err(21);
         }
-        if !self.makes(Mistake::RoomByAnswer) && lent.out.len() < needed {
+        if lent.out.len() < 2 * room && !self.makes(Mistake::RoomByAnswer) {
             return Err(22);
         }
-        let mut cut = self.cut_ring(&vertices(ring), &Box4::from_numbers(bounds));
+        let mut cut = self.cut_ring(&ring, &Box4::from_numbers(bounds));
         if self.makes(Mistake::ClosesTwiceInRingCall) {
             self.close(&mut cut);
         }
         if lent.out.len() < 2 * cut.len() {
             return Err(22);
         }
-        Ok(cut)
+        Ok((cut, Room { largest: room, sum: room }))
     }
 
     /// The answer + 256 x reason + 65,536 x rings of a cut, or minus the number of the refusal.
@@ -91,36 +111,39 @@ impl Reading {
         self.begin(lent);
         match self.slice_answer(slices, lent) {
             Err(refusal) => -i64::from(refusal),
-            Ok((routed, largest)) => {
-                let (answer, rings) = match routed {
-                    Routed::Nothing => (0, Vec::new()),
-                    Routed::Dropped => (1, Vec::new()),
-                    Routed::Unchanged => (2, Vec::new()),
-                    Routed::Cut(rings) => (4 + 65_536 * rings.len() as i64, rings),
-                    Routed::Overlay(reason) => (5 + 256 * i64::from(reason), Vec::new()),
-                };
-                self.leave(lent, largest, &rings);
-                answer
+            Ok((routed, mut room)) => {
+                if self.makes(Mistake::ClearsByUnclosedLengths) {
+                    room.sum = slices.lengths.iter().map(|&length| b(length as usize)).sum();
+                }
+                let written = self.written(slices, &routed);
+                self.leave(lent, room, &written);
+                match routed {
+                    Routed::Nothing => 0,
+                    Routed::Dropped => 1,
+                    Routed::Unchanged => 2,
+                    Routed::Cut(rings) => 4 + 65_536 * rings.len() as i64,
+                    Routed::Overlay(reason) => 5 + 256 * i64::from(reason),
+                }
             }
         }
     }
 
-    /// What becomes of the polygon, and S.
-    fn slice_answer(&self, slices: &Slices, lent: &Lent) -> Result<(Routed, usize), u8> {
+    /// What becomes of the polygon, and the room that it asks for.
+    fn slice_answer(&self, slices: &Slices, lent: &Lent) -> Result<(Routed, Room), u8> {
         let rings = self.lent_rings(slices).ok_or(19)?;
         let lengths: Vec<usize> = rings.iter().map(|ring| self.length_for_room(ring)).collect();
-        let largest = self.test_lengths(&lengths, lent)?;
+        let room = self.test_lengths(&lengths, lent)?;
         let routed = self.polygon(&self.closed(&rings), &Bounds::new(slices.bounds, slices.buffer), slices.flags);
         match &routed {
             Routed::Cut(cut) if lent.out.len() < 2 * cut.concat().len() || lent.out_lengths.len() < cut.len() => {
                 Err(22)
             }
-            _ => Ok((routed, largest)),
+            _ => Ok((routed, room)),
         }
     }
 
-    /// 20 to 22 of a slice call whose rings have these lengths; else S.
-    fn test_lengths(&self, lengths: &[usize], lent: &Lent) -> Result<usize, u8> {
+    /// 20 to 22 of a slice call whose rings have these lengths; else the room that they ask for.
+    fn test_lengths(&self, lengths: &[usize], lent: &Lent) -> Result<Room, u8> {
         let too_many = if self.makes(Mistake::LimitByRing) {
             lengths.iter().any(|&length| self.too_many(length))
         } else {
@@ -131,15 +154,33 @@ impl Reading {
         }
         let looked_at = if self.makes(Mistake::ScratchByExterior) { &lengths[..1] } else { lengths };
         let largest = looked_at.iter().map(|&n| b(n)).fold(0, usize::max);
-        if lent.scratch.iter().any(|scratch| scratch.len() < 2 * largest) || lent.order.len() < largest {
+        let sum: usize = lengths.iter().map(|&n| b(n)).sum();
+        let asked = if self.makes(Mistake::ScratchBySum) { sum } else { largest };
+        let short = lent.scratch.len() < 2 * asked && !self.makes(Mistake::ScratchUnseen);
+        if short || lent.order.len() < largest {
             return Err(21);
         }
-        let sum: usize = lengths.iter().map(|&n| b(n)).sum();
         let no_room = lent.out.len() < 2 * sum || lent.out_lengths.len() < lengths.len();
         if no_room && !self.makes(Mistake::RoomByAnswer) {
             return Err(22);
         }
-        Ok(largest)
+        Ok(Room { largest, sum })
+    }
+
+    /// A cut's rings and their lengths; any other answer writes neither.
+    fn written(&self, slices: &Slices, routed: &Routed) -> Written {
+        match routed {
+            Routed::Cut(rings) => Written {
+                numbers: numbers_of(&rings.concat()),
+                lengths: rings.iter().map(|ring| ring.len() as u32).collect(),
+            },
+            Routed::Overlay(2..) if self.makes(Mistake::OverlayLeavesCut) => {
+                let rings = self.closed(&self.lent_rings(slices).unwrap_or_default());
+                let cut = self.cut_rings(&rings, &Bounds::new(slices.bounds, slices.buffer));
+                Written { numbers: numbers_of(&cut.concat()), lengths: Vec::new() }
+            }
+            _ => Written::default(),
+        }
     }
 
     /// Whether a call is refused with 20 for so many coordinates.
@@ -170,27 +211,44 @@ impl Reading {
     /// Before anything is tested: rightly, nothing is written.
     fn begin(&self, lent: &mut Lent) {
         if self.makes(Mistake::WritesBeforeRefusing) {
-            lent.scratch[0].fill(0.0);
+            lent.scratch.fill(0.0);
         }
     }
 
-    /// What a success leaves: scratch and order all zeros, these rings from the front of the output and their lengths,
-    /// and what stood behind them.
-    fn leave(&self, lent: &mut Lent, largest: usize, rings: &[Vec<Vertex>]) {
-        let cleared = if self.makes(Mistake::ClearsScratchUsed) { largest } else { usize::MAX };
-        for scratch in &mut lent.scratch {
-            scratch.iter_mut().take(cleared.saturating_mul(2)).for_each(|number| *number = 0.0);
-        }
+    /// What a success leaves: scratch and order all zeros; the answer's numbers from the front of the output, zeros from there
+    /// as far as 22 asks for room, and what stood behind that; its lengths, and what stood behind them.
+    fn leave(&self, lent: &mut Lent, room: Room, written: &Written) {
+        let cleared = if self.makes(Mistake::ClearsScratchUsed) { room.largest } else { usize::MAX };
+        lent.scratch.iter_mut().take(cleared.saturating_mul(2)).for_each(|number| *number = 0.0);
         lent.order.iter_mut().take(cleared).for_each(|position| *position = 0);
-        let mut numbers: Vec<f64> = rings.iter().flatten().flat_map(|v| [v.x, v.y]).collect();
-        let mut lengths: Vec<u32> = rings.iter().map(|ring| ring.len() as u32).collect();
-        if self.makes(Mistake::ClearsOutputPastAnswer) {
-            numbers.resize(lent.out.len(), 0.0);
-        }
+
+        let Written { numbers, lengths } = written;
+        let zero = if self.makes(Mistake::ClearsWithNegativeZeros) { -0.0 } else { 0.0 };
+        let padded = numbers.iter().copied().chain(iter::repeat(zero));
+        let end = self.end_of_zeros(room, numbers.len());
+        lent.out.iter_mut().zip(padded).take(end).for_each(|(place, number)| *place = number);
+
+        lent.out_lengths.iter_mut().zip(lengths).for_each(|(place, &length)| *place = length);
         if self.makes(Mistake::ClearsLengthsPastAnswer) {
-            lengths.resize(lent.out_lengths.len(), 0);
+            lent.out_lengths[lengths.len()..].fill(0);
         }
-        lent.out.iter_mut().zip(numbers).for_each(|(place, number)| *place = number);
-        lent.out_lengths.iter_mut().zip(lengths).for_each(|(place, length)| *place = length);
     }
+
+    /// How far the output is written by an answer of so many numbers: whatever the answer is, as far as 22 asks for room.
+    fn end_of_zeros(&self, room: Room, numbers: usize) -> usize {
+        let is_left =
+            self.makes(Mistake::KeepsOutputPastAnswer) || (self.makes(Mistake::ClearsOnCutOnly) && numbers == 0);
+        if is_left {
+            numbers
+        } else if self.makes(Mistake::ClearsOutputToEnd) {
+            usize::MAX
+        } else {
+            numbers.max(2 * room.sum)
+        }
+    }
+}
+
+/// Vertices as x, y numbers.
+fn numbers_of(ring: &[Vertex]) -> Vec<f64> {
+    ring.iter().flat_map(|v| [v.x, v.y]).collect()
 }

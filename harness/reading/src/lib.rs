@@ -1,5 +1,5 @@
-//! A second reading of document 01 and of document 02's point 3, written from their text alone: it shares no code with the
-//! oracle. It can make one deliberate mistake, so that the generator can be shown to find it.
+//! A second reading of document 01 and of document 02's points 3 and 4, written from their text alone: it shares no code with
+//! the oracle. It can make one deliberate mistake, so that the generator can be shown to find it.
 
 mod calls;
 mod cut;

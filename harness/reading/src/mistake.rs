@@ -180,17 +180,27 @@ mistakes! {
     [RingCalls] {
         /// Closes a cut ring twice.
         ClosesTwiceInRingCall,
+        /// Takes the room for the ring closed.
+        RoomClosedInRingCall,
     }
 
     [RingCalls, SliceCalls] {
         /// Gives 20 for 65,536 coordinates.
         LimitIsTooMany,
+        /// Gives 21 for the order slice alone, which a ring call has not.
+        ScratchUnseen,
         /// Clears scratch only up to 2 x S, and order up to S.
         ClearsScratchUsed,
         /// Has already written when it refuses.
         WritesBeforeRefusing,
-        /// Clears the output past the answer.
-        ClearsOutputPastAnswer,
+        /// Leaves the output past the answer as it was.
+        KeepsOutputPastAnswer,
+        /// Clears the output past the answer to the slice's end.
+        ClearsOutputToEnd,
+        /// Clears the output behind a cut's numbers, and leaves it as it was where there are none.
+        ClearsOnCutOnly,
+        /// Clears the output with -0.0.
+        ClearsWithNegativeZeros,
     }
 
     [SliceCalls] {
@@ -200,6 +210,12 @@ mistakes! {
         WrapsLengths,
         /// Takes S over the exterior only.
         ScratchByExterior,
+        /// Asks of the scratch slice the sum of the B instead of the largest.
+        ScratchBySum,
+        /// Clears the output as far as the rings ask for room as they are lent.
+        ClearsByUnclosedLengths,
+        /// Leaves the cut in the output where it finds an overlay after it.
+        OverlayLeavesCut,
         /// Clears the second length slice past the answer.
         ClearsLengthsPastAnswer,
     }

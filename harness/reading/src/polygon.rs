@@ -129,11 +129,20 @@ impl Reading {
     }
 
     fn cut(&self, rings: &[Vec<Vertex>], bounds: &Bounds, flags: Flags) -> Routed {
-        let mut cut: Vec<Vec<Vertex>> = rings.iter().map(|ring| self.cut_ring(ring, &bounds.buffered)).collect();
+        let cut = self.cut_rings(rings, bounds);
         let fewest = if self.makes(Mistake::LeavesOutShortExterior) { 4 } else { 1 };
         if cut[0].len() < fewest {
             return Routed::Nothing;
         }
+        match self.reason(&cut, bounds, flags) {
+            Some(reason) => self.overlay(rings, reason),
+            None => Routed::Cut(cut),
+        }
+    }
+
+    /// The exterior, cut, and the cut holes that are not left out, as the polygon holds them.
+    pub fn cut_rings(&self, rings: &[Vec<Vertex>], bounds: &Bounds) -> Vec<Vec<Vertex>> {
+        let mut cut: Vec<Vec<Vertex>> = rings.iter().map(|ring| self.cut_ring(ring, &bounds.buffered)).collect();
         let fewest = if self.makes(Mistake::KeepsShortHoles) { 1 } else { 4 };
         let mut number = 0;
         cut.retain(|ring| {
@@ -143,10 +152,7 @@ impl Reading {
         if !self.makes(Mistake::ClosesCutRingsOnce) {
             cut.iter_mut().for_each(|ring| self.close(ring));
         }
-        match self.reason(&cut, bounds, flags) {
-            Some(reason) => self.overlay(rings, reason),
-            None => Routed::Cut(cut),
-        }
+        cut
     }
 
     /// Why the cut won't do, 2 to 6.

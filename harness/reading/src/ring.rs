@@ -65,6 +65,18 @@ impl Reading {
         if self.makes(Mistake::RoomUnclosed) || (self.makes(Mistake::NanSingleStaysOne) && lent.len() == 1) {
             return lent.len();
         }
+        self.closed_length(lent)
+    }
+
+    /// The length of a lent ring that a ring call goes by: as it is lent.
+    pub fn length_in_ring_call(&self, lent: &[Vertex]) -> usize {
+        if self.makes(Mistake::RoomClosedInRingCall) {
+            return self.closed_length(lent);
+        }
+        lent.len()
+    }
+
+    fn closed_length(&self, lent: &[Vertex]) -> usize {
         let mut ring = lent.to_vec();
         self.close(&mut ring);
         ring.len()
