@@ -9,6 +9,7 @@ pub mod mistakes;
 pub mod passes;
 pub mod shrink;
 pub mod vectors;
+pub mod worked;
 
 /// Bytes as lower-case hexadecimal digits.
 pub fn hex(bytes: &[u8]) -> String {

@@ -1,5 +1,8 @@
-//! Document 01's worked cases on bounds 0, 0, 10, 10 with buffer 0, against the Rust and the second reading.
+//! Document 01's worked cases on bounds 0, 0, 10, 10 with buffer 0, against the Rust and the second reading; and of document 02's
+//! point 4 the two inputs that tell its readings apart.
 
+use compare::calls::{ring_call, slice_call};
+use compare::worked::{self, unwritten};
 use formats::calls::RingCall;
 use formats::frame::{Frame, MULTIPOLYGON, POLYGON};
 use formats::{same_numbers, Coord};
@@ -104,7 +107,7 @@ fn assert_cut_ring(ring: &[f64], expected: &[f64]) {
     let call = RingCall { ring: ring.to_vec(), bounds: [0.0, 0.0, 10.0, 10.0], scratch: lent.clone(), out: lent };
     let cut = oracle::ring_call(&call).unwrap();
     assert!(same_numbers(&cut, expected), "the Rust, {ring:?}: {cut:?}");
-    let after = compare::calls::ring_call(&Reading::RIGHT, &call);
+    let after = ring_call(&Reading::RIGHT, &call);
     assert_eq!(after.answer, expected.len() as i64 / 2, "the reading, {ring:?}");
     assert!(same_numbers(&after.out[..expected.len()], expected), "the reading, {ring:?}: {:?}", after.out);
 }
@@ -118,6 +121,39 @@ fn ring_cutter_gives_none() {
 fn ring_cutter_gives_a_nan() {
     let (infinity, nan) = (f64::INFINITY, f64::NAN);
     assert_cut_ring(&[5., 5., infinity, infinity], &[nan, 0., 5., 5., nan, 0., nan, 0.]);
+}
+
+/// So many zeros, none of them negative, and behind them what was lent.
+fn assert_zeros(out: &[f64], zeros: usize) {
+    let expected = (0..out.len()).map(|place| if place < zeros { 0.0 } else { unwritten(place) });
+    assert!(out.iter().map(|number| number.to_bits()).eq(expected.map(f64::to_bits)), "{out:?}");
+}
+
+/// On one vertex an output of seven numbers gets six zeros, and the seventh stays.
+#[test]
+fn a_ring_call_that_leaves_no_vertex_writes_zeros() {
+    let call = worked::one_vertex();
+    assert_eq!((call.ring.as_slice(), call.out.len()), (&[5.0, 5.0][..], 7));
+    for after in [call.after(&oracle::ring_call(&call)), ring_call(&Reading::RIGHT, &call)] {
+        assert_eq!(after.answer, 0);
+        assert_zeros(&after.scratch, after.scratch.len());
+        assert_zeros(&after.out, 6);
+    }
+}
+
+/// A coordinate with a NaN doesn't equal itself, so closed the ring has two: 22 zeros, and not 6.
+#[test]
+fn a_slice_call_that_drops_writes_zeros_for_the_closed_ring() {
+    let call = worked::lone_nan();
+    assert_eq!((call.coords[0].is_nan(), call.coords[1], call.lengths.as_slice()), (true, 5.0, &[1][..]));
+    for after in [call.after(&oracle::slice_call(&call)), slice_call(&Reading::RIGHT, &call)] {
+        assert_eq!(after.answer, 1);
+        assert_zeros(&after.scratch, after.scratch.len());
+        assert_zeros(&after.out, 22);
+        assert!(after.out.len() > 22);
+        assert!(after.order.iter().all(|&position| position == 0));
+        assert_eq!(after.out_lengths, call.out_lengths);
+    }
 }
 
 #[test]

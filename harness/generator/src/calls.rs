@@ -1,9 +1,10 @@
-//! Ring calls and slice calls, with the slices lent to them filled with any bits.
+//! Ring calls and slice calls, with the slices lent to them filled with any bits but those of a zero.
 
 use formats::calls::{RingCall, SliceCall, MOST_COORDINATES};
 use formats::room::most_cut;
 use formats::{closed_length, flat, Part, Ring};
 
+use crate::holes::{beyond_a_corner, with_holes};
 use crate::numbers::any_bits;
 use crate::rng::Rng;
 use crate::scene::{lone_coordinate, Scene, Style};
@@ -19,7 +20,11 @@ pub fn ring_call(style: Style, seed: u64, index: u64) -> RingCall {
     let rng = &mut Rng::new(seed, RING_STREAM + style as u64, index);
     let scene = Scene::new(style, rng);
     let long = is_long(rng);
-    let ring = if long { zigzag(around_the_limit(rng), rng) } else { scene.ring(rng) };
+    let ring = match rng.below(16) {
+        _ if long => zigzag(around_the_limit(rng), rng),
+        0 => beyond_a_corner(scene.bounds, rng),
+        _ => scene.ring(rng),
+    };
     let mut ring = flat(&ring);
     if rng.once_in(30) {
         ring.push(any_bits(rng));
@@ -32,7 +37,12 @@ pub fn slice_call(style: Style, seed: u64, index: u64) -> SliceCall {
     let rng = &mut Rng::new(seed, SLICE_STREAM + style as u64, index);
     let scene = Scene::new(style, rng);
     let long = is_long(rng);
-    let mut part = if long { long_part(rng) } else { scene.part_with(rng.pick(&HOLES), rng) };
+    let mut part = match rng.below(16) {
+        _ if long => long_part(rng),
+        0 => vec![beyond_a_corner(scene.buffered_bounds(), rng)],
+        1 | 2 => with_holes(scene.buffered_bounds(), rng),
+        _ => scene.part_with(rng.pick(&HOLES), rng),
+    };
     if rng.once_in(50) {
         part.push(vec![lone_coordinate(rng)]);
     }
@@ -110,22 +120,33 @@ fn has_little_room(rng: &mut Rng) -> bool {
     rng.once_in(2)
 }
 
-/// A length about the one needed: mostly enough.
+/// A length about the one needed: mostly enough, now and then many more.
 fn lent_length(needed: usize, rng: &mut Rng) -> usize {
     match rng.below(30) {
         0 => needed.saturating_sub(1),
         1 => rng.below(needed + 1),
         2..=9 => needed,
+        10 | 11 => needed + 100 + rng.below(900),
         _ => needed + rng.below(6),
     }
 }
 
+/// None of them is a zero, so that one which is written shows, and so does a number that is left where a zero belongs.
 pub fn lent_numbers(needed: usize, rng: &mut Rng) -> Vec<f64> {
-    lent(lent_length(needed, rng), || any_bits(rng))
+    lent(lent_length(needed, rng), || other_than_zero(rng))
 }
 
 fn lent_positions(needed: usize, rng: &mut Rng) -> Vec<u32> {
-    lent(lent_length(needed, rng), || rng.bits() as u32)
+    lent(lent_length(needed, rng), || 1 | rng.bits() as u32)
+}
+
+fn other_than_zero(rng: &mut Rng) -> f64 {
+    loop {
+        let number = any_bits(rng);
+        if number != 0.0 {
+            return number;
+        }
+    }
 }
 
 /// A slice filled with drawn values; a long one repeats them, as drawing takes longer than a call.

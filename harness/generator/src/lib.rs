@@ -7,6 +7,7 @@ mod collinear;
 mod damage;
 mod exteriors;
 mod frames;
+mod holes;
 mod limits;
 mod lines;
 mod numbers;

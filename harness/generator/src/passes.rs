@@ -1,5 +1,5 @@
-//! Single passes, with the output lent to them filled with any bits: rings of a scene, and rings whose verdicts are easily
-//! miscounted.
+//! Single passes, with the output lent to them filled with any bits but those of a zero: rings of a scene, and rings whose
+//! verdicts are easily miscounted.
 
 use formats::passes::{Edge, PassCall};
 use formats::room::most_passed;

@@ -84,6 +84,12 @@ impl Scene {
         Scene { style, finite, bounds, buffer }
     }
 
+    /// What a slice call cuts at.
+    pub fn buffered_bounds(&self) -> Bounds {
+        let ([west, south, east, north], buffer) = (self.bounds, self.buffer);
+        [west - buffer, south - buffer, east + buffer, north + buffer]
+    }
+
     /// An exterior, and holes anywhere: few, as a frame has little room.
     pub fn part(&self, rng: &mut Rng) -> Part {
         let holes = if self.style == Style::Long { rng.pick(&[0, 0, 0, 1]) } else { rng.pick(&[0, 0, 0, 0, 1, 1, 2]) };

@@ -1,0 +1,138 @@
+//! Calls that are worked by hand on the bounds 0, 0, 10, 10: one of each answer, and the two that document 02's point 4 is
+//! most easily misread on.
+
+use formats::calls::{RingCall, SliceCall};
+use formats::room::most_cut;
+use formats::{closed_length, flat, Bounds, Coord, Part, Ring};
+
+pub const BOUNDS: Bounds = [0.0, 0.0, 10.0, 10.0];
+
+pub const INSIDE: [Coord; 5] = [(2., 2.), (8., 2.), (8., 8.), (2., 8.), (2., 2.)];
+pub const ACROSS_EAST: [Coord; 5] = [(5., 5.), (15., 5.), (15., 8.), (5., 8.), (5., 5.)];
+pub const BOW_TIE: [Coord; 5] = [(2., 2.), (8., 8.), (8., 2.), (2., 8.), (2., 2.)];
+pub const APART: [Coord; 4] = [(20., 20.), (30., 20.), (30., 30.), (20., 20.)];
+
+/// Not apart by their rectangles, and beyond the bounds: Bottom leaves nothing of the first, Top nothing of the second. Open.
+pub const BEYOND_SOUTH_EAST: [Coord; 3] = [(9., -2.), (12., 1.), (12., -2.)];
+pub const BEYOND_NORTH_EAST: [Coord; 3] = [(9., 12.), (12., 9.), (12., 12.)];
+
+/// How much longer each lent slice is than it has to be; a ring call has no order slice and no second length slice.
+#[derive(Clone, Copy, Debug, Default)]
+pub struct Beside {
+    pub scratch: isize,
+    pub order: isize,
+    pub out: isize,
+    pub out_lengths: isize,
+}
+
+impl Beside {
+    pub fn all(beside: isize) -> Beside {
+        Beside { scratch: beside, order: beside, out: beside, out_lengths: beside }
+    }
+}
+
+/// What stands at a place of a lent slice before a call: neighbours differ, and no answer here has such a number.
+pub fn unwritten(place: usize) -> f64 {
+    1_000.25 + place as f64
+}
+
+fn lent(asked: usize, beside: isize) -> Vec<f64> {
+    (0..asked.saturating_add_signed(beside)).map(unwritten).collect()
+}
+
+fn lent_wholes(asked: usize, beside: isize) -> Vec<u32> {
+    (0..asked.saturating_add_signed(beside) as u32).map(|place| 1_000 + place).collect()
+}
+
+pub fn ring_call(ring: &[Coord], beside: Beside) -> RingCall {
+    let room = 2 * most_cut(ring.len());
+    RingCall { ring: flat(ring), bounds: BOUNDS, scratch: lent(room, beside.scratch), out: lent(room, beside.out) }
+}
+
+/// A call on these rings with document 01's flags 0 to 3 and buffer 0.
+pub fn slice_call(flags: u8, part: &[Ring], beside: Beside) -> SliceCall {
+    let rooms: Vec<usize> = part.iter().map(|ring| most_cut(closed_length(ring))).collect();
+    let (largest, sum) = (rooms.iter().copied().max().unwrap_or(0), rooms.iter().sum::<usize>());
+    SliceCall {
+        assume_simple: flags & 1 != 0,
+        skip_boundary_fallback: flags & 2 != 0,
+        bounds: BOUNDS,
+        buffer: 0.0,
+        coords: part.iter().flat_map(|ring| flat(ring)).collect(),
+        lengths: part.iter().map(|ring| ring.len() as u32).collect(),
+        scratch: lent(2 * largest, beside.scratch),
+        order: lent_wholes(largest, beside.order),
+        out: lent(2 * sum, beside.out),
+        out_lengths: lent_wholes(part.len(), beside.out_lengths),
+    }
+}
+
+/// One vertex, with an output of seven numbers: none is left, and six zeros are written, B(1) being 3.
+pub fn one_vertex() -> RingCall {
+    ring_call(&[(5., 5.)], Beside { out: 1, ..Beside::default() })
+}
+
+/// One coordinate with a NaN, which closed has two: dropped, and 22 zeros are written, B(2) being 11 and B(1) 3.
+pub fn lone_nan() -> SliceCall {
+    slice_call(0, &[vec![(f64::NAN, 5.)]], Beside { out: 1, ..Beside::default() })
+}
+
+/// Rings with the counts of coordinates that they are cut to. Of those that are cut to none the first has no vertex, Bottom and
+/// Top leave nothing of the next two, and all passes leave too few vertices of the last two.
+pub fn ring_of_each_answer() -> Vec<(usize, Ring)> {
+    vec![
+        (5, ACROSS_EAST.to_vec()),
+        (5, vec![(-5., -5.), (5., -5.), (5., 5.), (-5., 5.)]),
+        (0, vec![]),
+        (0, BEYOND_SOUTH_EAST.to_vec()),
+        (0, BEYOND_NORTH_EAST.to_vec()),
+        (0, vec![(5., 5.)]),
+        (0, vec![(1., 1.), (2., 2.), (1., 1.), (1., 1.)]),
+    ]
+}
+
+/// Polygons with their flags and a word for the answer. An answer comes before or after the exterior is cut; of the cut's holes
+/// some are left out before ones that stay, and the largest ring is a hole.
+pub fn polygon_of_each_answer() -> Vec<(&'static str, u8, Part)> {
+    let cut_with_holes = vec![
+        ACROSS_EAST.to_vec(),
+        regular(7, (10., 6.), 1.),
+        regular(9, (30., 5.), 2.),
+        BEYOND_SOUTH_EAST.to_vec(),
+        regular(20, (9.5, 6.5), 1.),
+        vec![],
+    ];
+    let not_finite = vec![INSIDE.to_vec(), vec![(f64::NAN, 1.)]];
+    let huge = vec![vec![(2., 2.), (1e150, 2.)], INSIDE.to_vec()];
+    let huge_across_east = vec![vec![(5., 5.), (1e150, 5.), (1e150, 8.), (5., 8.)]];
+    vec![
+        ("nothing", 0, vec![APART.to_vec(), APART.to_vec()]),
+        ("nothing", 3, vec![vec![], vec![]]),
+        ("nothing", 3, vec![vec![(-50., 5.), (5., 55.), (-50., 55.)]]),
+        ("nothing", 0, vec![BEYOND_SOUTH_EAST.to_vec(), INSIDE.to_vec()]),
+        ("nothing", 0, vec![BEYOND_NORTH_EAST.to_vec()]),
+        ("dropped", 1, not_finite),
+        ("dropped", 2, huge),
+        ("dropped", 0, huge_across_east),
+        ("unchanged", 0, vec![INSIDE.to_vec(), unclosed(regular(50, (5., 5.), 2.))]),
+        ("cut", 3, cut_with_holes.clone()),
+        ("overlay", 0, cut_with_holes),
+        ("overlay", 0, vec![BOW_TIE.to_vec(), INSIDE.to_vec()]),
+        ("overlay", 3, vec![vec![(10., 2.), (20., 2.), (20., 8.), (10., 8.)]]),
+    ]
+}
+
+/// A ring around a centre, closed; no two edges cross.
+pub fn regular(coordinates: usize, centre: Coord, radius: f64) -> Ring {
+    let edges = coordinates - 1;
+    let vertex = |k: usize| {
+        let angle = std::f64::consts::TAU * (k % edges) as f64 / edges as f64;
+        (centre.0 + radius * angle.cos(), centre.1 + radius * angle.sin())
+    };
+    (0..coordinates).map(vertex).collect()
+}
+
+pub fn unclosed(mut ring: Ring) -> Ring {
+    ring.pop();
+    ring
+}

@@ -1,0 +1,339 @@
+//! Ring calls and slice calls: lent slices at the limits of 21 and 22, what mistaken readings leave in the output, and that the
+//! generator meets what an output with zeros past the answer is easily wrong about.
+
+use std::collections::BTreeMap;
+
+use compare::calls::{ring_call, ring_label, slice_call, slice_label};
+use compare::worked::{self, unwritten, Beside, ACROSS_EAST};
+use formats::calls::{RingCall, SliceAnswer, SliceCall};
+use formats::passes::{Edge, PassCall};
+use formats::room::{most_cut, most_passed};
+use formats::{closed_length, flat, pairs, Bounds, Ring};
+use generator::Style;
+use reading::{Mistake, Reading};
+
+/// The Rust's answer in a word; the second reading gives the same and leaves the same.
+fn ring_answer(call: &RingCall) -> &'static str {
+    let oracle = oracle::ring_call(call);
+    assert_eq!(call.after(&oracle).difference(&ring_call(&Reading::RIGHT, call)), None, "{call}");
+    ring_label(&oracle)
+}
+
+fn slice_answer(call: &SliceCall) -> &'static str {
+    let oracle = oracle::slice_call(call);
+    assert_eq!(call.after(&oracle).difference(&slice_call(&Reading::RIGHT, call)), None, "{call}");
+    slice_label(&oracle)
+}
+
+/// B(1) to B(5), worked by hand: 21 asks for twice as many numbers of the scratch slice, 22 of the output.
+#[test]
+fn ring_calls_at_the_limits_of_21_and_22() {
+    for (n, b) in [(1, 3), (2, 11), (3, 15), (4, 21), (5, 24)] {
+        let lent = |scratch: usize, out: usize| {
+            let ring = flat(&ACROSS_EAST[..n]);
+            ring_answer(&RingCall { ring, bounds: worked::BOUNDS, scratch: vec![7.0; scratch], out: vec![7.0; out] })
+        };
+        let answer = if n < 3 { "empty" } else { "ring" };
+        for longer in [0, 1, 50] {
+            assert_eq!(lent(2 * b, 2 * b + longer), answer, "{n} vertices");
+            assert_eq!(lent(2 * b + longer, 2 * b), answer, "{n} vertices");
+            assert_eq!(lent(2 * b - 1, 2 * b + longer), "21", "{n} vertices");
+            assert_eq!(lent(2 * b + longer, 2 * b - 1), "22", "{n} vertices");
+        }
+        assert_eq!(lent(2 * b - 1, 2 * b - 1), "21", "{n} vertices");
+        assert_eq!([lent(0, 2 * b), lent(2 * b, 0), lent(0, 0)], ["21", "22", "21"], "{n} vertices");
+    }
+    let nothing_lent = RingCall { ring: vec![], bounds: worked::BOUNDS, scratch: vec![], out: vec![] };
+    assert_eq!(ring_answer(&nothing_lent), "empty");
+    // 19 comes before 21 and 22.
+    assert_eq!(ring_answer(&RingCall { ring: vec![5.0; 3], ..nothing_lent }), "19");
+}
+
+/// Closed, the rings have five and three coordinates: S is B(5), which is 24, and B(3) is 15.
+#[test]
+fn slice_calls_at_the_limits_of_21_and_22() {
+    for rings in [[ACROSS_EAST.to_vec(), vec![(6., 6.), (7., 7.)]], [vec![(6., 6.), (7., 7.)], ACROSS_EAST.to_vec()]] {
+        let lent = |scratch: usize, order: usize, out: usize, out_lengths: usize| {
+            slice_answer(&SliceCall {
+                scratch: vec![7.0; scratch],
+                order: vec![7; order],
+                out: vec![7.0; out],
+                out_lengths: vec![7; out_lengths],
+                ..worked::slice_call(3, &rings, Beside::default())
+            })
+        };
+        let answer = if rings[0].len() == 5 { "cut" } else { "overlay" };
+        for longer in [0, 1, 50] {
+            assert_eq!(lent(48 + longer, 24, 78, 2), answer);
+            assert_eq!(lent(48, 24 + longer, 78, 2), answer);
+            assert_eq!(lent(48, 24, 78 + longer, 2), answer);
+            assert_eq!(lent(48, 24, 78, 2 + longer), answer);
+            assert_eq!(lent(47, 24 + longer, 78 + longer, 2 + longer), "21");
+            assert_eq!(lent(48 + longer, 23, 78 + longer, 2 + longer), "21");
+            assert_eq!(lent(48 + longer, 24 + longer, 77, 2 + longer), "22");
+            assert_eq!(lent(48 + longer, 24 + longer, 78 + longer, 1), "22");
+        }
+        assert_eq!([lent(47, 24, 77, 1), lent(48, 23, 77, 1), lent(48, 24, 77, 1)], ["21", "21", "22"]);
+        assert_eq!([lent(0, 24, 78, 2), lent(48, 0, 78, 2)], ["21", "21"]);
+        assert_eq!([lent(48, 24, 0, 2), lent(48, 24, 78, 0)], ["22", "22"]);
+    }
+}
+
+/// The numbers from one place of a lent slice up to another, as they were before the call.
+fn as_it_was(from: usize, to: usize) -> Vec<f64> {
+    (from..to).map(unwritten).collect()
+}
+
+#[test]
+fn a_mistaken_ring_call_leaves_what_the_mistake_says() {
+    let left = |mistake: Mistake, ring: &[(f64, f64)], answer: i64, expected: &[f64]| {
+        let call = worked::ring_call(ring, Beside { out: 2, ..Beside::default() });
+        let after = ring_call(&Reading::with(mistake), &call);
+        assert_eq!((after.answer, bits(&after.out)), (answer, bits(expected)), "{mistake:?}");
+    };
+    // B(1) is 3: of eight numbers six have to be zeros.
+    let vertex = [(5., 5.)];
+    left(Mistake::KeepsOutputPastAnswer, &vertex, 0, &as_it_was(0, 8));
+    left(Mistake::ClearsOnCutOnly, &vertex, 0, &as_it_was(0, 8));
+    left(Mistake::ClearsOutputToEnd, &vertex, 0, &[0.0; 8]);
+    left(Mistake::ClearsWithNegativeZeros, &vertex, 0, &[vec![-0.0; 6], as_it_was(6, 8)].concat());
+    // An open triangle: B(3) is 15, and B(4) 21.
+    let triangle = [(2., 2.), (8., 2.), (8., 8.)];
+    let cut = [2., 2., 8., 2., 8., 8., 2., 2.];
+    left(Mistake::KeepsOutputPastAnswer, &triangle, 4, &[cut.to_vec(), as_it_was(8, 32)].concat());
+    left(Mistake::ClearsOnCutOnly, &triangle, 4, &[cut.to_vec(), vec![0.0; 22], as_it_was(30, 32)].concat());
+    left(Mistake::RoomClosedInRingCall, &triangle, -21, &as_it_was(0, 32));
+    // A scratch slice one number short.
+    let short = worked::ring_call(&triangle, Beside { scratch: -1, ..Beside::default() });
+    assert_eq!(ring_call(&Reading::with(Mistake::ScratchUnseen), &short).answer, 4);
+}
+
+#[test]
+fn a_mistaken_slice_call_leaves_what_the_mistake_says() {
+    let (cut_to_one_ring, bridge) = (4 + 65_536, 5 + 256 * 4);
+    let spare = Beside { out: 2, out_lengths: 1, ..Beside::default() };
+    let left = |mistake: Mistake, flags: u8, ring: &[(f64, f64)], answer: i64, expected: &[f64]| {
+        let call = worked::slice_call(flags, &[ring.to_vec()], spare);
+        let after = slice_call(&Reading::with(mistake), &call);
+        assert_eq!((after.answer, bits(&after.out)), (answer, bits(expected)), "{mistake:?}");
+        let rings = usize::from(answer == cut_to_one_ring);
+        assert_eq!(after.out_lengths[rings..], call.out_lengths[rings..], "{mistake:?}");
+    };
+    // B(2) is 11 and B(1) 3.
+    let lone_nan = [(f64::NAN, 5.)];
+    left(Mistake::KeepsOutputPastAnswer, 0, &lone_nan, 1, &as_it_was(0, 24));
+    left(Mistake::ClearsOnCutOnly, 0, &lone_nan, 1, &as_it_was(0, 24));
+    left(Mistake::ClearsOutputToEnd, 0, &lone_nan, 1, &[0.0; 24]);
+    left(Mistake::ClearsWithNegativeZeros, 0, &lone_nan, 1, &[vec![-0.0; 22], as_it_was(22, 24)].concat());
+    left(Mistake::ClearsByUnclosedLengths, 0, &lone_nan, 1, &[vec![0.0; 6], as_it_was(6, 24)].concat());
+    left(Mistake::NanSingleStaysOne, 0, &lone_nan, 1, &[vec![0.0; 6], as_it_was(6, 24)].concat());
+    // B(5) is 24. The bridge along the east bound is found once the exterior is cut.
+    let cut = [5., 5., 10., 5., 10., 8., 5., 8., 5., 5.];
+    let zeros_behind = [cut.to_vec(), vec![0.0; 38], as_it_was(48, 50)].concat();
+    left(Mistake::OverlayLeavesCut, 3, &ACROSS_EAST, cut_to_one_ring, &zeros_behind);
+    left(Mistake::OverlayLeavesCut, 0, &ACROSS_EAST, bridge, &zeros_behind);
+    left(Mistake::ClearsOnCutOnly, 3, &ACROSS_EAST, cut_to_one_ring, &zeros_behind);
+    left(Mistake::ClearsOnCutOnly, 0, &ACROSS_EAST, bridge, &as_it_was(0, 50));
+    // A scratch slice one number short, and two rings with one as long as the larger asks.
+    let two_rings = [ACROSS_EAST.to_vec(), ACROSS_EAST.to_vec()];
+    let short = worked::slice_call(0, &two_rings, Beside { scratch: -1, ..Beside::default() });
+    assert_eq!(slice_call(&Reading::with(Mistake::ScratchUnseen), &short).answer, bridge);
+    let exact = worked::slice_call(0, &two_rings, Beside::default());
+    assert_eq!(slice_call(&Reading::with(Mistake::ScratchBySum), &exact).answer, -21);
+}
+
+fn bits(numbers: &[f64]) -> Vec<u64> {
+    numbers.iter().map(|number| number.to_bits()).collect()
+}
+
+/// How often each shape is met, by its name.
+type Met = BTreeMap<String, u32>;
+
+/// Calls of each style that are looked at, but for the long ones, which take long.
+const LOOKED_AT: u64 = 3_000;
+const LONG: usize = 1_000;
+
+/// Every shape has to be met so often.
+const ENOUGH: u32 = 20;
+
+#[test]
+fn the_generator_meets_every_shape_of_a_ring_call() {
+    let mut met = Met::new();
+    for call in specimens(generator::ring_call, |call| call.ring.len()) {
+        assert!(call.out.iter().chain(&call.scratch).all(|&number| number != 0.0), "a zero is lent");
+        count(&mut met, ring_shapes(&call));
+    }
+    let mut expected = Vec::new();
+    for answer in ["ring", "empty"] {
+        expected.extend(each_length(answer, "output", ["exact", "longer by one", "longer by many"]));
+        expected.extend(each_length(answer, "scratch", ["exact", "longer by one", "longer by many"]));
+        expected.push(format!("{answer}, open"));
+    }
+    expected.extend(each_length("21", "output", ["exact", "one short", "longer by many"]));
+    expected.extend(each_length("22", "scratch", ["exact", "longer by one", "longer by many"]));
+    expected.extend(["21, scratch one short", "22, output one short"].map(String::from));
+    expected.extend(["none after Bottom", "none after Top", "too few after Top"].map(String::from));
+    assert_met(&met, &expected);
+}
+
+#[test]
+fn the_generator_meets_every_shape_of_a_slice_call() {
+    let mut met = Met::new();
+    for call in specimens(generator::slice_call, |call| call.coords.len()) {
+        assert!(call.out.iter().chain(&call.scratch).all(|&number| number != 0.0), "a zero is lent");
+        assert!(call.order.iter().chain(&call.out_lengths).all(|&whole| whole != 0), "a zero is lent");
+        count(&mut met, slice_shapes(&call));
+    }
+    let mut expected = Vec::new();
+    let before_a_cut = ["nothing", "dropped", "unchanged", "overlay"];
+    let behind_a_cut = ["cut", "nothing behind a cut", "dropped behind a cut", "overlay behind a cut"];
+    for answer in before_a_cut.into_iter().chain(behind_a_cut) {
+        for slice in ["output", "scratch", "order"] {
+            expected.extend(each_length(answer, slice, ["exact", "longer by one", "longer by many"]));
+        }
+        expected.push(format!("{answer}, a ring open"));
+        expected.push(format!("{answer}, several rings"));
+    }
+    expected.extend(each_length("21", "scratch", ["exact", "one short", "longer by many"]));
+    expected.extend(each_length("21", "order", ["exact", "one short", "longer by many"]));
+    expected.extend(each_length("22", "output", ["exact", "one short", "longer by many"]));
+    expected.push("nothing behind a cut, none after Bottom".to_string());
+    expected.push("a hole left out before one that stays".to_string());
+    expected.push("a hole of which none is left after Bottom before one that stays".to_string());
+    assert_met(&met, &expected);
+}
+
+fn specimens<T>(call: fn(Style, u64, u64) -> T, numbers: impl Fn(&T) -> usize) -> impl Iterator<Item = T> {
+    let of_style = move |style| (0..LOOKED_AT).map(move |index| call(style, 1, index));
+    Style::ALL.into_iter().flat_map(of_style).filter(move |call| numbers(call) <= LONG)
+}
+
+fn count(met: &mut Met, shapes: Vec<String>) {
+    for shape in shapes {
+        *met.entry(shape).or_default() += 1;
+    }
+}
+
+fn each_length<const N: usize>(answer: &str, slice: &str, lengths: [&str; N]) -> [String; N] {
+    lengths.map(|length| format!("{answer}, {slice} {length}"))
+}
+
+fn assert_met(met: &Met, expected: &[String]) {
+    let times = |shape: &String| met.get(shape).copied().unwrap_or(0);
+    let missed: Vec<(&String, u32)> =
+        expected.iter().map(|shape| (shape, times(shape))).filter(|(_, times)| *times < ENOUGH).collect();
+    assert_eq!(missed, []);
+}
+
+/// How long a lent slice is beside what is asked of it.
+fn beside(length: usize, asked: usize) -> &'static str {
+    match length.checked_sub(asked) {
+        None if length + 1 == asked => "one short",
+        None => "too short",
+        Some(0) => "exact",
+        Some(1) => "longer by one",
+        Some(2..100) => "longer",
+        Some(_) => "longer by many",
+    }
+}
+
+fn ring_shapes(call: &RingCall) -> Vec<String> {
+    let oracle = oracle::ring_call(call);
+    let answer = ring_label(&oracle);
+    let mut shapes = vec![
+        format!("{answer}, output {}", beside(call.out.len(), call.room())),
+        format!("{answer}, scratch {}", beside(call.scratch.len(), call.room())),
+    ];
+    let ring = pairs(&call.ring);
+    if closed_length(&ring) != ring.len() {
+        shapes.push(format!("{answer}, open"));
+    }
+    if answer == "empty" {
+        shapes.extend(last_vertices(&ring, call.bounds).map(String::from));
+    }
+    shapes
+}
+
+/// Where the last vertices of a ring that is cut to none are lost, if Left and Right leave any.
+fn last_vertices(ring: &Ring, bounds: Bounds) -> Option<&'static str> {
+    let mut numbers = flat(ring);
+    let left = Edge::ALL.map(|edge| {
+        let out = vec![0.0; 2 * most_passed(numbers.len() / 2)];
+        let call = PassCall { ring: numbers.clone(), edge, bounds, out };
+        numbers = oracle::pass(&call).expect("the output has room").numbers;
+        numbers.len() / 2
+    });
+    match left {
+        [_, 0, _, _] => None,
+        [_, _, 0, _] => Some("none after Bottom"),
+        [_, _, _, 0] => Some("none after Top"),
+        _ => Some("too few after Top"),
+    }
+}
+
+fn slice_shapes(call: &SliceCall) -> Vec<String> {
+    let Ok(rings) = call.rings() else {
+        return Vec::new();
+    };
+    let oracle = oracle::slice_call(call);
+    let exterior_is_cut = is_cut(call, &rings);
+    let answer = match slice_label(&oracle) {
+        answer @ ("nothing" | "dropped" | "overlay") if exterior_is_cut => format!("{answer} behind a cut"),
+        answer => answer.to_string(),
+    };
+    let largest = rings.iter().map(|ring| most_cut(closed_length(ring))).max().unwrap_or(0);
+    let mut shapes = vec![
+        format!("{answer}, output {}", beside(call.out.len(), call.room())),
+        format!("{answer}, scratch {}", beside(call.scratch.len(), 2 * largest)),
+        format!("{answer}, order {}", beside(call.order.len(), largest)),
+    ];
+    if rings.iter().any(|ring| closed_length(ring) != ring.len()) {
+        shapes.push(format!("{answer}, a ring open"));
+    }
+    if rings.len() > 1 {
+        shapes.push(format!("{answer}, several rings"));
+    }
+    if last_vertices(&rings[0], buffered(call)) == Some("none after Bottom") {
+        shapes.push(format!("{answer}, none after Bottom"));
+    }
+    if matches!(oracle, Ok(SliceAnswer::Cut(_))) {
+        shapes.extend(hole_shapes(&rings[1..], buffered(call)).into_iter().map(String::from));
+    }
+    shapes
+}
+
+fn buffered(call: &SliceCall) -> Bounds {
+    let ([west, south, east, north], buffer) = (call.bounds, call.buffer);
+    [west - buffer, south - buffer, east + buffer, north + buffer]
+}
+
+/// Whether the exterior is cut before the answer is known: all is finite, not apart from the bounds and not inside them, and the
+/// exterior has no issue.
+fn is_cut(call: &SliceCall, rings: &[Ring]) -> bool {
+    let [west, south, east, north] = buffered(call);
+    let any = |holds: &dyn Fn(f64, f64) -> bool| rings.iter().flatten().any(|&(x, y)| holds(x, y));
+    let finite = call.coords.iter().all(|number| number.is_finite());
+    let meets = any(&|x, _| x >= west) && any(&|x, _| x <= east) && any(&|_, y| y >= south) && any(&|_, y| y <= north);
+    let inside = !any(&|x, y| x < west || x > east || y < south || y > north);
+    finite && meets && !inside && !oracle::has_structural_issues(&rings[0], call.assume_simple)
+}
+
+/// Of the holes of a cut: is one left out before one that stays?
+fn hole_shapes(holes: &[Ring], bounds: Bounds) -> Vec<&'static str> {
+    let stays = |hole: &Ring| {
+        let mut ring = hole.clone();
+        ring.extend((closed_length(hole) > hole.len()).then(|| hole[0]));
+        let cut = RingCall { bounds, ..worked::ring_call(&ring, Beside::default()) };
+        oracle::ring_call(&cut).expect("every slice has room").len() >= 8
+    };
+    let last = holes.iter().rposition(stays).unwrap_or(0);
+    let left_out: Vec<&Ring> = holes[..last].iter().filter(|hole| !stays(hole)).collect();
+    let mut shapes = Vec::new();
+    if !left_out.is_empty() {
+        shapes.push("a hole left out before one that stays");
+    }
+    if left_out.iter().any(|hole| last_vertices(hole, bounds) == Some("none after Bottom")) {
+        shapes.push("a hole of which none is left after Bottom before one that stays");
+    }
+    shapes
+}
