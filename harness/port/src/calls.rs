@@ -28,13 +28,13 @@ pub fn polygon(
 
 /// The slices of a slice call to write to.
 pub fn lent(slices: &mut SliceAfter) -> PolygonBuffers<'_> {
-    let SliceAfter { answer: _, scratch_a, scratch_b, order, out, out_lengths } = slices;
-    PolygonBuffers { scratch_a, scratch_b, order, out, out_lengths }
+    let SliceAfter { answer: _, scratch, order, out, out_lengths } = slices;
+    PolygonBuffers { scratch, order, out, out_lengths }
 }
 
 /// The count of coordinates of the cut ring, or minus the refusal.
-pub fn ring(ring: &[f64], bounds: &Bounds, scratch_a: &mut [f64], scratch_b: &mut [f64], out: &mut [f64]) -> i64 {
-    raw::ring(ring, named(bounds), RingBuffers { scratch_a, scratch_b, out })
+pub fn ring(ring: &[f64], bounds: &Bounds, scratch: &mut [f64], out: &mut [f64]) -> i64 {
+    raw::ring(ring, named(bounds), RingBuffers { scratch, out })
 }
 
 pub fn named(&[west, south, east, north]: &Bounds) -> ringcut::Bounds {

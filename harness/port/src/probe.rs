@@ -11,15 +11,13 @@ mod exported {
         pub fn probe_buffered(bounds: *const f64, len: usize, buffer: f64, out: *mut f64, out_len: usize);
         pub fn probe_expand(a: *const f64, a_len: usize, b: *const f64, b_len: usize, out: *mut f64, out_len: usize);
         #[allow(clippy::too_many_arguments)]
-        pub fn probe_clip_lent(
+        pub fn probe_clip_ring(
             ring: *const f64,
             ring_len: usize,
             bounds: *const f64,
             bounds_len: usize,
-            scratch_a: *mut f64,
-            scratch_a_len: usize,
-            scratch_b: *mut f64,
-            scratch_b_len: usize,
+            scratch: *mut f64,
+            scratch_len: usize,
             out: *mut f64,
             out_len: usize,
         ) -> usize;
@@ -105,25 +103,18 @@ pub fn intersect(a: &Bounds, b: &Bounds) -> Bounds {
     out
 }
 
-/// The ring call without its clearing of the scratch slices: the count of coordinates, 0 for what would be refused.
-pub fn clip_lent(
-    ring: &[f64],
-    bounds: &Bounds,
-    scratch_a: &mut [f64],
-    scratch_b: &mut [f64],
-    out: &mut [f64],
-) -> usize {
+/// The cutter by itself, on a ring that a ring call would not refuse: the count of coordinates, which stand at the front of the
+/// output. What is left in the scratch slice and past them is open.
+pub fn clip_ring(ring: &[f64], bounds: &Bounds, scratch: &mut [f64], out: &mut [f64]) -> usize {
     // SAFETY: as in `empty`.
     unsafe {
-        exported::probe_clip_lent(
+        exported::probe_clip_ring(
             ring.as_ptr(),
             ring.len(),
             bounds.as_ptr(),
             bounds.len(),
-            scratch_a.as_mut_ptr(),
-            scratch_a.len(),
-            scratch_b.as_mut_ptr(),
-            scratch_b.len(),
+            scratch.as_mut_ptr(),
+            scratch.len(),
             out.as_mut_ptr(),
             out.len(),
         )

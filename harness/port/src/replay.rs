@@ -1,5 +1,6 @@
-//! Replays kept calls and answers through the port, and counts them as the repository's own replaying programs do: a line for
-//! each answer, and one for the calls that differ.
+//! Replays kept calls and answers through the port, and counts them as the repository's own replaying program does: a line for
+//! each answer, and one for the calls that differ. What such a call leaves is worked out from its answer; the count of numbers
+//! that are kept as written has to be that too.
 
 use std::fmt;
 
@@ -17,13 +18,26 @@ pub struct Replay {
 }
 
 pub fn replay_rings(vectors: &[u8]) -> Replay {
-    let checked = decode_rings(vectors).into_iter().map(|(call, answer)| rings::check_against(&call, &answer));
+    let checked = decode_rings(vectors).into_iter().map(|((call, answer), written)| {
+        check_written(&call, written, call.written(&answer))?;
+        rings::check_against(&call, &answer)
+    });
     Replay::new(RING_ANSWERS, checked)
 }
 
 pub fn replay_slices(vectors: &[u8]) -> Replay {
-    let checked = decode_slices(vectors).into_iter().map(|(call, answer)| slices::check_against(&call, 1, &answer));
+    let checked = decode_slices(vectors).into_iter().map(|((call, answer), written)| {
+        check_written(&call, written, call.written(&answer))?;
+        slices::check_against(&call, 1, &answer)
+    });
     Replay::new(SLICE_ANSWERS, checked)
+}
+
+fn check_written(call: &impl fmt::Display, kept: usize, written: usize) -> Result<(), String> {
+    if kept == written {
+        return Ok(());
+    }
+    Err(format!("{call}: {kept} numbers of the output are kept as written, and {written} are"))
 }
 
 impl Replay {

@@ -33,8 +33,8 @@ pub fn check_against(call: &RingCall, expected: &Result<Vec<f64>, Refusal>) -> C
 }
 
 /// The port's answer to a call, and the lent slices afterwards.
-fn answer(call: &RingCall) -> RingAfter {
-    let (mut scratch_a, mut scratch_b, mut out) = (call.scratch_a.clone(), call.scratch_b.clone(), call.out.clone());
-    let answer = calls::ring(&call.ring, &call.bounds, &mut scratch_a, &mut scratch_b, &mut out);
-    RingAfter { answer, scratch_a, scratch_b, out }
+pub fn answer(call: &RingCall) -> RingAfter {
+    let (mut scratch, mut out) = (call.scratch.clone(), call.out.clone());
+    let answer = calls::ring(&call.ring, &call.bounds, &mut scratch, &mut out);
+    RingAfter { answer, scratch, out }
 }

@@ -34,7 +34,7 @@ fn verdict(call: &impl Display, difference: Option<String>) -> Checked {
 
 fn check_ring(call: &RingCall) -> Checked {
     let mut after = call.after(&Err(0));
-    let lent = RingBuffers { scratch_a: &mut after.scratch_a, scratch_b: &mut after.scratch_b, out: &mut after.out };
+    let lent = RingBuffers { scratch: &mut after.scratch, out: &mut after.out };
     after.answer = cut_ring(&call.ring, named(&call.bounds), lent).map_or_else(refusal_code, |count| count as i64);
     verdict(call, after.difference(&call.after(&oracle::ring_call(call))))
 }

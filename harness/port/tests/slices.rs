@@ -2,65 +2,19 @@
 //! sides, lent slices exact, one short and longer, flags set by every number, long rings with the sweep, and document 01's
 //! worked polygons.
 
-use std::f64::consts::TAU;
-
-use formats::calls::{SliceAnswer, SliceCall, MOST_COORDINATES};
+use compare::worked::{
+    self, polygon_of_each_answer, regular, slice_call as lent, unclosed, unwritten, Beside, ACROSS_EAST, APART,
+    BOW_TIE, INSIDE,
+};
+use formats::calls::{SliceAfter, SliceAnswer, SliceCall, MOST_COORDINATES};
 use formats::frame::MOST_RINGS;
-use formats::room::most_cut;
-use formats::{closed_length, flat, same_number, Coord, Part, Ring};
+use formats::{Coord, Part, Ring};
 use port::calls;
 use port::slices::{self, check_against};
-
-const BOUNDS: [f64; 4] = [0.0, 0.0, 10.0, 10.0];
-
-/// What stands in the lent slices before a call; no answer here writes them.
-const MARK: f64 = 7.25;
-const WHOLE_MARK: u32 = 77;
-
-const BOW_TIE: [Coord; 5] = [(2., 2.), (8., 8.), (8., 2.), (2., 8.), (2., 2.)];
-const INSIDE: [Coord; 5] = [(2., 2.), (8., 2.), (8., 8.), (2., 8.), (2., 2.)];
-const ACROSS_EAST: [Coord; 5] = [(5., 5.), (15., 5.), (15., 8.), (5., 8.), (5., 5.)];
-const APART: [Coord; 4] = [(20., 20.), (30., 20.), (30., 30.), (20., 20.)];
-
-/// How long each lent slice is beside its formula.
-#[derive(Clone, Copy, Debug, Default)]
-struct Beside {
-    scratch_a: isize,
-    scratch_b: isize,
-    order: isize,
-    out: isize,
-    out_lengths: isize,
-}
-
-impl Beside {
-    fn all(beside: isize) -> Beside {
-        Beside { scratch_a: beside, scratch_b: beside, order: beside, out: beside, out_lengths: beside }
-    }
-}
 
 /// A call on these rings with document 01's flags 0 to 3, each lent slice exactly as long as its formula asks.
 fn call(flags: u8, part: &[Ring]) -> SliceCall {
     lent(flags, part, Beside::default())
-}
-
-/// The same with longer or shorter slices.
-fn lent(flags: u8, part: &[Ring], beside: Beside) -> SliceCall {
-    let rooms: Vec<usize> = part.iter().map(|ring| most_cut(closed_length(ring))).collect();
-    let (largest, sum) = (rooms.iter().copied().max().unwrap_or(0), rooms.iter().sum::<usize>());
-    let length = |needed: usize, beside: isize| needed.saturating_add_signed(beside);
-    SliceCall {
-        assume_simple: flags & 1 != 0,
-        skip_boundary_fallback: flags & 2 != 0,
-        bounds: BOUNDS,
-        buffer: 0.0,
-        coords: part.iter().flat_map(|ring| flat(ring)).collect(),
-        lengths: part.iter().map(|ring| ring.len() as u32).collect(),
-        scratch_a: vec![MARK; length(2 * largest, beside.scratch_a)],
-        scratch_b: vec![MARK; length(2 * largest, beside.scratch_b)],
-        order: vec![WHOLE_MARK; length(largest, beside.order)],
-        out: vec![MARK; length(2 * sum, beside.out)],
-        out_lengths: vec![WHOLE_MARK; length(part.len(), beside.out_lengths)],
-    }
 }
 
 /// Held to the Rust; the answer's label.
@@ -71,41 +25,6 @@ fn checked(call: &SliceCall) -> &'static str {
 fn answered(call: &SliceCall) -> i64 {
     checked(call);
     slices::answer(call, 1).answer
-}
-
-/// A ring around a centre, closed; no two edges cross.
-fn regular(coordinates: usize, centre: Coord, radius: f64) -> Ring {
-    let edges = coordinates - 1;
-    let vertex = |k: usize| {
-        let angle = TAU * (k % edges) as f64 / edges as f64;
-        (centre.0 + radius * angle.cos(), centre.1 + radius * angle.sin())
-    };
-    (0..coordinates).map(vertex).collect()
-}
-
-fn unclosed(mut ring: Ring) -> Ring {
-    ring.pop();
-    ring
-}
-
-/// A polygon of each answer; of the cut, the middle hole is left out and the largest ring is a hole.
-fn one_of_each_answer() -> Vec<(&'static str, u8, Part)> {
-    let outside = regular(9, (30., 5.), 2.);
-    let cut_with_holes =
-        vec![ACROSS_EAST.to_vec(), regular(7, (10., 6.), 1.), outside, regular(20, (9.5, 6.5), 1.), vec![]];
-    let not_finite = vec![INSIDE.to_vec(), vec![(f64::NAN, 1.)]];
-    let huge = vec![vec![(2., 2.), (1e150, 2.)], INSIDE.to_vec()];
-    vec![
-        ("nothing", 0, vec![APART.to_vec(), APART.to_vec()]),
-        ("nothing", 3, vec![vec![], vec![]]),
-        ("nothing", 3, vec![vec![(-50., 5.), (5., 55.), (-50., 55.)]]),
-        ("dropped", 1, not_finite),
-        ("dropped", 2, huge),
-        ("unchanged", 0, vec![INSIDE.to_vec(), unclosed(regular(50, (5., 5.), 2.))]),
-        ("cut", 3, cut_with_holes.clone()),
-        ("overlay", 0, cut_with_holes),
-        ("overlay", 0, vec![BOW_TIE.to_vec(), INSIDE.to_vec()]),
-    ]
 }
 
 #[test]
@@ -216,52 +135,92 @@ fn lengths_that_do_not_fit_are_refused() {
 
 #[test]
 fn lent_slices_exact_one_short_and_longer() {
-    for (label, flags, part) in one_of_each_answer() {
+    for (label, flags, part) in polygon_of_each_answer() {
         assert_eq!(checked(&call(flags, &part)), label, "exact");
-        let short = Beside::default();
+        let exact = Beside::default();
         let coordinates: usize = part.iter().map(|ring| ring.len()).sum();
         let (scratch, output) = if coordinates == 0 { (label, label) } else { ("21", "22") };
         for (beside, label) in [
-            (Beside { scratch_a: -1, ..short }, scratch),
-            (Beside { scratch_b: -1, ..short }, scratch),
-            (Beside { order: -1, ..short }, scratch),
-            (Beside { out: -1, ..short }, output),
-            (Beside { out_lengths: -1, ..short }, "22"),
+            (Beside { scratch: -1, ..exact }, scratch),
+            (Beside { order: -1, ..exact }, scratch),
+            (Beside { out: -1, ..exact }, output),
+            (Beside { out_lengths: -1, ..exact }, "22"),
             // 21 comes before 22.
-            (Beside { scratch_b: -1, out: -1, ..short }, scratch),
-            (Beside { order: -1, out: -1, ..short }, scratch),
-            (Beside { scratch_a: -2, scratch_b: 9, order: 9, out: 9, out_lengths: 9 }, scratch),
-            (Beside { scratch_a: 9, scratch_b: 9, order: 9, out: -2, out_lengths: 9 }, output),
-            (Beside { scratch_a: 9, scratch_b: 9, order: 9, out: 9, out_lengths: -1 }, "22"),
-            (Beside { scratch_a: isize::MIN, ..short }, scratch),
-            (Beside { scratch_b: isize::MIN, ..short }, scratch),
-            (Beside { order: isize::MIN, ..short }, scratch),
-            (Beside { out: isize::MIN, ..short }, output),
-            (Beside { out_lengths: isize::MIN, ..short }, "22"),
+            (Beside { scratch: -1, out: -1, ..exact }, scratch),
+            (Beside { order: -1, out: -1, ..exact }, scratch),
+            // Where one is short no other makes up for it.
+            (Beside { scratch: -1, ..Beside::all(9) }, scratch),
+            (Beside { order: -1, ..Beside::all(9) }, scratch),
+            (Beside { out: -1, ..Beside::all(9) }, output),
+            (Beside { out_lengths: -1, ..Beside::all(9) }, "22"),
+            (Beside { scratch: isize::MIN, ..exact }, scratch),
+            (Beside { order: isize::MIN, ..exact }, scratch),
+            (Beside { out: isize::MIN, ..exact }, output),
+            (Beside { out_lengths: isize::MIN, ..exact }, "22"),
         ] {
             assert_eq!(checked(&lent(flags, &part, beside)), label, "{beside:?}, {part:?}");
         }
         for beside in [1, 2, 3, 500] {
             assert_eq!(checked(&lent(flags, &part, Beside::all(beside))), label, "{beside} more");
+            assert_eq!(checked(&lent(flags, &part, Beside { out: beside, ..exact })), label, "output {beside} more");
         }
     }
 }
 
+/// How many numbers of the output the rings of a cut take; none of any other answer.
+fn numbers_of_cut(after: &SliceAfter) -> usize {
+    let rings = if after.answer & 0xff == 4 { after.answer as usize >> 16 } else { 0 };
+    2 * after.out_lengths[..rings].iter().sum::<u32>() as usize
+}
+
 /// Said once more without `formats`: what a call leaves in slices that are longer than needed.
 #[test]
-fn a_success_clears_scratch_and_order_and_keeps_the_output_past_the_answer() {
-    for (label, flags, part) in one_of_each_answer() {
-        let call = lent(flags, &part, Beside::all(1_000));
-        let after = slices::answer(&call, 1);
-        assert!(after.scratch_a.iter().chain(&after.scratch_b).all(|number| number.to_bits() == 0), "{label}");
-        assert!(after.order.iter().all(|&position| position == 0), "{label}");
-        let rings = if label == "cut" { after.answer as usize / 65_536 } else { 0 };
-        assert_eq!(label == "cut", rings > 0);
-        let coordinates: u32 = after.out_lengths[..rings].iter().sum();
-        assert!(after.out_lengths[rings..].iter().all(|&length| length == WHOLE_MARK), "{label}");
-        let (numbers, past) = after.out.split_at(2 * coordinates as usize);
-        assert!(numbers.iter().all(|&number| !same_number(number, MARK)), "{label}");
-        assert!(past.iter().all(|&number| same_number(number, MARK)), "{label}");
+fn a_success_leaves_zeros_behind_the_cut_as_far_as_22_asks() {
+    for (label, flags, part) in polygon_of_each_answer() {
+        for spare in [0, 1, 2, 1_000] {
+            let call = lent(flags, &part, Beside::all(spare));
+            let after = slices::answer(&call, 1);
+            assert!(after.scratch.iter().all(|number| number.to_bits() == 0), "{label}");
+            assert!(after.order.iter().all(|&position| position == 0), "{label}");
+            let (numbers, asked) = (numbers_of_cut(&after), call.out.len() - spare as usize);
+            assert_eq!(label == "cut", numbers > 0);
+            assert!((0..numbers).all(|place| after.out[place] != unwritten(place)), "{label}");
+            assert!(after.out[numbers..asked].iter().all(|number| number.to_bits() == 0), "{label}");
+            assert!((asked..after.out.len()).all(|place| after.out[place] == unwritten(place)), "{label}");
+            let rings = if label == "cut" { after.answer as usize >> 16 } else { 0 };
+            assert_eq!(after.out_lengths[rings..], call.out_lengths[rings..], "{label}");
+        }
+    }
+}
+
+/// Of document 02's point 4: a coordinate with a NaN doesn't equal itself, so closed the ring has two. 22 zeros, and not 6.
+#[test]
+fn a_slice_call_that_drops_writes_zeros_for_the_closed_ring() {
+    let call = worked::lone_nan();
+    let after = slices::answer(&call, 1);
+    assert_eq!((after.answer, after.out.len()), (1, 23));
+    assert!(after.out[..22].iter().chain(&after.scratch).all(|number| number.to_bits() == 0), "{after:?}");
+    assert_eq!((after.out[22], &after.out_lengths), (call.out[22], &call.out_lengths));
+    assert_eq!(checked(&call), "dropped");
+}
+
+/// The cut's numbers stand one behind the other: a hole that is left out leaves no gap, wherever it stands.
+#[test]
+fn a_hole_left_out_leaves_no_gap() {
+    let stays = regular(7, (9.5, 6.5), 1.);
+    let left_out = [worked::BEYOND_SOUTH_EAST.to_vec(), worked::BEYOND_NORTH_EAST.to_vec(), APART.to_vec(), Vec::new()];
+    let without = slices::answer(&call(3, &[ACROSS_EAST.to_vec(), stays.clone(), stays.clone()]), 1);
+    let numbers = numbers_of_cut(&without);
+    for hole in left_out {
+        for place in 1..=3 {
+            let mut part = vec![ACROSS_EAST.to_vec(), stays.clone(), stays.clone()];
+            part.insert(place, hole.clone());
+            let call = lent(3, &part, Beside::all(1));
+            assert_eq!(answered(&call), 4 + 65_536 * 3);
+            let after = slices::answer(&call, 1);
+            assert_eq!(after.out[..numbers], without.out[..numbers], "left out as ring {place}");
+            assert_eq!(after.out_lengths[..3], without.out_lengths[..3], "left out as ring {place}");
+        }
     }
 }
 
@@ -270,20 +229,20 @@ fn a_success_clears_scratch_and_order_and_keeps_the_output_past_the_answer() {
 fn what_is_not_written_keeps_its_bits() {
     let payload = f64::from_bits(0xfff4_dead_beef_0001);
     let same_bits = |a: &[f64], b: &[f64]| a.iter().map(|x| x.to_bits()).eq(b.iter().map(|x| x.to_bits()));
-    for (label, flags, part) in one_of_each_answer() {
+    for (label, flags, part) in polygon_of_each_answer() {
         for beside in [Beside::all(3), Beside { out_lengths: -1, ..Beside::default() }] {
             let mut call = lent(flags, &part, beside);
-            for lent in [&mut call.scratch_a, &mut call.scratch_b, &mut call.out] {
+            for lent in [&mut call.scratch, &mut call.out] {
                 lent.fill(payload);
             }
             let after = slices::answer(&call, 1);
             if after.answer < 0 {
                 assert_eq!(after.answer, -22);
-                assert!(same_bits(&after.scratch_a, &call.scratch_a) && same_bits(&after.scratch_b, &call.scratch_b));
+                assert!(same_bits(&after.scratch, &call.scratch) && same_bits(&after.out, &call.out), "{label}");
+            } else {
+                let asked = call.out.len() - beside.out as usize;
+                assert!(same_bits(&after.out[asked..], &call.out[asked..]), "{label}, {beside:?}");
             }
-            let rings = if after.answer > 0 && label == "cut" { after.answer as usize / 65_536 } else { 0 };
-            let written = 2 * after.out_lengths[..rings].iter().sum::<u32>() as usize;
-            assert!(same_bits(&after.out[written..], &call.out[written..]), "{label}, {beside:?}");
         }
     }
 }
@@ -453,17 +412,27 @@ fn a_change_of_any_lent_number_is_noticed() {
     let expected = call.after(&oracle::slice_call(&call));
     let after = slices::answer(&call, 1);
     assert_eq!(after.difference(&expected), None);
-    let last = |length: usize| length - 1;
-    for at in 0..5 {
+    let noticed = |change: &dyn Fn(&mut SliceAfter)| {
         let mut changed = after.clone();
-        match at {
-            0 => changed.scratch_a[last(after.scratch_a.len())] = -0.0,
-            1 => changed.scratch_b[last(after.scratch_b.len())] = -0.0,
-            2 => changed.order[last(after.order.len())] = 1,
-            3 => changed.out[last(after.out.len())] = 0.0,
-            _ => changed.out_lengths[last(after.out_lengths.len())] = 0,
-        }
-        assert!(changed.difference(&expected).is_some(), "slice {at}");
+        change(&mut changed);
+        changed.difference(&expected).is_some()
+    };
+    for place in 0..call.scratch.len() {
+        assert!(noticed(&|after| after.scratch[place] = -0.0), "scratch, place {place}");
+    }
+    for place in 0..call.order.len() {
+        assert!(noticed(&|after| after.order[place] = 1), "order, place {place}");
+    }
+    // Another number anywhere, a zero of the other sign, what was lent where a zero belongs, a zero where what was lent belongs.
+    let asked = call.out.len() - 2;
+    for place in 0..call.out.len() {
+        assert!(noticed(&|after| after.out[place] += 1.0), "output, place {place}");
+        assert!(noticed(&|after| after.out[place] = -0.0), "output, place {place}");
+        assert_eq!(noticed(&|after| after.out[place] = unwritten(place)), place < asked, "output, place {place}");
+        assert_eq!(noticed(&|after| after.out[place] = 0.0), !(10..asked).contains(&place), "output, place {place}");
+    }
+    for place in 0..call.out_lengths.len() {
+        assert!(noticed(&|after| after.out_lengths[place] = 0), "lengths, place {place}");
     }
 }
 
@@ -505,13 +474,6 @@ fn worked_polygons() {
         }
         assert_worked(EVERY_FLAG, &ring, Dropped);
     }
-}
-
-#[test]
-fn worked_ring_gives_none() {
-    let room = 2 * most_cut(4);
-    let (mut a, mut b, mut out) = (vec![MARK; room], vec![MARK; room], vec![MARK; room]);
-    assert_eq!(calls::ring(&[1., 1., 2., 2., 1., 1., 1., 1.], &BOUNDS, &mut a, &mut b, &mut out), 0);
 }
 
 /// A cut ring is closed by the cutter, and once more as the polygon holds it: that shows where its first coordinate holds a
