@@ -1,15 +1,16 @@
 //! Samples of the oracle's answers for programs that replay them: some of each kind of specimen and each answer that it gets,
-//! short ones, and one of any length where no short one came first.
+//! short ones, and one of any length where no short one came first. Calls that are worked by hand follow.
 
 use std::collections::BTreeMap;
 
 use formats::calls::{RingCall, SliceAnswer, SliceCall, MOST_COORDINATES};
-use formats::vectors::{encode_rings, encode_slices, marks, RingVector, SliceVector, MARK, WHOLE_MARK};
+use formats::vectors::{encode_rings, encode_slices, marks, RingVector, SliceVector, MARK, MOST_LENT, WHOLE_MARK};
 use generator::Style;
 
 use crate::calls::{ring_label, styles};
 use crate::frames::{self, kinds};
 use crate::hex;
+use crate::worked::{self, Beside};
 
 /// Specimens of a kind that are looked at.
 const TRIED: u64 = 4_000;
@@ -71,35 +72,47 @@ pub fn lines(seed: u64, count: u64) -> Vec<u8> {
     input
 }
 
-/// Ring calls of each style, up to `count` for each answer, and one of too many coordinates.
+/// Ring calls of each style, up to `count` for each answer, worked ones, and one of too many coordinates.
 pub fn rings(seed: u64, count: u64) -> Vec<u8> {
     let sampled = |style, index| {
-        let call = with_marks_in_ring_call(generator::ring_call(style, seed, index));
-        let answer = oracle::ring_call(&call);
-        Sampled { numbers: call.ring.len(), answer: ring_label(&answer).to_string(), vector: (call, answer) }
+        let (call, answer) = answered_ring_call(generator::ring_call(style, seed, index));
+        Sampled {
+            numbers: call.ring.len(),
+            longest: call.scratch.len().max(call.out.len()),
+            answer: ring_label(&answer).to_string(),
+            vector: (call, answer),
+        }
     };
     let mut vectors: Vec<RingVector> = sample(count, sampled);
+    vectors.extend(worked_rings().into_iter().map(answered_ring_call));
     vectors.push((too_long_ring_call(), Err(20)));
     encode_rings(&vectors)
 }
 
-/// Slice calls of each style, up to `count` for each answer, and one of too many coordinates.
+/// Slice calls of each style, up to `count` for each answer, worked ones, and one of too many coordinates.
 pub fn slices(seed: u64, count: u64) -> Vec<u8> {
     let sampled = |style, index| {
-        let call = with_marks_in_slice_call(generator::slice_call(style, seed, index));
-        let answer = oracle::slice_call(&call);
+        let (call, answer) = answered_slice_call(generator::slice_call(style, seed, index));
+        let lent = [call.scratch.len(), call.order.len(), call.out.len(), call.out_lengths.len()];
         let code = answer.as_ref().map_or_else(|refusal| -i64::from(*refusal), SliceAnswer::code);
-        Sampled { numbers: call.coords.len(), answer: code.to_string(), vector: (call, answer) }
+        Sampled {
+            numbers: call.coords.len(),
+            longest: lent.into_iter().fold(0, usize::max),
+            answer: code.to_string(),
+            vector: (call, answer),
+        }
     };
     let mut vectors: Vec<SliceVector> = sample(count, sampled);
+    vectors.extend(worked_slices().into_iter().map(answered_slice_call));
     vectors.push((too_long_slice_call(), Err(20)));
     encode_slices(&vectors)
 }
 
-/// A call with its answer, the numbers that it lends, and the answer in a word.
+/// A call with its answer, the numbers that it lends, its longest slice to write to, and the answer in a word.
 struct Sampled<T> {
     vector: T,
     numbers: usize,
+    longest: usize,
     answer: String,
 }
 
@@ -108,13 +121,50 @@ fn sample<T>(count: u64, sampled: impl Fn(Style, u64) -> Sampled<T>) -> Vec<T> {
     let mut vectors = Vec::new();
     for (_, style) in styles() {
         let mut kept = Kept::new(count);
-        for Sampled { vector, numbers, answer } in (0..TRIED).map(|index| sampled(style, index)) {
-            if numbers <= MOST_NUMBERS && kept.keeps(answer, numbers <= SHORT_CALL) {
+        for Sampled { vector, numbers, longest, answer } in (0..TRIED).map(|index| sampled(style, index)) {
+            let fits = numbers <= MOST_NUMBERS && longest <= MOST_LENT;
+            if fits && kept.keeps(answer, numbers <= SHORT_CALL) {
                 vectors.push(vector);
             }
         }
     }
     vectors
+}
+
+/// Every answer with an output that is exact, longer by one and as long as it may be.
+fn worked_rings() -> Vec<RingCall> {
+    let mut calls = vec![worked::one_vertex()];
+    for (_, ring) in worked::ring_of_each_answer() {
+        let exact = worked::ring_call(&ring, Beside::default());
+        calls.extend(spare(exact.out.len()).map(|beside| worked::ring_call(&ring, beside)));
+    }
+    calls
+}
+
+fn worked_slices() -> Vec<SliceCall> {
+    let mut calls = vec![worked::lone_nan()];
+    for (_, flags, part) in worked::polygon_of_each_answer() {
+        let exact = worked::slice_call(flags, &part, Beside::default());
+        calls.extend(spare(exact.out.len()).map(|beside| worked::slice_call(flags, &part, beside)));
+    }
+    calls
+}
+
+/// How much longer than asked the outputs of worked calls are, of which so many numbers are asked.
+fn spare(asked: usize) -> [Beside; 3] {
+    [0, 1, (MOST_LENT - asked) as isize].map(|out| Beside { out, ..Beside::default() })
+}
+
+fn answered_ring_call(call: RingCall) -> RingVector {
+    let call = with_marks_in_ring_call(call);
+    let answer = oracle::ring_call(&call);
+    (call, answer)
+}
+
+fn answered_slice_call(call: SliceCall) -> SliceVector {
+    let call = with_marks_in_slice_call(call);
+    let answer = oracle::slice_call(&call);
+    (call, answer)
 }
 
 fn with_marks_in_ring_call(mut call: RingCall) -> RingCall {

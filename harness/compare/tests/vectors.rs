@@ -1,8 +1,13 @@
-//! The lines that the program replays have every answer: the four kinds, every reason and every refusal it can give.
+//! The lines that the program replays have every answer: the four kinds, every reason and every refusal it can give. The calls
+//! that are replayed have every answer with an output that is exact, longer by one and as long as it may be.
 
 use std::collections::BTreeSet;
 
-use compare::vectors;
+use compare::calls::{ring_label, slice_label};
+use compare::{vectors, worked};
+use formats::calls::SliceAnswer;
+use formats::same_numbers;
+use formats::vectors::{decode_rings, decode_slices, MOST_LENT};
 
 #[test]
 fn lines_have_every_answer() {
@@ -15,4 +20,55 @@ fn lines_have_every_answer() {
     // The first listed part's kind and reason.
     let parts: BTreeSet<&str> = printed.lines().filter_map(|line| line.get(14..18)).collect();
     assert_eq!(parts, BTreeSet::from(["0200", "0400", "0501", "0502", "0503", "0504", "0505", "0506"]));
+}
+
+/// Whether the output is exactly as long as asked, longer by one, or as long as it may be.
+fn room(out: usize, asked: usize) -> Option<&'static str> {
+    match out {
+        _ if out == asked => Some("exact"),
+        _ if out == asked + 1 => Some("longer by one"),
+        MOST_LENT => Some("longest"),
+        _ => None,
+    }
+}
+
+fn in_every_room(answers: &[&'static str]) -> BTreeSet<(&'static str, &'static str)> {
+    let rooms = ["exact", "longer by one", "longest"];
+    answers.iter().flat_map(|&answer| rooms.map(|room| (answer, room))).collect()
+}
+
+#[test]
+fn ring_calls_have_every_answer_in_every_room() {
+    let vectors = decode_rings(&vectors::rings(1, 2));
+    let mut met = BTreeSet::new();
+    for ((call, answer), written) in &vectors {
+        assert!(call.scratch.len().max(call.out.len()) <= MOST_LENT);
+        assert_eq!(*written, if answer.is_ok() { call.room() } else { 0 });
+        met.extend(answer.as_ref().ok().and(room(call.out.len(), call.room())).map(|room| (ring_label(answer), room)));
+    }
+    assert_eq!(met, in_every_room(&["ring", "empty"]));
+    let one_vertex = worked::one_vertex();
+    let is_one_vertex = |ring: &[f64], out: usize| same_numbers(ring, &one_vertex.ring) && out == one_vertex.out.len();
+    assert!(vectors.iter().any(|((call, _), written)| is_one_vertex(&call.ring, call.out.len()) && *written == 6));
+}
+
+#[test]
+fn slice_calls_have_every_answer_in_every_room() {
+    let vectors = decode_slices(&vectors::slices(1, 2));
+    let mut met = BTreeSet::new();
+    for ((call, answer), written) in &vectors {
+        let lent = [call.scratch.len(), call.order.len(), call.out.len(), call.out_lengths.len()];
+        assert!(lent.iter().all(|&length| length <= MOST_LENT));
+        assert_eq!(*written, if answer.is_ok() { call.room() } else { 0 });
+        let label = match answer {
+            Ok(SliceAnswer::Overlay(2..)) => "overlay behind a cut",
+            _ => slice_label(answer),
+        };
+        met.extend(answer.as_ref().ok().and(room(call.out.len(), call.room())).map(|room| (label, room)));
+    }
+    let answers = ["nothing", "dropped", "unchanged", "cut", "overlay", "overlay behind a cut"];
+    assert_eq!(met, in_every_room(&answers));
+    let lone_nan = worked::lone_nan();
+    let is_lone_nan = |coords: &[f64], out: usize| same_numbers(coords, &lone_nan.coords) && out == lone_nan.out.len();
+    assert!(vectors.iter().any(|((call, _), written)| is_lone_nan(&call.coords, call.out.len()) && *written == 22));
 }
