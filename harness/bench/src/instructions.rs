@@ -1,6 +1,6 @@
 //! Instructions of one call, counted by callgrind: the same on every machine and beside any other work. This program runs
-//! itself under valgrind with few calls and with more; what the further calls took is divided among them. The port's ring call is
-//! counted with its clearing, which the Rust has not.
+//! itself under valgrind with few calls and with more; what the further calls took is divided among them. The port's ring calls
+//! and slice calls are counted with their clearing, which the Rust has not.
 
 use std::env;
 use std::ffi::OsString;
@@ -9,6 +9,7 @@ use std::process::{Command, Stdio};
 use crate::frames::{self, CASES, SIZES};
 use crate::lines::{self, Input};
 use crate::rings::{self, OUTLINES};
+use crate::slices;
 use crate::table::whole;
 
 const FEW: usize = 20;
@@ -32,6 +33,11 @@ pub fn measure() {
         let size = format!("{} vertices", whole(*vertices as f64));
         for (o, (name, _)) in OUTLINES.iter().enumerate() {
             print_row("ring call", &size, name, of_a_call("ring", v, o));
+        }
+    }
+    for (s, size) in slices::SIZES.iter().enumerate() {
+        for (c, case) in slices::COUNTED.iter().enumerate() {
+            print_row("slice call", &size.name(), case.name, of_a_call("slice", s, c));
         }
     }
     for (name, shares) in lines::INPUTS {
@@ -76,7 +82,7 @@ fn collected(program: &Command, input: Stdio) -> f64 {
     count.unwrap_or_else(|| panic!("callgrind counted nothing: {said}"))
 }
 
-/// Makes calls of one side, which callgrind counts: frame or ring, the side, the places of size and case, and how many calls.
+/// Makes calls of one side, which callgrind counts: frame, ring or slice, the side, the places of size and case, and how many.
 pub fn make_calls(arguments: &[String]) {
     let [call, side, numbers @ ..] = arguments else {
         panic!("no call and no side are named");
@@ -86,14 +92,23 @@ pub fn make_calls(arguments: &[String]) {
         panic!("size, case and times are three numbers");
     };
     let is_rust = side == "rust";
-    if call == "frame" {
-        let mut sides = frames::Sides::new(&SIZES[size], &CASES[case]);
-        let one_call = if is_rust { frames::Sides::rust } else { frames::Sides::port };
-        (0..times).for_each(|_| one_call(&mut sides));
-    } else {
-        let (_, outline) = OUTLINES[case];
-        let mut sides = rings::Sides::new(&outline(VERTICES[size]));
-        let one_call = if is_rust { rings::Sides::rust } else { rings::Sides::port };
-        (0..times).for_each(|_| one_call(&mut sides));
+    match call.as_str() {
+        "frame" => {
+            let mut sides = frames::Sides::new(&SIZES[size], &CASES[case]);
+            let one_call = if is_rust { frames::Sides::rust } else { frames::Sides::port };
+            (0..times).for_each(|_| one_call(&mut sides));
+        }
+        "ring" => {
+            let (_, outline) = OUTLINES[case];
+            let mut sides = rings::Sides::new(&outline(VERTICES[size]));
+            let one_call = if is_rust { rings::Sides::rust } else { rings::Sides::port };
+            (0..times).for_each(|_| one_call(&mut sides));
+        }
+        "slice" => {
+            let mut sides = slices::Sides::new(slices::SIZES[size], &slices::COUNTED[case]);
+            let one_call = if is_rust { slices::Sides::rust } else { slices::Sides::port };
+            (0..times).for_each(|_| one_call(&mut sides));
+        }
+        other => panic!("{other} is no call"),
     }
 }

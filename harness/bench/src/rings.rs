@@ -1,5 +1,5 @@
-//! The ring call against the Rust's `clip_ring`. The Rust clears nothing; the port clears both scratch slices, so the cut without
-//! the clearing and the clearing are timed by themselves too.
+//! The ring call against the Rust's `clip_ring`. The Rust clears nothing; the port clears the scratch slice and the output past
+//! the cut ring, so the cut and the clearing are timed by themselves too.
 
 use std::hint::black_box;
 
@@ -31,16 +31,17 @@ fn row(vertices: usize, name: &str, ring: &[Coord<f64>]) -> Row {
     let (mut rust, mut call) = (Sides::new(ring), Sides::new(ring));
     let numbers = numbers_of(ring);
     let lent = || lent_for(vertices);
-    let (mut a, mut b, mut out) = (lent(), lent(), lent());
-    let (mut clear_a, mut clear_b) = (lent(), lent());
+    let (mut scratch, mut out) = (lent(), lent());
+    let (mut cleared_scratch, mut cleared_out) = (lent(), lent());
+    let cut = 2 * probe::clip_ring(&numbers, &BOUNDS, &mut scratch, &mut out);
     let times = medians_in_step(&mut [
         &mut || rust.rust(),
         &mut || {
-            black_box(probe::clip_lent(black_box(&numbers), &BOUNDS, &mut a, &mut b, &mut out));
+            black_box(probe::clip_ring(black_box(&numbers), &BOUNDS, &mut scratch, &mut out));
         },
         &mut || {
-            black_box(&mut clear_a[..]).fill(0.0);
-            black_box(&mut clear_b[..]).fill(0.0);
+            black_box(&mut cleared_scratch[..]).fill(0.0);
+            black_box(&mut cleared_out[cut..]).fill(0.0);
         },
         &mut || call.port(),
     ]);
@@ -59,8 +60,7 @@ pub struct Sides {
     ring: Vec<Coord<f64>>,
     numbers: Vec<f64>,
     bounds: TileBounds,
-    scratch_a: Vec<f64>,
-    scratch_b: Vec<f64>,
+    scratch: Vec<f64>,
     out: Vec<f64>,
 }
 
@@ -72,8 +72,7 @@ impl Sides {
             ring: ring.to_vec(),
             numbers: numbers_of(ring),
             bounds: TileBounds::new(BOUNDS[0], BOUNDS[1], BOUNDS[2], BOUNDS[3]),
-            scratch_a: lent(),
-            scratch_b: lent(),
+            scratch: lent(),
             out: lent(),
         };
         let cut = numbers_of(&sides.cut_by_rust());
@@ -96,8 +95,8 @@ impl Sides {
     }
 
     fn cut_by_port(&mut self) -> i64 {
-        let Sides { numbers, scratch_a, scratch_b, out, .. } = self;
-        calls::ring(black_box(numbers), &BOUNDS, scratch_a, scratch_b, out)
+        let Sides { numbers, scratch, out, .. } = self;
+        calls::ring(black_box(numbers), &BOUNDS, scratch, out)
     }
 }
 
