@@ -79,6 +79,27 @@ fn slice_calls_at_the_limits_of_21_and_22() {
     }
 }
 
+#[test]
+fn worked_calls_have_their_answers() {
+    for spare in [0, 1, 500] {
+        for (count, ring) in worked::ring_of_each_answer() {
+            let call = worked::ring_call(&ring, Beside::all(spare));
+            assert_eq!(ring_answer(&call), if count == 0 { "empty" } else { "ring" }, "{call}");
+            assert_eq!(ring_call(&Reading::RIGHT, &call).answer, count as i64, "{call}");
+        }
+        for (answer, flags, part) in worked::polygon_of_each_answer() {
+            let call = worked::slice_call(flags, &part, Beside::all(spare));
+            assert_eq!(slice_answer(&call), answer, "{call}");
+        }
+    }
+    let lost: Vec<_> = worked::ring_of_each_answer()
+        .iter()
+        .filter(|(count, _)| *count == 0)
+        .map(|(_, ring)| last_vertices(ring, worked::BOUNDS).unwrap_or("no vertex"))
+        .collect();
+    assert_eq!(lost, ["no vertex", "none after Bottom", "none after Top", "too few after Top", "too few after Top"]);
+}
+
 /// The numbers from one place of a lent slice up to another, as they were before the call.
 fn as_it_was(from: usize, to: usize) -> Vec<f64> {
     (from..to).map(unwritten).collect()

@@ -1,4 +1,4 @@
-//! Rings by what a cut makes of them: polygons across a bound, some of whose holes are cut to none and some of whose stay.
+//! Rings by what a cut makes of them: polygons across a bound with holes that are cut to none and holes that stay.
 
 use formats::{Bounds, Part, Ring};
 
