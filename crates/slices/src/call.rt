@@ -86,13 +86,14 @@ fn check_room(
     if order < room.largest {
         return RoomCheck::Fails(Refusal::Scratch);
     }
-    if out < 2 * room.all {
+    let asked = 2 * room.all;
+    if out < asked {
         return RoomCheck::Fails(Refusal::Output);
     }
     if out_lengths < lengths.len() {
         return RoomCheck::Fails(Refusal::Output);
     }
-    RoomCheck::Passes(2 * room.all)
+    RoomCheck::Passes(asked)
 }
 
 // The refusals of a slice call, in their order.

@@ -1,7 +1,6 @@
 -- `check_room` meets its contract: each return rewrites the definition by the tests that led there. Assumes nothing.
 use native.Mathlib.Omega.{arith}
 use borrow.Author.Tests.{lt-ltb, le-ltb}
-use Prim.Native.Nat.{_*_}
 use denote.Ref.{now}
 use borrow.Author.Needs.{needs}
 use Rattle.rings.proofs.LentRings.{length-closed}
@@ -22,83 +21,59 @@ returns c = rw (← c .before .before .room-of .ensures .largest-room, lt-ltb _ 
 
 returns-2 : tie.Need-returns-2
 unfolding checkRoom sliceCallRoom
-returns-2 c = rw (
-  ← c .before .before .before .before .room-of .ensures .largest-room,
-  le-ltb _ _ (c .before .before .if1 .left),
-  lt-ltb (c
-      .before .before .before .before .before .before .before .args .order) (c .before .before .before .before .room-of .result .largest)
-      (omega (arith, c .if2 .taken)),
-)
+returns-2 c =
+    let room = c .before .before .before .before .room-of in
+    rw (
+      ← room .ensures .largest-room,
+      le-ltb _ _ (c .before .before .if1 .left),
+      lt-ltb (c .before .before .before .before .before .before .before .args .order) (room .result .largest) (omega (arith, c .if2 .taken)),
+    )
 
-mul-if3 : tie.Need-mul-if3
-mul-if3 c = omega (
-  arith,
-  few-rooms _ _ (c .before .before .before .before .before .before .before .before .pre) .1,
-  c .before .before
-      .before .before .before .room-of .ensures .whole-room,
-)
+mul-asked : tie.Need-mul-asked
+mul-asked c = omega (arith, few-rooms _ _ (c .before .before .before .before .before .before .before .before .pre) .1, c .before .before .before .before .before .room-of .ensures .whole-room)
 
 returns-3 : tie.Need-returns-3
 unfolding checkRoom sliceCallRoom
-returns-3 c = rw (
-  ← c .before .before .before .before .before .before .room-of .ensures .largest-room,
-  ← c .before .before .before .before
-      .before .before .room-of .ensures .whole-room,
-  le-ltb _ _ (c .before .before .before .before .if1 .left),
-  le-ltb _ _ (c .before .before
-      .if2 .left),
-  lt-ltb (c .before .before .before .before .before .before .before .before .before .args .out) (2 * c .before .before
-      .before .before .before .before .room-of .result .all) (omega (arith, c .if3 .taken)),
-)
+returns-3 c =
+    let room = c .before .before .before .before .before .before .room-of .ensures in
+    rw (
+      ← room .largest-room,
+      ← room .whole-room,
+      le-ltb _ _ (c .before .before .before .before .if1 .left),
+      le-ltb _ _ (c .before .before .if2 .left),
+      lt-ltb _ _ (c .if3 .taken),
+    )
 
 returns-4 : tie.Need-returns-4
 unfolding checkRoom sliceCallRoom
-returns-4 c = rw (
-  ← c .before .before .before .before .before .before .before .room-of .ensures .largest-room,
-  ← c .before .before .before
-      .before .before .before .before .room-of .ensures .whole-room,
-  le-ltb _ _ (c .before .before .before .before .before .if1 .left),
-  le-ltb _ _ (c .before .before .before .if2 .left),
-  le-ltb _ _ (c .before .if3 .left),
-  length-closed (now (c .before .before .before
-      .before .before .before .before .before .before .before .args .lengths)) (now (c .before .before .before .before .before .before
-      .before .before .before .before .args .coords)),
-  lt-ltb _ _ (c .if4 .taken),
-)
-
-mul-t8 : tie.Need-mul-t8
-mul-t8 c =
-    omega (
-      arith,
-      few-rooms _ _ (c .before .before .before .before .before .before .before .before .before .before .before .pre) .1,
-      c
-          .before .before .before .before .before .before .before .before .room-of .ensures .whole-room,
+returns-4 c =
+    let room = c .before .before .before .before .before .before .before .room-of .ensures in
+    let a = c .before .before .before .before .before .before .before .before .before .before .args in
+    rw (
+      ← room .largest-room,
+      ← room .whole-room,
+      le-ltb _ _ (c .before .before .before .before .before .if1 .left),
+      le-ltb _ _ (c .before .before .before .if2 .left),
+      le-ltb _ _ (c .before .if3 .left),
+      length-closed (now (a .lengths)) (now (a .coords)),
+      lt-ltb _ _ (c .if4 .taken),
     )
 
 returns-5 : tie.Need-returns-5
 unfolding checkRoom sliceCallRoom
 returns-5 c =
-    let a = c .before .before .before .before .before .before .before .before .before .before .before .args in
+    let room = c .before .before .before .before .before .before .before .room-of .ensures in
+    let a = c .before .before .before .before .before .before .before .before .before .before .args in
     rw (
-      ← c .before .before .before .before .before .before .before .before .room-of .ensures .largest-room,
-      ← c .before .before .before .before .before .before .before .before .room-of .ensures .whole-room,
-      le-ltb _ _ (c .before .before .before .before .before .before .if1 .left),
-      le-ltb _ _ (c .before .before .before .before .if2 .left),
-      le-ltb _ _ (c .before .before .if3 .left),
+      ← room .largest-room,
+      ← room .whole-room,
+      le-ltb _ _ (c .before .before .before .before .before .if1 .left),
+      le-ltb _ _ (c .before .before .before .if2 .left),
+      le-ltb _ _ (c .before .if3 .left),
       length-closed (now (a .lengths)) (now (a .coords)),
-      le-ltb _ _ (c .before .if4 .left),
+      le-ltb _ _ (c .if4 .left),
     )
 
 pub check-room-spec : {M : Type 1} → statement M
 check-room-spec =
-    tie.close
-    (tie.spec
-    room-of-requires
-    mul-if1
-    returns
-    returns-2
-    mul-if3
-    returns-3
-    returns-4
-    mul-t8
-    returns-5)
+    tie.close (tie.spec room-of-requires mul-if1 returns returns-2 mul-asked returns-3 returns-4 returns-5)
