@@ -18,7 +18,7 @@ zeros n = replicate n plusZero
 abbrev pub over : {A : Type 0} → List A → List A → List A
 over new old = new ++ drop (length new) old
 
--- a list written from the front over another, zeros from there up to `room`, and beyond that the other as it was; 22 sees to it that the
--- other is as long as that, and that the list has room there
+-- `new` from the front, zeros behind it up to `room`, and past `room` what `old` held. 22 sees to it that `old` is as long as `room`; that
+-- `new` is no longer than `room` is a fact about B, without which no slice could keep its length.
 abbrev pub padded : {A : Type 0} → A → List A → ℕ → List A → List A
 padded zero new room old = new ++ (replicate (room - length new) zero ++ drop room old)

@@ -180,8 +180,7 @@ fn route_cut(
     judge_cut(out, m, issue, flags, bounds)
 }
 
-// What the exterior of n coordinates decides, rect being the rectangle of all rings; a cut exterior stands at the front of the
-// output.
+// What the exterior of n coordinates decides, rect being the rectangle of all rings; a cut exterior stands at the front of the output.
 pub fn route_exterior(
     ring: &[f64],
     n: usize,

@@ -1,4 +1,5 @@
-// Functions of the lower crates, exported for the comparison with the Rust. For tests only: nothing here is shipped.
+// Functions of the lower crates, exported for the comparison with the Rust, in what they do and in time. For tests only: nothing here is
+// shipped.
 ghost use mathlib.Core.Path.{_≡_};
 ghost use lib.Ieee.{nan};
 ghost use lib.ListN.{getD, set};

@@ -1,4 +1,5 @@
--- Whether what a call answers and leaves in the lent slices, by its definition, is what was kept of the unchanged Rust. Definitions only.
+-- Whether what a call answers and leaves in the lent slices, by its definition, is what was kept: the unchanged
+-- Rust's rings, with the refusals, the reasons and the zeros that the harness has for them. Definitions only.
 use mathlib.Core.Bool.{Bool, true, false, _&&_}
 use mathlib.Core.List.{List}
 use Prim.Native.Nat.{ℕ}
@@ -15,7 +16,8 @@ use Rattle.replay.specs.declared.slice_calls.SliceVector.{SliceVector}
 use Rattle.replay.specs.Code.{bitsOf, isRefusal}
 use Rattle.replay.specs.Lent.{bits, mark, wholeMark, marks, wholeMarks, areAll, holds, scratchAfter, orderAfter, mostLent}
 
--- the code of an answer, and after the call the scratch slice and the output, at whose front the kept numbers stand
+-- the code of an answer, and after the call the scratch slice and the output, at whose front stands what was kept: the answer's numbers,
+-- and behind them the zeros that the call writes
 unfoldable pub answerAgrees : ℕ → ℕ → List Float → List Float → List Float → Bool
 answerAgrees given code scratch out expected =
     eqb given code && (areAll (bits scratch) (scratchAfter (isRefusal code)) && holds mark (bits expected) (bits out))

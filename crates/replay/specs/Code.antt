@@ -14,9 +14,9 @@ bitsOf z = ofZ w64 z
 abbrev pub isRefusal : ℕ → Bool
 isRefusal code = ltb 0x7fff_ffff_ffff_ffff code
 
--- the count of numbers that a ring call with this answer writes
-abbrev pub numbersWritten : ℕ → ℕ
-numbersWritten code = cond (isRefusal code) 0 (2 * code)
+-- the count of numbers of the ring that a ring call with this answer gives
+abbrev pub ringNumbers : ℕ → ℕ
+ringNumbers code = cond (isRefusal code) 0 (2 * code)
 
 -- the count of rings that a slice call with this answer writes: only a cut, whose number is 4, writes any
 abbrev pub ringsWritten : ℕ → ℕ

@@ -3,7 +3,7 @@ ghost use mathlib.Core.Path.{_≡_};
 ghost use Prim.Native.Nat.{_^_, _<_};
 ghost use Rattle.sutherland_hodgman.specs.RingCall.{ringCallCode};
 ghost use Rattle.slices.specs.SliceCall.{answerCode, sliceCallCode};
-ghost use Rattle.replay.specs.Code.{bitsOf, isRefusal, numbersWritten, ringsWritten};
+ghost use Rattle.replay.specs.Code.{bitsOf, isRefusal, ringNumbers, ringsWritten};
 use clip::polygon::PolygonAnswer;
 use clip::polygon::reason_number;
 use slices::call::SliceAnswer;
@@ -46,9 +46,9 @@ pub fn of_ring(answer: RingAnswer) -> u64
     }
 }
 
-// The numbers that a ring call with this answer writes.
+// How many numbers the ring has that a ring call with this answer gives.
 pub fn numbers_of(code: u64) -> usize
-    ensures { λ r. ⌜ r ≡ numbersWritten code ⌝ }
+    ensures { λ r. ⌜ r ≡ ringNumbers code ⌝ }
 {
     if is_refusal(code) {
         return 0;

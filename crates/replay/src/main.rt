@@ -1,6 +1,6 @@
-// Replays ring calls and slice calls from standard input, each with the answer that the unchanged Rust gave to it (harness/README.md,
-// "Vectors to replay": a file of ring calls, then one of slice calls), and prints how often each answer was
-// given and how many calls were answered otherwise.
+// Replays ring calls and slice calls from standard input, each with the answer that was kept for it: the unchanged Rust's rings, with the
+// refusals and reasons of the harness (harness/README.md, "Vectors to replay": a file of ring calls, then one of slice calls). Prints how
+// often each answer was given and how many calls were answered otherwise.
 mod code;
 mod lent;
 mod ring_calls;

@@ -98,7 +98,7 @@ fn call(head: RingVector, code: u64, lent: &[f64], expected: &[f64]) -> Outcome
     Outcome::Differs
 }
 
-// From the answer on: how many numbers of the output the call writes follows it, and the numbers of its ring, past which it writes zeros.
+// From the answer on. There follow: how many numbers the call writes to the output, zeros included; then the numbers of the ring.
 fn replay_answer(head: RingVector, lent: &[f64]) -> Outcome {
     let Code::Is(code) = read_code() else {
         return Outcome::Broken;

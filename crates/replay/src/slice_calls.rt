@@ -220,7 +220,7 @@ fn numbers_in(lengths: &[u32]) -> usize
     2 * sum
 }
 
-// From how many numbers of the output the call writes on: a cut's numbers follow, past which it writes zeros.
+// From the cut's lengths on. There follow: how many numbers the call writes to the output, zeros included; then the cut's numbers.
 fn replay_expected(
     head: SliceVector,
     code: u64,
@@ -252,7 +252,7 @@ fn replay_expected(
     )
 }
 
-// From the answer on: a cut's lengths follow it.
+// From the answer on, which a cut's lengths follow.
 fn replay_answer(head: SliceVector, coords: &[f64], lengths: &[u32]) -> Outcome {
     let Code::Is(code) = read_code() else {
         return Outcome::Broken;

@@ -37,7 +37,7 @@ fn refusal_code(r: Refusal) -> i64
 }
 
 // The ring call: the count of coordinates of the cut ring, or minus the refusal. A NaN stands exactly where the definition has one, and
-// its bits are free.
+// its bits are free, also in a slice that is left as it was.
 #[no_mangle]
 pub extern "C" fn ringcut_ring(
     ring: &[f64],

@@ -41,7 +41,7 @@ abbrev pub lengthUnlessNone : ℕ → List ℕ
 lengthUnlessNone zero = []
 lengthUnlessNone (suc n) = suc n ∷ []
 
--- nothing is written yet
+-- no ring is counted yet
 abbrev pub nonePlaced : Placed
 nonePlaced = record { rings = 0; numbers = 0 }
 
@@ -57,20 +57,20 @@ pub record Counted (n : ℕ) (at : Placed) (outLengths : List ℕ) (r : Placed) 
   pub numbers-after : r .numbers ≡ at .numbers + 2 * n
   pub rings-after : r .rings ≡ at .rings + length (lengthUnlessNone n)
 
--- a ring of n coordinates at the front of a slice can be cut in the output behind what is written
+-- a ring of n coordinates at the front of a slice can be cut in the output behind the rings counted so far
 pub record HoleRoom (n : ℕ) (ring : List Float) (scratch out outLengths : ℕ) (at : Placed) : Type 0 where
   pub room : RingRoom n ring scratch (out - at .numbers)
   pub output-room : at .numbers ≤ out
   pub lengths-room : at .rings < outLengths
 
--- the ring stands there, what was written before it is as it was, and it is counted
+-- the ring stands there, the rings before it are as they were, and it is counted
 pub record Put (ring : List Coord) (at : Placed) (out : List Float) (outLengths : List ℕ) (r : Placed) (out′ : List Float)
     (outLengths′ : List ℕ) : Type 0 where
   pub output : take (r .numbers) out′ ≡ take (at .numbers) out ++ flat ring
   pub counted : Counted (length ring) at outLengths r outLengths′
 
--- Lent rings can be cut with a scratch slice of this length, and have room in the output behind what is written. No first coordinate holds
--- a NaN, so that closing closes every ring.
+-- Lent rings can be cut with a scratch slice of this length, and have room in the output behind the rings counted so far. No first
+-- coordinate holds a NaN, so that closing closes every ring.
 pub record LentRingsRoom (lengths : List ℕ) (coords : List Float) (scratch out outLengths : ℕ) (at : Placed) : Type 0 where
   pub measurable : Measurable lengths coords
   pub closes : allClosed (closedRings lengths coords) ≡ true
@@ -78,7 +78,7 @@ pub record LentRingsRoom (lengths : List ℕ) (coords : List Float) (scratch out
   pub output-room : at .numbers + 2 * total ringRoom (closedRings lengths coords) ≤ out
   pub lengths-room : at .rings + length lengths ≤ outLengths
 
--- the cut holes that are not left out stand there, what was written before them is as it was, and they are counted
+-- the cut holes that are not left out stand there, the rings before them are as they were, and they are counted
 pub record PutHoles (holes : List (List Coord)) (at : Placed) (out : List Float) (outLengths : List ℕ) (r : Placed) (out′ : List Float)
     (outLengths′ : List ℕ) : Type 0 where
   pub output : take (r .numbers) out′ ≡ take (at .numbers) out ++ numbersOf holes

@@ -85,7 +85,8 @@ sliceCallAnswer flags bounds buffer coords lengths lent =
 
 -- ---- the lent slices afterwards
 
--- "A cut's rings stand from the front of the output, exterior first, their lengths in a second u32 slice, .. other answers write neither."
+-- "A cut's rings stand from the front of the output, exterior first, their lengths in a second u32 slice": other answers have no rings to
+-- write, and no lengths
 abbrev pub writtenRings : Routed → List (List Coord)
 writtenRings nothing = []
 writtenRings dropped = []

@@ -40,13 +40,13 @@ enum RoomCheck {
     Passes(usize),
 }
 
-// How much of the output is written: rings, and their numbers.
+// How much of the output is the answer's so far: rings, and their numbers.
 struct Placed {
     rings: usize,
     numbers: usize,
 }
 
-// What becomes of a polygon, and how many numbers of the output are its.
+// What becomes of a polygon, and how many numbers of the output belong to the answer.
 struct Clipped {
     answer: PolygonAnswer,
     numbers: usize,
@@ -118,7 +118,8 @@ fn check_polygon(
     check_room(coords, lengths, scratch, order, out, out_lengths)
 }
 
-// Counts the ring of n coordinates that stands behind what is written, and writes its length; a ring without coordinates is left out.
+// Counts the ring of n coordinates that stands behind the rings counted so far, and writes its length; a ring without coordinates is left
+// out.
 fn count_ring(n: usize, out_lengths: &mut [u32], at: Placed) -> Placed
     requires { ⌜ Contracts.CountRoom n (length (now «out_lengths»)) at ⌝ }
     ensures { λ r. ⌜ Contracts.Counted n at (now («out_lengths» .entry)) r (now («out_lengths» .exit)) ⌝ }
@@ -134,7 +135,8 @@ fn count_ring(n: usize, out_lengths: &mut [u32], at: Placed) -> Placed
     }
 }
 
-// Cuts the ring of n coordinates at the front of a slice as a hole, in the output behind what is written, where it is to stand.
+// Cuts as a hole the ring of n coordinates at the front of a slice. It is cut in the output behind the rings counted so far, where it is to
+// stand.
 fn put_hole(
     ring: &[f64],
     n: usize,
@@ -153,7 +155,7 @@ fn put_hole(
     count_ring(m, out_lengths, at)
 }
 
-// Cuts lent rings as holes, each in the output behind what is written.
+// Cuts lent rings as holes, each in the output behind the rings counted so far.
 fn put_holes(
     coords: &[f64],
     lengths: &[u32],
@@ -180,7 +182,7 @@ fn put_holes(
     placed
 }
 
-// Puts the holes behind the cut exterior of m coordinates, which stands at the front of the output, and answers how much is written.
+// Puts the holes behind the cut exterior of m coordinates, which stands at the front of the output, and answers how much is counted.
 fn put_cut(
     coords: &[f64],
     lengths: &[u32],
@@ -265,8 +267,8 @@ fn answer_route(
     }
 }
 
-// What becomes of a polygon that has room everywhere; the bounds are buffered. The output serves for every second pass: past a cut's rings
-// it is left open, as are the scratch and order slices.
+// What becomes of a polygon that has room everywhere; the bounds are buffered. The output serves for every second pass: but for
+// a cut's rings at its front, what it holds is left open, as are the scratch and order slices.
 fn clip_polygon(
     flags: Flags,
     bounds: TileBounds,
@@ -315,9 +317,9 @@ fn clear_order(s: &mut [u32])
 }
 
 // What becomes of one polygon, whose rings it closes. A refusal changes nothing lent. Any other answer fills the scratch and order slices
-// with zeros, whole, and the output past a cut's rings up to what 22 asks; it leaves the output beyond that, and the second length slice
-// past a cut's lengths, unchanged. The logic has one NaN: a NaN stands exactly where the definition has one, and its bits are free, also in
-// a slice that is left unchanged.
+// with zeros, whole, and the output up to what 22 asks: past a cut's rings, and where there is no cut from its front. It leaves the output
+// beyond that, and the second length slice past a cut's lengths, unchanged. The logic has one NaN: a NaN stands exactly where the
+// definition has one, and its bits are free, also in a slice that is left unchanged.
 pub fn polygon(
     flags: Flags,
     bounds: TileBounds,

@@ -1,17 +1,17 @@
 -- The ring call: what the checks leave, and what cutting and clearing make of the lent slices. Assumes nothing.
-use mathlib.Core.Path.{_≡_, refl, sym, _∙_}
+use mathlib.Core.Path.{_≡_, refl, sym, _∙_, ap}
 use mathlib.Core.Logic.{_⊎_, inl, inr}
 use mathlib.Core.Bool.{Bool, true, false}
-use mathlib.Core.List.{List, [], _∷_, _++_}
+use mathlib.Core.List.{List, [], _∷_, _++_, append-nil, append-assoc}
 use Prim.Native.Nat.{ℕ, suc, _*_, _-_, _/_, _%_, _≤_}
 use native.Mathlib.Omega.{arith}
 use lib.Dec.{ltb, eqb}
 use lib.Ieee.{Float}
-use lib.ListN.{length, take, drop}
-use lib.Seq.{take-at, take-length}
+use lib.ListN.{length, take, drop, length-append, length-drop, drop-of-length-le}
+use lib.Seq.{take-at, take-append-le, take-length}
 use borrow.Author.Tests.{ltb-false, eqb-false}
-use Rattle.binary64.specs.Slices.{plusZero, zeros}
-use Rattle.binary64.proofs.Fill.{padded-part}
+use Rattle.binary64.specs.Slices.{zeros}
+use Rattle.binary64.proofs.Fill.{tail-part}
 use Rattle.tile.specs.declared.Coord.{Coord}
 use Rattle.tile.specs.declared.TileBounds.{TileBounds}
 use Rattle.tile.specs.Ring.{coords, flat}
@@ -24,7 +24,7 @@ use Rattle.sutherland_hodgman.specs.declared.call.RingAnswer.the-variant
 use Rattle.sutherland_hodgman.specs.Growth.{halfGrowth, fourHalfGrowths, B, mostCoordinates}
 use Rattle.sutherland_hodgman.specs.Clip.{clipRing}
 use Rattle.sutherland_hodgman.specs.Promise.{Promise}
-use Rattle.sutherland_hodgman.specs.Contracts.{RingCut, ClippedTo}
+use Rattle.sutherland_hodgman.specs.Contracts.{RingCut, PaddedCut}
 use Rattle.sutherland_hodgman.specs.RingCall.{failsIf, ringCallRoom, checkRing, RingSlices, ringSlices, ringCallCheck, ringAnswered}
 use Rattle.sutherland_hodgman.specs.RingCall.{ringCallAnswer, ringCallSlices}
 use Rattle.sutherland_hodgman.proofs.Growth.{clipRing-grows}
@@ -72,42 +72,49 @@ promise-room b (p ∷ r) q h = let g = h .growth in omega arith
 -- ---- cut, and the rest cleared
 
 module _ (ring : List Float) (numbers : 2 * (length ring / 2) ≡ length ring) where
-  ring-length : length (coords ring) ≡ length ring / 2
-  ring-length = length-coords (length ring / 2) ring (sym numbers)
-
   pub whole-ring : coords (take (2 * (length ring / 2)) ring) ≡ coords ring
   whole-ring = rw (numbers, take-length ring)
 
-  module _ (bounds : TileBounds) where
-    -- the cut of the ring as lent
-    pub lent-cut : (r : ℕ) (after : List Float) → RingCut bounds (coords (take (2 * (length ring / 2)) ring)) r after
-        → RingCut bounds (coords ring) r after
-    lent-cut r after c = rw whole-ring at c
+  -- the cut of the ring as lent, in a part of the output as long as 22 asks
+  pub lent-padded : (bounds : TileBounds) (room r : ℕ) (part : List Float) → room ≡ ringCallRoom (length ring)
+      → PaddedCut bounds (coords (take (2 * (length ring / 2)) ring)) room r part
+      → PaddedCut bounds (coords ring) (ringCallRoom (length ring)) r part
+  lent-padded bounds room r part e c = rw (whole-ring, e) at c
 
-    pub cut-room : (r : ℕ) (after : List Float) → RingCut bounds (coords ring) r after → r ≤ B (length ring / 2)
-    cut-room r after c =
-        let cut = clipRing bounds (coords ring) in
-        let p : Promise bounds (coords ring) cut = rw (stands-front (c .stands)) at (c .promise) in
-        let g : length cut ≤ B (length ring / 2) = rw ring-length at (promise-room bounds (coords ring) cut p) in
-        omega (arith, c .stands .count)
+-- a cut in a slice as long as 22 asks, and the rest cleared
+module _ (bounds : TileBounds) (ring : List Coord) (n : ℕ) (vertices : length ring ≡ n) (r : ℕ) (part : List Float)
+    (cut : RingCut bounds ring r part) where
+  pub cut-room : r ≤ B n
+  cut-room =
+      let p : Promise bounds ring (clipRing bounds ring) = rw (stands-front (cut .stands)) at (cut .promise) in
+      let g : length (clipRing bounds ring) ≤ B n = rw vertices at (promise-room bounds ring (clipRing bounds ring) p) in
+      omega (arith, cut .stands .count)
 
-    -- what 22 asks of the output is `room`, the part of it that the ring is cut in
-    pub cut-padded : (out part fill : List Float) (r room : ℕ) → room ≡ 2 * B (length ring / 2) → length part ≡ room
-        → RingCut bounds (coords ring) r part
-        → fill ≡ zeros (length (take (room - 2 * r) (drop (2 * r) (part ++ drop room out))))
-        → ClippedTo ring bounds out r
-        (take (2 * r) (part ++ drop room out) ++ (fill ++ drop (room - 2 * r) (drop (2 * r) (part ++ drop room out))))
-    unfolding ringCallRoom
-    cut-padded out part fill r room e l c hz =
-        let cut = clipRing bounds (coords ring) in
-        let n : length (flat cut) ≡ 2 * r = length-flat cut ∙ rw (c .stands .count) in
-        let h : 2 * r ≤ room = omega (arith, cut-room r part c) in
-        let p = padded-part plusZero (flat cut) part out fill (2 * r) room (c .stands .numbers) n h l hz in
-        record {
-          count = c .stands .count;
-          numbers = rw (← e) p;
-          promise = rw (p, take-at (flat cut) _ (2 * r) n, ← c .stands .numbers) (c .promise);
-        }
+  pub cut-padded : (fill : List Float) → 2 * B n ≤ length part → fill ≡ zeros (length (take (length part - 2 * r) (drop (2 * r) part)))
+      → PaddedCut bounds ring (length part) r
+      (take (2 * r) part ++ (fill ++ drop (length part - 2 * r) (drop (2 * r) part)))
+  cut-padded fill h e =
+      let c = clipRing bounds ring in
+      let k : length (flat c) ≡ 2 * r = length-flat c ∙ rw (cut .stands .count) in
+      let l : length (take (length part - 2 * r) (drop (2 * r) part)) ≡ length part - 2 * r =
+      rw (tail-part part (2 * r)) (length-drop (2 * r) part) in
+      let m : length (drop (2 * r) part) ≤ length part - 2 * r = omega (arith, length-drop (2 * r) part) in
+      let none : drop (length part - 2 * r) (drop (2 * r) part) ≡ [] = drop-of-length-le (drop (2 * r) part) m in
+      record {
+        count = cut .stands .count;
+        numbers = rw (cut .stands .numbers, none, append-nil, e, l);
+        promise =
+            rw (cut .stands .numbers, take-at (flat c) _ (2 * r) k, ← cut .stands .numbers) (cut .promise);
+      }
+
+-- what demand 3 says of the part it says of the output, of which it is the front
+pub padded-front : {bounds : TileBounds} {ring : List Coord} {room r : ℕ} {part : List Float} (rest : List Float)
+    → PaddedCut bounds ring room r part → Promise bounds ring (coords (take (2 * r) (part ++ rest)))
+padded-front {bounds} {ring} {room} {r} {part} rest c =
+    let cut = clipRing bounds ring in
+    let n : length (flat cut) ≡ 2 * r = length-flat cut ∙ rw (c .count) in
+    let l : 2 * r ≤ length part = omega (arith, n, ap length (c .numbers), length-append (flat cut) (zeros (room - 2 * r))) in
+    rw (take-append-le (2 * r) part rest l) (c .promise)
 
 -- a scratch slice is cleared, and has kept its length
 pub cleared : (m n : ℕ) (l : List Float) → l ≡ zeros m → m ≡ n → l ≡ zeros n
@@ -120,10 +127,14 @@ module _ (ring : List Float) (bounds : TileBounds) (lent : RingSlices) where
   unfolding ringCallSlices
   refused-slices r e = rw e
 
-  pub clipped-slices : (scratch out : List Float) (r : ℕ) → ringCallCheck ring lent ≡ Passes → scratch ≡ zeros (length (lent .scratch))
-      → ClippedTo ring bounds (lent .output) r out → ringSlices scratch out ≡ ringCallSlices ring bounds lent
+  pub clipped-slices : (scratch part : List Float) (r : ℕ) → ringCallCheck ring lent ≡ Passes → scratch ≡ zeros (length (lent .scratch))
+      → PaddedCut bounds (coords ring) (ringCallRoom (length ring)) r part
+      → ringSlices scratch (part ++ drop (ringCallRoom (length ring)) (lent .output)) ≡ ringCallSlices ring bounds lent
   unfolding ringCallSlices
-  clipped-slices scratch out r e h c = rw (e, h, c .numbers)
+  clipped-slices scratch part r e h c =
+      let cut = clipRing bounds (coords ring) in
+      let n : length (flat cut) ≡ 2 * r = length-flat cut ∙ rw (c .count) in
+      rw (e, h, c .numbers, n, append-assoc)
 
   -- a ring call answers few coordinates
   pub answer-few : (n : ℕ) → ringCallAnswer ring bounds lent ≡ Clipped n → n ≤ 8 * mostCoordinates

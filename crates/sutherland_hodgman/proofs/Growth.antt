@@ -133,7 +133,12 @@ room-pass zero space k h l = omega arith
 room-pass (suc n) space k h l = omega arith
 
 -- one vertex more
-pub room-close : (n space k : ℕ) → 2 * B n ≤ space → k ≤ fourHalfGrowths n → 3 ≤ k → 2 * k + 2 ≤ space
+pub room-more : (n space k : ℕ) → 2 * B n ≤ space → k ≤ fourHalfGrowths n → 0 < n → 2 * k + 2 ≤ space
 unfolding B fourHalfGrowths halfGrowth
-room-close zero space k h l t = absurd (omega arith)
-room-close (suc n) space k h l t = omega arith
+room-more zero space k h l t = absurd (omega arith)
+room-more (suc n) space k h l t = omega arith
+
+pub grown-some : (n k : ℕ) → k ≤ grown 3 n → 0 < k → 0 < n
+unfolding grown halfGrowth
+grown-some zero k h t = absurd (omega arith)
+grown-some (suc n) k h t = omega arith

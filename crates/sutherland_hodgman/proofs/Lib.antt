@@ -1,6 +1,7 @@
 mod Calls
 mod Cases
 mod Growth
+mod LastPass
 mod LeavingOff
 pub mod Offered
 mod Promises

@@ -1,7 +1,7 @@
 -- The passes in turn over two slices: after each the ring so far stands at the front of a slice, within its growth. Assumes nothing.
 use mathlib.Core.Path.{_≡_, refl, sym}
 use mathlib.Core.List.{List}
-use Prim.Native.Nat.{ℕ, suc, _+_, _*_, _≤_}
+use Prim.Native.Nat.{ℕ, suc, _+_, _*_, _≤_, _<_}
 use native.Mathlib.Nat.{le-trans, le-of-eq}
 use native.Mathlib.Omega.{arith}
 use lib.Ieee.{Float}
@@ -9,12 +9,14 @@ use lib.ListN.{length, take}
 use Rattle.tile.specs.declared.Coord.{Coord}
 use Rattle.tile.specs.declared.TileBounds.{TileBounds}
 use Rattle.tile.specs.declared.Edge.{Edge}
+use Rattle.tile.specs.declared.Edge.the-variants.{Left, Right, Bottom}
 use Rattle.tile.specs.Ring.{coords}
 use Rattle.tile.specs.Contracts.{Stands, Written}
 use Rattle.tile.proofs.Rings.{length-front, flat-front, stands-front, written-stands}
-use Rattle.sutherland_hodgman.specs.Clip.{pass, finish}
+use Rattle.sutherland_hodgman.specs.Clip.{pass}
+use Rattle.sutherland_hodgman.specs.Contracts.{threePasses}
 use Rattle.sutherland_hodgman.specs.Growth.{halfGrowth, B}
-use Rattle.sutherland_hodgman.proofs.Growth.{pass-grows, halfGrowth-mono, grown, grown-four, room-pass, room-close}
+use Rattle.sutherland_hodgman.proofs.Growth.{pass-grows, halfGrowth-mono, grown, grown-four, room-pass, room-more, grown-some}
 
 -- after j passes over n vertices: the ring r, k vertices long, at the front of d
 pub record Stage (j n : ℕ) (r : List Coord) (d : List Float) (k : ℕ) : Type 0 where
@@ -48,13 +50,26 @@ stage-room {j} {n} {k = k} here there h p q s = (
   room-pass n there (halfGrowth k) q (le-trans (halfGrowth-mono (s .bounded)) (grown-four (suc j) n h)),
 )
 
--- the room for closing after the last pass
-pub stage-close : {n : ℕ} {r : List Coord} {d : List Float} {k : ℕ} (here : ℕ) → 2 * B n ≤ here → Stage 4 n r d k
-    → (2 * k ≤ here) × (3 ≤ k → 2 * k + 2 ≤ here)
-stage-close {n} {k = k} here p s =
-    let g = le-trans (s .bounded) (grown-four 4 n (omega arith)) in (room-pass n here k p g, room-close n here k p g)
+-- what the three passes leave is the third stage
+pub stage-three : (b : TileBounds) (r : List Coord) (n : ℕ) (d : List Float) (k : ℕ) → length r ≡ n → Stands (threePasses b r) k d
+    → Stage 3 n (threePasses b r) d k
+unfolding grown threePasses
+stage-three b r n d k e t = record {
+  stands = t;
+  bounded =
+      le-trans (le-of-eq (t .count)) (le-trans (pass-grows Bottom b _)
+      (halfGrowth-mono (le-trans (pass-grows Right b _)
+      (halfGrowth-mono (le-trans (pass-grows Left b r) (halfGrowth-mono (le-of-eq e)))))));
+}
 
--- what finishing makes of the fourth stage
-pub stage-finish : {n : ℕ} {r : List Coord} {d : List Float} {k : ℕ} (d′ : List Float) (k′ : ℕ) → Stage 4 n r d k
-    → Written (finish (coords (take (2 * k) d))) d k′ d′ → Stands (finish r) k′ d′
-stage-finish d′ k′ s w = written-stands (rw (stands-front (s .stands)) at w)
+-- the room for the last pass and the closing
+pub stage-last : {n : ℕ} {r : List Coord} {d : List Float} {k : ℕ} (here there : ℕ) → 2 * B n ≤ here → 2 * B n ≤ there → Stage 3 n r d k
+    → (2 * k ≤ here) × (2 * halfGrowth k ≤ there) × (0 < k → 2 * halfGrowth k + 2 ≤ there)
+unfolding grown
+stage-last {n} {k = k} here there p q s =
+    let m = stage-room here there (omega arith) p q s in (
+      m .0,
+      m .1,
+      λ t. room-more n there (halfGrowth k) q (le-trans (halfGrowth-mono (s .bounded)) (grown-four 4 n (omega arith)))
+          (grown-some n k (s .bounded) t),
+    )

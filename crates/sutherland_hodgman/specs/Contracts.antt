@@ -1,22 +1,22 @@
 -- What the functions of a pass and of the ring cutter say to each other and to the crates above. No contract of an entry point reaches it,
--- so a reader of those can skip this file. Definitions only.
+-- so a reader of those can skip this file; `clip_ring` says demand 3 by `RingCut`. Definitions only.
 use mathlib.Core.Path.{_≡_}
 use mathlib.Core.Bool.{Bool}
-use mathlib.Core.List.{List}
+use mathlib.Core.List.{List, _++_}
 use Prim.Native.Nat.{_-_, ℕ, zero, suc, _+_, _≤_, _<_, _*_}
 use lib.Ieee.{Float, nan}
 use lib.ListN.{length, take, getD, drop}
 use lib.Seq.{sets}
-use Rattle.binary64.specs.Slices.{plusZero, padded}
+use Rattle.binary64.specs.Slices.{zeros}
 use Rattle.tile.specs.declared.Coord.{Coord}
 use Rattle.tile.specs.declared.TileBounds.{TileBounds}
 use Rattle.tile.specs.declared.Edge.{Edge}
+use Rattle.tile.specs.declared.Edge.the-variants.{Left, Right, Bottom}
 use Rattle.tile.specs.Ring.{coords, flat}
 use Rattle.tile.specs.Contracts.{Stands}
 use Rattle.sutherland_hodgman.specs.declared.Walk.{Walk}
-use Rattle.sutherland_hodgman.specs.Clip.{steps, clipRing}
+use Rattle.sutherland_hodgman.specs.Clip.{steps, pass, clipRing}
 use Rattle.sutherland_hodgman.specs.Growth.{halfGrowth, B}
-use Rattle.sutherland_hodgman.specs.RingCall.{ringCallRoom}
 use Rattle.sutherland_hodgman.specs.Promise.{Promise}
 
 -- ---- a pass
@@ -66,6 +66,10 @@ pub record RunVerdicts (m i verdicts : ℕ) : Type 0 where
 
 -- ---- the four passes
 
+-- the passes but the last
+unfoldable pub threePasses : TileBounds → List Coord → List Coord
+threePasses b r = pass Bottom b (pass Right b (pass Left b r))
+
 -- a ring of n vertices at the front of a slice of length `ring` can be cut with a scratch slice and an output of these lengths
 pub record CutterRoom (n ring scratch out : ℕ) : Type 0 where
   pub vertices : 2 * n ≤ ring
@@ -77,9 +81,8 @@ pub record RingCut (bounds : TileBounds) (ring : List Coord) (r : ℕ) (after : 
   pub stands : Stands (clipRing bounds ring) r after
   pub promise : Promise bounds ring (coords (take (2 * r) after))
 
--- the cut of a lent ring stands at the front of the output, r coordinates long, and zeros from there up to what 22 asks; demand 3 holds of
--- the ring that stands there
-pub record ClippedTo (ring : List Float) (bounds : TileBounds) (out : List Float) (r : ℕ) (out′ : List Float) : Type 0 where
-  pub count : r ≡ length (clipRing bounds (coords ring))
-  pub numbers : out′ ≡ padded plusZero (flat (clipRing bounds (coords ring))) (ringCallRoom (length ring)) out
-  pub promise : Promise bounds (coords ring) (coords (take (2 * r) out′))
+-- the cut ring stands at the front of the output, r vertices long, and zeros past it; demand 3 holds of what stands there
+pub record PaddedCut (bounds : TileBounds) (ring : List Coord) (out r : ℕ) (after : List Float) : Type 0 where
+  pub count : r ≡ length (clipRing bounds ring)
+  pub numbers : after ≡ flat (clipRing bounds ring) ++ zeros (out - 2 * r)
+  pub promise : Promise bounds ring (coords (take (2 * r) after))

@@ -2,11 +2,14 @@
 // cut.
 ghost use mathlib.Core.Path.{_≡_};
 ghost use Prim.Native.Nat.{_*_, _≤_};
+ghost use lib.ListN.{length, take};
+ghost use Rattle.tile.specs.Ring.{coords};
 ghost use Rattle.sutherland_hodgman.specs.Growth.{halfGrowth, B, mostCoordinates};
-ghost use Rattle.sutherland_hodgman.specs.RingCall.{checkRing, ringSlices, ringCallCheck, ringCallAnswer, ringCallSlices};
+ghost use Rattle.sutherland_hodgman.specs.RingCall.{checkRing, ringSlices, ringCallAnswer, ringCallSlices};
 ghost use Rattle.sutherland_hodgman.specs.RingCall.{RingCallPromise};
-ghost use Rattle.sutherland_hodgman.specs.Contracts.{ClippedTo};
-use super::clip_ring;
+ghost use Rattle.sutherland_hodgman.specs.Contracts.{CutterRoom, PaddedCut};
+use super::clip_three_edges;
+use super::clip_top;
 use binary64::slices::clear;
 use tile::TileBounds;
 
@@ -72,17 +75,22 @@ pub fn check_ring(numbers: usize, scratch: usize, out: usize) -> Check
     Check::Passes
 }
 
-// Cuts a ring that the checks pass to the front of the output, and fills the output with zeros from there up to what 22 asks. The scratch
-// slice is left as the passes leave it.
-fn clip_padded(ring: &[f64], bounds: TileBounds, scratch: &mut [f64], out: &mut [f64]) -> usize
-    requires { ⌜ ringCallCheck (now ring) (ringSlices (now scratch) (now out)) ≡ Check.Passes ⌝ }
-    ensures { λ r. ⌜ ClippedTo (now (ring .entry)) bounds (now (out .entry)) r (now (out .exit)) ⌝ }
+// Cuts the ring of n vertices at the front of a slice as `clip_ring` does, and fills the output past the cut with zeros. The scratch slice
+// holds what the passes left there.
+fn clip_padded(
+    ring: &[f64],
+    n: usize,
+    bounds: TileBounds,
+    scratch: &mut [f64],
+    out: &mut [f64],
+) -> usize
+    requires { ⌜ CutterRoom n (length (now ring)) (length (now scratch)) (length (now out)) × (n ≤ mostCoordinates) ⌝ }
+    ensures { λ r. ⌜ PaddedCut bounds (coords (take (2 * n) (now (ring .entry)))) (length (now (out .entry))) r (now (out .exit)) ⌝ }
 {
-    let n = ring.len() / 2;
-    let room = 2 * room_for(n);
-    let len = clip_ring(ring, n, bounds, scratch, &mut out[..room]);
+    let bottom = clip_three_edges(ring, n, bounds, scratch, out);
+    let len = clip_top(scratch, bottom, bounds, out);
     let used = 2 * len;
-    clear(&mut out[used..room]);
+    clear(&mut out[used..]);
     len
 }
 
@@ -98,9 +106,11 @@ pub fn ring(ring: &[f64], bounds: TileBounds, scratch: &mut [f64], out: &mut [f6
     match check_ring(ring.len(), scratch.len(), out.len()) {
         Check::Fails(refusal) => RingAnswer::Refused(refusal),
         Check::Passes => {
-            let n = clip_padded(ring, bounds, scratch, out);
+            let n = ring.len() / 2;
+            let room = 2 * room_for(n);
+            let len = clip_padded(ring, n, bounds, scratch, &mut out[..room]);
             clear(scratch);
-            RingAnswer::Clipped(n)
+            RingAnswer::Clipped(len)
         }
     }
 }

@@ -4,7 +4,7 @@ ghost use mathlib.Core.Bool.{true, false, not};
 ghost use Prim.Native.Nat.{_+_, _*_, _≤_, _<_};
 ghost use lib.ListN.{length, take};
 ghost use Rattle.tile.specs.Ring.{coords};
-ghost use Rattle.tile.specs.Contracts.{coordAt, Written};
+ghost use Rattle.tile.specs.Contracts.{coordAt, Stands, Written};
 ghost use Rattle.sutherland_hodgman.specs.CuttingLines as CuttingLines;
 ghost use Rattle.sutherland_hodgman.specs.Clip as Clip;
 ghost use Rattle.sutherland_hodgman.specs.Contracts as Contracts;
@@ -275,9 +275,36 @@ fn finish(ring: &mut [f64], n: usize) -> usize
     close(ring, n)
 }
 
-// Cuts the ring of n vertices at the front of a slice at all four edges. The passes go from the ring to the scratch slice, to the output,
-// to the scratch slice and to the output, at whose front the result stands; the answer is its length. Demand 3 holds of it. What lies past
-// it in the output, and all of the scratch slice, is left open.
+// The passes but the last: from the ring to the scratch slice, to the output, and to the scratch slice, at whose front stands what they
+// leave; the answer is its length. They are apart from the last one because this much is compiled into the ring call.
+fn clip_three_edges(
+    ring: &[f64],
+    n: usize,
+    bounds: TileBounds,
+    scratch: &mut [f64],
+    out: &mut [f64],
+) -> usize
+    requires { ⌜ CutterRoom n (length (now ring)) (length (now scratch)) (length (now out)) ⌝ }
+    ensures { λ r. ⌜ Stands (Contracts.threePasses bounds (coords (take (2 * n) (now (ring .entry))))) r (now (scratch .exit)) ⌝ }
+{
+    let left = clip_ring_against_edge(ring, n, Edge::Left, bounds, scratch);
+    let right = clip_ring_against_edge(scratch, left.len, Edge::Right, bounds, out);
+    let bottom = clip_ring_against_edge(out, right.len, Edge::Bottom, bounds, scratch);
+    bottom.len
+}
+
+// The last pass, to the output, and the closing there.
+fn clip_top(scratch: &[f64], n: usize, bounds: TileBounds, out: &mut [f64]) -> usize
+    requires { ⌜ (2 * n ≤ length (now scratch)) × (2 * halfGrowth n ≤ length (now out))
+        × (0 < n → 2 * halfGrowth n + 2 ≤ length (now out)) ⌝ }
+    ensures { λ r. ⌜ Stands (Clip.finish (Clip.pass Edge.Top bounds (coords (take (2 * n) (now (scratch .entry)))))) r (now (out .exit)) ⌝ }
+{
+    let top = clip_ring_against_edge(scratch, n, Edge::Top, bounds, out);
+    finish(out, top.len)
+}
+
+// Cuts the ring of n vertices at the front of a slice at all four edges. The output serves for every second pass; the result stands at its
+// front, and the answer is its length. Demand 3 holds of it. What lies past it in the output, and all of the scratch slice, is left open.
 pub fn clip_ring(
     ring: &[f64],
     n: usize,
@@ -288,9 +315,6 @@ pub fn clip_ring(
     requires { ⌜ CutterRoom n (length (now ring)) (length (now scratch)) (length (now out)) ⌝ }
     ensures { λ r. ⌜ RingCut bounds (coords (take (2 * n) (now (ring .entry)))) r (now (out .exit)) ⌝ }
 {
-    let left = clip_ring_against_edge(ring, n, Edge::Left, bounds, scratch);
-    let right = clip_ring_against_edge(scratch, left.len, Edge::Right, bounds, out);
-    let bottom = clip_ring_against_edge(out, right.len, Edge::Bottom, bounds, scratch);
-    let top = clip_ring_against_edge(scratch, bottom.len, Edge::Top, bounds, out);
-    finish(out, top.len)
+    let len = clip_three_edges(ring, n, bounds, scratch, out);
+    clip_top(scratch, len, bounds, out)
 }

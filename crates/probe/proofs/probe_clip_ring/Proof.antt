@@ -40,7 +40,8 @@ same-length-2 c = search needs
 
 returns-2 : tie.Need-returns-2
 returns-2 c =
-    let a = c .before .before .before .before .before .before .before .before .before .before .before .before .before .before .before .args in
+    let a = c .before .before .before .before .before .before .before .before .before .before .before .before .before .before .before .args
+    in
     λ p. rw (
       ← c .before .before .before .before .before .before .before .bounds-at .ensures,
       ← lent-whole (now (a .ring)) (ringSlices (now (a .scratch)) (now (a .out))) p,

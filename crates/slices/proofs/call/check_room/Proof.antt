@@ -26,11 +26,20 @@ returns-2 c =
     rw (
       ← room .ensures .largest-room,
       le-ltb _ _ (c .before .before .if1 .left),
-      lt-ltb (c .before .before .before .before .before .before .before .args .order) (room .result .largest) (omega (arith, c .if2 .taken)),
+      lt-ltb (c .before .before .before .before .before .before .before .args .order) (room .result .largest) (omega (
+        arith,
+        c .if2
+            .taken,
+      )),
     )
 
 mul-asked : tie.Need-mul-asked
-mul-asked c = omega (arith, few-rooms _ _ (c .before .before .before .before .before .before .before .before .pre) .1, c .before .before .before .before .before .room-of .ensures .whole-room)
+mul-asked c = omega (
+  arith,
+  few-rooms _ _ (c .before .before .before .before .before .before .before .before .pre) .1,
+  c .before .before
+      .before .before .before .room-of .ensures .whole-room,
+)
 
 returns-3 : tie.Need-returns-3
 unfolding checkRoom sliceCallRoom

@@ -113,7 +113,8 @@ returns-3 c =
         ← c .before .before .before .before .before .before .before .before .before .before .before .before .before .before .before
             .before .before .before .before .before .before .before .before .before .polygon-rect-all-rings .ensures,
         c .before .before .before
-            .before .before .before .before .before .before .before .before .before .before .before .before .before .before .before .before .before
+            .before .before .before .before .before .before .before .before .before .before .before .before .before .before .before .before
+            .before
             .before .before .rect .given .1,
         e,
         ← route,

@@ -34,8 +34,15 @@ count-ring-requires c κs =
     let p = c .before .before .before .before .before .before .before .before .before .before .before .before .pre in
     let m = c .before .before .before .before .before .clip-hole .result in
     let st = c .before .before .before .before .before .clip-hole .ensures in
-    let f = cut-fits _ _ _ _ (p .room) (cutHole (a .bounds) (close (coords (take (2 * a .n) (now (a .ring)))))) (hole-fits-room (a .bounds) (close (coords (take (2 * a .n) (now (a .ring)))))) m (st .count) in
-    record { small = cut-small _ _ _ _ (p .room) (cutHole (a .bounds) (close (coords (take (2 * a .n) (now (a .ring)))))) (hole-fits-room (a .bounds) (close (coords (take (2 * a .n) (now (a .ring)))))) m (st .count); numbers = omega (arith, f, p .output-room); lengths-room = p .lengths-room }
+    let f = cut-fits _ _ _ _ (p .room) (cutHole (a .bounds) (close (coords (take (2 * a .n) (now (a .ring)))))) (hole-fits-room (a .bounds)
+    (close (coords (take (2 * a .n) (now (a .ring)))))) m (st .count) in
+    record {
+      small = cut-small _ _ _ _ (p .room) (cutHole (a .bounds) (close (coords (take (2 * a .n) (now (a .ring)))))) (hole-fits-room
+          (a .bounds) (close (coords (take (2 * a .n) (now (a .ring)))))) m (st .count);
+      numbers = omega (arith, f, p .output-room);
+      lengths-room
+          = p .lengths-room;
+    }
 
 same-length : tie.Need-same-length
 same-length c = search needs
@@ -48,14 +55,18 @@ same-length-3 c = search needs
 
 returns : tie.Need-returns
 returns c =
-    let a = c .before .before .before .before .before .before .before .before .before .before .before .before .before .before .before .args in
-    let p = c .before .before .before .before .before .before .before .before .before .before .before .before .before .before .before .pre in
+    let a = c .before .before .before .before .before .before .before .before .before .before .before .before .before .before .before .args
+    in
+    let p = c .before .before .before .before .before .before .before .before .before .before .before .before .before .before .before .pre
+    in
     let m = c .before .before .before .before .before .before .before .before .clip-hole .result in
     let st = c .before .before .before .before .before .before .before .before .clip-hole .ensures in
-    let f = cut-fits _ _ _ _ (p .room) (cutHole (a .bounds) (close (coords (take (2 * a .n) (now (a .ring)))))) (hole-fits-room (a .bounds) (close (coords (take (2 * a .n) (now (a .ring)))))) m (st .count) in
+    let f = cut-fits _ _ _ _ (p .room) (cutHole (a .bounds) (close (coords (take (2 * a .n) (now (a .ring)))))) (hole-fits-room (a .bounds)
+    (close (coords (take (2 * a .n) (now (a .ring)))))) m (st .count) in
     let l = c .before .before .before .before .before .before .before .before .clip-hole .kept .1 .1 .1 .1 .0 in
     let t = ap length (tail-part (now (a .out)) (a .at .numbers)) in
-    cut-there (cutHole (a .bounds) (close (coords (take (2 * a .n) (now (a .ring)))))) m _ (now (a .out)) _ (a .at) _ _ _ (p .output-room) (omega (arith, f, l, t, length-drop (a .at .numbers) (now (a .out)))) st refl (c .before .before .count-ring .ensures)
+    cut-there (cutHole (a .bounds) (close (coords (take (2 * a .n) (now (a .ring)))))) m _ (now (a .out)) _ (a .at) _ _ _ (p .output-room)
+    (omega (arith, f, l, t, length-drop (a .at .numbers) (now (a .out)))) st refl (c .before .before .count-ring .ensures)
 
 pub put-hole-spec : {M : Type 1} → statement M
 put-hole-spec =

@@ -1,74 +1,98 @@
--- `clip_padded` meets its contract: the cut stays within the part of the output that it is made in, and the rest of that part is cleared.
--- Assumes nothing.
-use mathlib.Core.Path.{sym, _∙_}
-use Prim.Native.Nat.{_*_, _/_, _≤_}
+-- `clip_padded` meets its contract: the cut has room in the output, and the rest of the output is cleared. Assumes nothing.
+use mathlib.Core.Path.{_≡_, _∙_}
+use Prim.Native.Nat.{_*_, _≤_}
 use native.Mathlib.Omega.{arith}
 use denote.Ref.{now}
-use lib.ListN.{length}
-use lib.Seq.{length-take-le}
+use lib.ListN.{length, take}
 use borrow.Author.Needs.{needs}
-use Rattle.sutherland_hodgman.specs.Growth.{mostCoordinates}
+use Rattle.tile.specs.Ring.{coords}
+use Rattle.tile.proofs.Rings.{length-front}
+use Rattle.sutherland_hodgman.specs.Growth.{B, mostCoordinates}
+use Rattle.sutherland_hodgman.specs.Contracts.{RingCut}
 use Rattle.sutherland_hodgman.proofs.Growth.{B-le}
-use Rattle.sutherland_hodgman.proofs.Calls.{passes-cuttable, lent-cut, cut-room, cut-padded}
+use Rattle.sutherland_hodgman.proofs.Promises.{FittingBounds, fitting-front}
+use Rattle.sutherland_hodgman.proofs.Stages.{stage-three, stage-last}
+use Rattle.sutherland_hodgman.proofs.LastPass.{last-pass-cut}
+use Rattle.sutherland_hodgman.proofs.Calls.{cut-room, cut-padded}
 use Rattle.sutherland_hodgman.proofs.call.clip_padded.Statement.{statement}
 use Rattle.sutherland_hodgman.proofs.call.clip_padded.Tie as tie
 
-room-for-requires : tie.Need-room-for-requires
-room-for-requires c κs = passes-cuttable _ _ _ (c .before .before .before .pre) .few
+clip-three-edges-requires : tie.Need-clip-three-edges-requires
+clip-three-edges-requires c κs = search needs
 
-mul-room : tie.Need-mul-room
-mul-room c =
-    let a = c .before .before .before .before in
-    omega (arith, c .room-for .ensures, B-le (length (now (a .args .ring)) / 2) (passes-cuttable _ _ _ (a .pre) .few))
-
-slice-relend-prefix-clip-ring : tie.Need-slice-relend-prefix-clip-ring
-slice-relend-prefix-clip-ring c =
-    omega (arith, c .before .room-for .ensures, passes-cuttable _ _ _ (c .before .before .before .before .before .pre) .output-room)
-
-slice-aggregate-clip-ring : tie.Need-slice-aggregate-clip-ring
-slice-aggregate-clip-ring c =
-    let p = passes-cuttable _ _ _ (c .before .before .before .before .before .before .pre) in
-    sym (length-take-le _ _ (omega (arith, c .before .before .room-for .ensures, p .output-room)))
-
-clip-ring-requires : tie.Need-clip-ring-requires
-clip-ring-requires c κs =
-    let a = c .before .before .before .before .before .before in
-    let p = passes-cuttable _ _ _ (a .pre) in
-    let e = c .before .before .room-for .ensures in
-    let l = length-take-le (2 * c .before .before .room-for .result) (now (a .args .out)) (omega (arith, p .output-room)) in
-    record { vertices = omega (arith, p .even); scratch-room = p .scratch-room; output-room = omega arith }
-
--- the cut is within the room, which is a number of the machine
-within : (c : tie.After-slice-known4)
-    → (c .before .before .before .before .clip-ring .result ≤ c .before .before .before .before .before .before .before .room-for .result)
-    × (c .before .before .before .before .before .before .before .room-for .result ≤ 8 * mostCoordinates)
-within c =
-    let a = c .before .before .before .before .before .before .before .before .before .before .before in
-    let p = passes-cuttable _ _ _ (a .pre) in
+clip-top-requires : tie.Need-clip-top-requires
+clip-top-requires c κs =
+    let a = c .before .before .before .before .before .before .before .before .before .before .before .before in
+    let p = a .pre .0 in
     let s = now (a .args .ring) in
-    let e = c .before .before .before .before .before .before .before .room-for .ensures in
-    let cut = lent-cut s (p .even) (a .args .bounds) _ _ (c .before .before .before .before .clip-ring .ensures) in
-    (omega (arith, cut-room s (p .even) (a .args .bounds) _ _ cut), omega (arith, B-le (length s / 2) (p .few)))
+    let t = stage-three (a .args .bounds) (coords (take (2 * a .args .n) s)) (a .args .n) _ _
+    (length-front s (a .args .n) (p .vertices)) (c .before .before .before .before .before .before .clip-three-edges .ensures) in
+    stage-last _ _ (omega arith) (omega arith) t
+
+-- what the two leave in the output is the cut, and the output is as long as it was
+record Done (c : tie.After-slice-known5) : Type 0 where
+  cut : RingCut (c .before .before .before .before .before .before .before .before .before .before .before .before .before .before .before
+      .args .bounds)
+      (coords (take (2 * c .before .before .before .before .before .before .before .before .before .before .before .before .before .before
+      .before .args .n)
+      (now (c .before .before .before .before .before .before .before .before .before .before .before .before .before .before .before .args
+      .ring))))
+      (c .before .before .clip-top .result) (c .before .before .clip-top .last .1 .1 .1 .0)
+  same : length (c .before .before .clip-top .last .1 .1 .1 .0) ≡ length (now (c .before .before .before .before .before .before .before
+      .before .before .before .before .before .before .before .before .args .out))
+  within : c .before .before .clip-top .result ≤ B (c .before .before .before .before .before .before .before .before .before .before
+      .before .before .before .before .before .args .n)
+  few : B (c .before .before .before .before .before .before .before .before .before .before .before .before .before .before .before .args
+      .n) ≤ 8 * mostCoordinates
+
+done : (c : tie.After-slice-known5) → Done c
+done c =
+    let a = c .before .before .before .before .before .before .before .before .before .before .before .before .before .before .before in
+    let s = now (a .args .ring) in
+    let h : FittingBounds (a .args .bounds) = (search needs, search needs, search needs, search needs) in
+    let cut = last-pass-cut (a .args .bounds) (coords (take (2 * a .args .n) s)) _ _ _ _ h
+    (fitting-front s (a .args .n) (c .before .before .before .before .before .before .before .before .before .before .before .before
+    .before .before .shared-slice-known .given))
+    (c .before .before .before .before .before .before .before .before .before .clip-three-edges .ensures) (c .before .before .clip-top
+    .ensures) in
+    record {
+      cut = cut;
+      same = c .before .before .clip-top .kept .1 .1 .1 .0 ∙ c .before .before .before .before .before .before .before .before .before
+          .clip-three-edges .kept .1 .1 .1 .1 .0;
+      within = cut-room (a .args .bounds) _ (a .args .n) (length-front s (a .args .n) (a .pre .0 .vertices)) _ _ cut;
+      few = B-le (a .args .n) (a .pre .1);
+    }
 
 mul-used : tie.Need-mul-used
-mul-used c = let w = within c in omega (arith, w .0, w .1)
+mul-used c = let d = done c in omega (arith, d .within, d .few)
 
 mul-clear : tie.Need-mul-clear
-mul-clear c = let w = within c in omega (arith, w .0, w .1)
+mul-clear c = let d = done c in omega (arith, d .within, d .few)
 
 sub-clear : tie.Need-sub-clear
-sub-clear c = omega (arith, within c .0)
+sub-clear c =
+    let d = done c in
+    omega (
+      arith,
+      d .within,
+      d .same,
+      c .before .before .before .before .before .before .before .before .before .before .before .before
+          .before .before .before .pre .0 .output-room,
+    )
 
 part-clear-start : tie.Need-part-clear-start
-part-clear-start c = let w = within c in search needs
+part-clear-start c =
+    let d = done c in
+    omega (
+      arith,
+      d .within,
+      d .same,
+      c .before .before .before .before .before .before .before .before .before .before .before .before
+          .before .before .before .pre .0 .output-room,
+    )
 
 part-clear-end : tie.Need-part-clear-end
-part-clear-end c =
-    let a = c .before .before .before .before .before .before .before .before .before .before .before in
-    let room = 2 * c .before .before .before .before .before .before .before .room-for .result in
-    let h : room ≤ length (now (a .args .out)) =
-    omega (arith, c .before .before .before .before .before .before .before .room-for .ensures, passes-cuttable _ _ _ (a .pre) .output-room) in
-    search needs
+part-clear-end c = search needs
 
 clear-requires : tie.Need-clear-requires
 clear-requires c κs = search needs
@@ -81,26 +105,20 @@ same-length-2 c = search needs
 
 returns : tie.Need-returns
 returns c =
-    let a = c .before .before .before .before .before .before .before .before .before .before .before .before .before .before .before in
-    let p = passes-cuttable _ _ _ (a .pre) in
+    let a = c .before .before .before .before .before .before .before .before .before .before .before .before .before .before .before
+    .before .before .before .before in
     let s = now (a .args .ring) in
-    let out = now (a .args .out) in
-    let e = c .before .before .before .before .before .before .before .before .before .before .before .room-for .ensures in
-    let room = 2 * c .before .before .before .before .before .before .before .before .before .before .before .room-for .result in
-    let clipped = c .before .before .before .before .before .before .before .before .clip-ring in
-    let l = length-take-le room out (omega (arith, p .output-room)) in
-    cut-padded s (p .even) (a .args .bounds) out _ _ _ room (omega arith) (clipped .kept .1 .1 .1 .1 .0 ∙ l)
-    (lent-cut s (p .even) (a .args .bounds) _ _ (clipped .ensures)) (c .before .before .clear .ensures)
+    let d = done (c .before .before .before .before) in
+    rw (← d .same) (cut-padded (a .args .bounds) (coords (take (2 * a .args .n) s)) (a .args .n)
+    (length-front s (a .args .n) (a .pre .0 .vertices)) _ _ (d .cut) _ (omega (arith, d .same, a .pre .0 .output-room))
+    (c .before .before .clear .ensures))
 
 pub clip-padded-spec : {M : Type 1} → statement M
 clip-padded-spec =
     tie.close
     (tie.spec
-    room-for-requires
-    mul-room
-    slice-relend-prefix-clip-ring
-    slice-aggregate-clip-ring
-    clip-ring-requires
+    clip-three-edges-requires
+    clip-top-requires
     mul-used
     mul-clear
     sub-clear
