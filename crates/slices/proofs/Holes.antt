@@ -38,8 +38,8 @@ length-at-most (suc n) = omega arith
 
 -- ---- room
 
-module _ (n : ℕ) (ns : List ℕ) (s : List Float) (a out lens : ℕ) (at : Placed) (room : LentRingsRoom (n ∷ ns) s a out lens at) where
-  pub hole-room : HoleRoom n s a out lens at
+module _ (n : ℕ) (ns : List ℕ) (s : List Float) (scratch out lens : ℕ) (at : Placed) (room : LentRingsRoom (n ∷ ns) s scratch out lens at) where
+  pub hole-room : HoleRoom n s scratch out lens at
   unfolding sum closedRings total largest allClosed
   hole-room =
       let ring = close (coords (take (2 * n) s)) in
@@ -60,7 +60,7 @@ module _ (n : ℕ) (ns : List ℕ) (s : List Float) (a out lens : ℕ) (at : Pla
   -- behind a ring that was cut
   pub next-room : (c : List Coord) → length c ≤ ringRoom (close (coords (take (2 * n) s))) → (r : Placed)
       → r .numbers ≡ at .numbers + 2 * length c → r .rings ≡ at .rings + length (lengthUnlessNone (length c))
-      → LentRingsRoom ns (drop (2 * n) s) a out lens r
+      → LentRingsRoom ns (drop (2 * n) s) scratch out lens r
   unfolding sum closedRings total largest allClosed
   next-room c fits r en er =
       let ring = close (coords (take (2 * n) s)) in
@@ -81,9 +81,9 @@ module _ (n : ℕ) (ns : List ℕ) (s : List Float) (a out lens : ℕ) (at : Pla
       }
 
 -- a ring that a slice has room for can be counted
-module _ (n : ℕ) (s : List Float) (a b : ℕ) (room : RingRoom n s a b) (c : List Coord)
+module _ (n : ℕ) (s : List Float) (scratch out : ℕ) (room : RingRoom n s scratch out) (c : List Coord)
     (fits : length c ≤ ringRoom (close (coords (take (2 * n) s)))) where
-  pub cut-fits : (m : ℕ) → m ≡ length c → 2 * m ≤ b
+  pub cut-fits : (m : ℕ) → m ≡ length c → 2 * m ≤ out
   cut-fits m e = omega (arith, room .output-room)
 
   pub cut-small : (m : ℕ) → m ≡ length c → m < 2 ^ 32
@@ -155,18 +155,18 @@ ahead-ring c l at out lens r out′ lens′ p =
 -- ---- from the k-th ring on
 
 module _ (ns : List ℕ) (s : List Float) (k at : ℕ) (h : k < length ns) where
-  pub room-here : (a out lens : ℕ) (p : Placed) → LentRingsRoom (drop k ns) (drop at s) a out lens p
-      → LentRingsRoom (getD ns k 0 ∷ drop (k + 1) ns) (drop at s) a out lens p
-  room-here a out lens p r = rw (add-one) (rw (drop-cons ns k 0 h) at r)
+  pub room-here : (scratch out lens : ℕ) (p : Placed) → LentRingsRoom (drop k ns) (drop at s) scratch out lens p
+      → LentRingsRoom (getD ns k 0 ∷ drop (k + 1) ns) (drop at s) scratch out lens p
+  room-here scratch out lens p r = rw (add-one) (rw (drop-cons ns k 0 h) at r)
 
-  pub room-there : (a out lens : ℕ) (p : Placed) → LentRingsRoom (drop (k + 1) ns) (drop (2 * getD ns k 0) (drop at s)) a out lens p
-      → LentRingsRoom (drop (k + 1) ns) (drop (at + 2 * getD ns k 0) s) a out lens p
-  room-there a out lens p r = rw (← drop-drop (2 * getD ns k 0) at s) r
+  pub room-there : (scratch out lens : ℕ) (p : Placed) → LentRingsRoom (drop (k + 1) ns) (drop (2 * getD ns k 0) (drop at s)) scratch out lens p
+      → LentRingsRoom (drop (k + 1) ns) (drop (at + 2 * getD ns k 0) s) scratch out lens p
+  room-there scratch out lens p r = rw (← drop-drop (2 * getD ns k 0) at s) r
 
 -- the slices have kept their lengths
-pub same-room : (ns : List ℕ) (s : List Float) (p : Placed) (a out lens a′ out′ lens′ : ℕ) → a′ ≡ a → out′ ≡ out → lens′ ≡ lens
-    → LentRingsRoom ns s a out lens p → LentRingsRoom ns s a′ out′ lens′ p
-same-room ns s p a out lens a′ out′ lens′ ea eo el r = rw (ea, eo, el) r
+pub same-room : (ns : List ℕ) (s : List Float) (p : Placed) (scratch out lens scratch′ out′ lens′ : ℕ) → scratch′ ≡ scratch → out′ ≡ out → lens′ ≡ lens
+    → LentRingsRoom ns s scratch out lens p → LentRingsRoom ns s scratch′ out′ lens′ p
+same-room ns s p scratch out lens scratch′ out′ lens′ ea eo el r = rw (ea, eo, el) r
 
 -- nothing is left past the last ring
 pub ahead-end : (bounds : TileBounds) (ns : List ℕ) (s : List Float) (k at : ℕ) → length ns ≤ k → (holes : List (List Coord)) (p : Placed)
@@ -238,11 +238,11 @@ module _ (lengths : List ℕ) (s : List Float) (some : 0 < length lengths) where
   pub exterior-here : exterior (closedRings lengths s) ≡ close (coords (take (2 * getD lengths 0 0) s))
   exterior-here = ap exterior rings-here
 
-  module _ (a out lens : ℕ) (rings : LentRingsRoom lengths s a out lens nonePlaced) where
-    pub room-whole : LentRingsRoom (getD lengths 0 0 ∷ drop 1 lengths) s a out lens nonePlaced
-    room-whole = subst (λ (l : List ℕ). LentRingsRoom l s a out lens nonePlaced) here rings
+  module _ (scratch out lens : ℕ) (rings : LentRingsRoom lengths s scratch out lens nonePlaced) where
+    pub room-whole : LentRingsRoom (getD lengths 0 0 ∷ drop 1 lengths) s scratch out lens nonePlaced
+    room-whole = subst (λ (l : List ℕ). LentRingsRoom l s scratch out lens nonePlaced) here rings
 
-    pub first-room : RingRoom (getD lengths 0 0) s a out
+    pub first-room : RingRoom (getD lengths 0 0) s scratch out
     first-room =
         let r = hole-room _ _ _ _ _ _ _ room-whole .room in
         record {
@@ -264,17 +264,17 @@ module _ (lengths : List ℕ) (s : List Float) (some : 0 < length lengths) where
               (largest ringRoom (closedRings (drop 1 lengths) (drop (2 * getD lengths 0 0) s))),
         )
 
-module _ (bounds : TileBounds) (lengths : List ℕ) (s : List Float) (m a : ℕ) (out : List Float) (lens : ℕ)
-    (room : LentCutRoom bounds lengths s m a out lens) where
+module _ (bounds : TileBounds) (lengths : List ℕ) (s : List Float) (m scratch : ℕ) (out : List Float) (lens : ℕ)
+    (room : LentCutRoom bounds lengths s m scratch out lens) where
   stands-here : Stands (cutExterior bounds (close (coords (take (2 * getD lengths 0 0) s)))) m out
   stands-here =
       subst (λ (l : List (List Coord)). Stands (cutExterior bounds (exterior l)) m out) (rings-here lengths s (room .some)) (room .stands)
 
-  whole-room : LentRingsRoom (getD lengths 0 0 ∷ drop 1 lengths) s a (length out) lens nonePlaced
-  whole-room = room-whole lengths s (room .some) a (length out) lens (room .rings)
+  whole-room : LentRingsRoom (getD lengths 0 0 ∷ drop 1 lengths) s scratch (length out) lens nonePlaced
+  whole-room = room-whole lengths s (room .some) scratch (length out) lens (room .rings)
 
-  exterior-fits : RingRoom (getD lengths 0 0) s a (length out)
-  exterior-fits = first-room lengths s (room .some) a (length out) lens (room .rings)
+  exterior-fits : RingRoom (getD lengths 0 0) s scratch (length out)
+  exterior-fits = first-room lengths s (room .some) scratch (length out) lens (room .rings)
 
   pub exterior-room : CountRoom m lens nonePlaced
   exterior-room =
@@ -291,7 +291,7 @@ module _ (bounds : TileBounds) (lengths : List ℕ) (s : List Float) (m a : ℕ)
   counted-here lens₀ r lens₁ k = subst (λ (i : ℕ). Counted i nonePlaced lens₀ r lens₁) (stands-here .count) k
 
   pub holes-room : (lens₀ : List ℕ) (r : Placed) (lens₁ : List ℕ) → Counted m nonePlaced lens₀ r lens₁
-      → LentRingsRoom (drop 1 lengths) (drop (2 * getD lengths 0 0) s) a (length out) lens r
+      → LentRingsRoom (drop 1 lengths) (drop (2 * getD lengths 0 0) s) scratch (length out) lens r
   holes-room lens₀ r lens₁ k =
       let ring = close (coords (take (2 * getD lengths 0 0) s)) in
       let q = counted-here lens₀ r lens₁ k in

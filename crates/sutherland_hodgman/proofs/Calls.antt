@@ -90,10 +90,10 @@ module _ (bounds : TileBounds) (ring : List Coord) (n : ℕ) (vertices : length 
       let g : length (clipRing bounds ring) ≤ B n = rw vertices at (promise-room bounds ring (clipRing bounds ring) p) in
       omega (arith, cut .stands .count)
 
-  pub cut-padded : (fill : List Float) → 2 * B n ≤ length part → fill ≡ zeros (length (take (length part - 2 * r) (drop (2 * r) part)))
+  pub cut-padded : (fill : List Float) → fill ≡ zeros (length (take (length part - 2 * r) (drop (2 * r) part)))
       → PaddedCut bounds ring (length part) r
       (take (2 * r) part ++ (fill ++ drop (length part - 2 * r) (drop (2 * r) part)))
-  cut-padded fill h e =
+  cut-padded fill e =
       let c = clipRing bounds ring in
       let k : length (flat c) ≡ 2 * r = length-flat c ∙ rw (cut .stands .count) in
       let l : length (take (length part - 2 * r) (drop (2 * r) part)) ≡ length part - 2 * r =

@@ -276,7 +276,8 @@ fn finish(ring: &mut [f64], n: usize) -> usize
 }
 
 // The passes but the last: from the ring to the scratch slice, to the output, and to the scratch slice, at whose front stands what they
-// leave; the answer is its length. They are apart from the last one because this much is compiled into the ring call.
+// leave; the answer is its length. Three are a function of their own because that is small enough to be compiled into the
+// ring call; four were not.
 fn clip_three_edges(
     ring: &[f64],
     n: usize,

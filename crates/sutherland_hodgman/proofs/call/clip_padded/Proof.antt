@@ -110,8 +110,7 @@ returns c =
     let s = now (a .args .ring) in
     let d = done (c .before .before .before .before) in
     rw (← d .same) (cut-padded (a .args .bounds) (coords (take (2 * a .args .n) s)) (a .args .n)
-    (length-front s (a .args .n) (a .pre .0 .vertices)) _ _ (d .cut) _ (omega (arith, d .same, a .pre .0 .output-room))
-    (c .before .before .clear .ensures))
+    (length-front s (a .args .n) (a .pre .0 .vertices)) _ _ (d .cut) _ (c .before .before .clear .ensures))
 
 pub clip-padded-spec : {M : Type 1} → statement M
 clip-padded-spec =
