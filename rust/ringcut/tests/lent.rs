@@ -1,36 +1,21 @@
 //! What a call leaves in all that it was lent, number by number. An answer, whatever it is, has zeros behind it up to the room that
 //! the call asks of the output, and beyond that room stands what was there; a refusal leaves everything as it was.
 
+mod room;
+
 use ringcut::{
     cut_polygon, cut_ring, room_for_ring, Answer, Bounds, Edge, Flags, PolygonBuffers, Reason, Refusal, RingBuffers,
 };
+use room::Room;
 
 const BOUNDS: Bounds = Bounds { west: 0., south: 0., east: 10., north: 10. };
 
 /// By how much slices are longer than a call asks: not at all, by one, by many.
 const LONGER: [usize; 3] = [0, 1, 1_000];
 
-/// How many numbers are lent. A ring call has no order slice and none for lengths.
-#[derive(Clone, Copy)]
-struct Room {
-    scratch: usize,
-    order: usize,
-    out: usize,
-    out_lengths: usize,
-}
-
-impl Room {
-    /// What a ring call asks for a ring of `n` coordinates.
-    fn of_ring(n: usize) -> Room {
-        Room { scratch: 2 * room_for_ring(n), order: 0, out: 2 * room_for_ring(n), out_lengths: 0 }
-    }
-
-    /// What a slice call asks for rings of these lengths, closing coordinates counted.
-    fn of_polygon(closed: &[usize]) -> Room {
-        let rooms = closed.iter().map(|&n| room_for_ring(n));
-        let (largest, sum) = (rooms.clone().max().unwrap(), rooms.sum::<usize>());
-        Room { scratch: 2 * largest, order: largest, out: 2 * sum, out_lengths: closed.len() }
-    }
+/// What a ring call asks for a ring of `n` coordinates.
+fn room_of_ring(n: usize) -> Room {
+    Room { scratch: 2 * room_for_ring(n), order: 0, out: 2 * room_for_ring(n), out_lengths: 0 }
 }
 
 /// The slices that are lent.
@@ -109,7 +94,7 @@ fn a_ring_call_leaves_zeros_behind_its_ring() {
         ("around", &[-50., -50., 50., -50., 50., 50., -50., 50.], &[0., 10., 0., 0., 10., 0., 10., 10., 0., 10.]),
     ];
     for (case, ring, cut) in cases {
-        let asked = Room::of_ring(ring.len() / 2);
+        let asked = room_of_ring(ring.len() / 2);
         for longer in LONGER {
             let room = Room { scratch: asked.scratch + longer, out: asked.out + longer, ..asked };
             let mut lent = Lent::unwritten(room);
@@ -258,12 +243,12 @@ fn the_zeros_end_where_the_room_does() {
 fn a_refused_ring_call_leaves_everything_as_it_was() {
     let across = [5., 5., 15., 5., 15., 8., 5., 8.];
     let too_many = vec![5.; 2 * 65_537];
-    let exact = Room::of_ring(4);
+    let exact = room_of_ring(4);
     let (scratch, out) = (exact.scratch - 1, exact.out - 1);
     assert_eq!(Lent::unwritten(exact).cut_ring(&across), Ok(5));
     let cases: [(&[f64], Room, Refusal); 7] = [
         (&across[1..], exact, Refusal::Lengths),
-        (&too_many, Room::of_ring(65_537), Refusal::Coordinates),
+        (&too_many, room_of_ring(65_537), Refusal::Coordinates),
         (&across, Room { scratch, ..exact }, Refusal::Scratch),
         (&across, Room { scratch: 0, ..exact }, Refusal::Scratch),
         (&across, Room { scratch, out, ..exact }, Refusal::Scratch),

@@ -1,7 +1,10 @@
 //! The slice call: document 01's worked polygons, every refusal, and the lent slices exact, one short and larger, with what
 //! a call leaves in them.
 
-use ringcut::{cut_polygon, room_for_ring, Answer, Bounds, Edge, Flags, PolygonBuffers, Reason, Refusal};
+mod room;
+
+use ringcut::{cut_polygon, Answer, Bounds, Edge, Flags, PolygonBuffers, Reason, Refusal};
+use room::Room;
 
 const BOUNDS: Bounds = Bounds { west: 0., south: 0., east: 10., north: 10. };
 
@@ -9,24 +12,6 @@ const BOUNDS: Bounds = Bounds { west: 0., south: 0., east: 10., north: 10. };
 const UNWRITTEN: u64 = 0xfff4_dead_beef_0001;
 /// The same of a lent whole number.
 const WHOLE_UNWRITTEN: u32 = 77;
-
-/// The slices lent to a call: numbers in scratch, positions, numbers and lengths of output.
-#[derive(Clone, Copy)]
-struct Room {
-    scratch: usize,
-    order: usize,
-    out: usize,
-    out_lengths: usize,
-}
-
-impl Room {
-    /// What rings of these lengths ask for, closing coordinates counted.
-    fn of(closed: &[usize]) -> Room {
-        let rooms = closed.iter().map(|&n| room_for_ring(n));
-        let (largest, sum) = (rooms.clone().max().unwrap(), rooms.sum::<usize>());
-        Room { scratch: 2 * largest, order: largest, out: 2 * sum, out_lengths: closed.len() }
-    }
-}
 
 fn flags(number: u8) -> Flags {
     Flags { assume_simple: number & 1 != 0, skip_boundary_fallback: number & 2 != 0 }
@@ -62,7 +47,7 @@ fn cut_to(
     let count = if let Answer::Cut { rings } = answer { rings } else { 0 };
     let (written, beyond) = out_lengths.split_at(count);
     assert!(beyond.iter().all(|&length| length == WHOLE_UNWRITTEN));
-    let (asked_for, beyond) = out.split_at(Room::of(&closed(coords, lengths)).out);
+    let (asked_for, beyond) = out.split_at(Room::of_polygon(&closed(coords, lengths)).out);
     assert!(beyond.iter().all(|number| number.to_bits() == UNWRITTEN));
     let mut rest = asked_for;
     let mut rings = Vec::new();
@@ -92,7 +77,7 @@ fn closed(coords: &[f64], lengths: &[u32]) -> Vec<usize> {
 /// One closed ring in slices that are exactly as long as it asks.
 fn answer(number: u8, ring: &[f64]) -> Answer {
     let n = ring.len() / 2;
-    cut(flags(number), ring, &[n as u32], Room::of(&[n])).unwrap().0
+    cut(flags(number), ring, &[n as u32], Room::of_polygon(&[n])).unwrap().0
 }
 
 #[test]
@@ -114,13 +99,13 @@ fn worked_polygons() {
         let mut apart = [20., 20., 30., 20., 30., 30., 20., 20.];
         apart[at] = f64::NAN;
         // A NaN in the first or the last coordinate leaves the ring open: it is closed to five.
-        assert_eq!(cut(flags(0), &apart, &[4], Room::of(&[5])), Ok((Answer::Dropped, vec![])));
+        assert_eq!(cut(flags(0), &apart, &[4], Room::of_polygon(&[5])), Ok((Answer::Dropped, vec![])));
     }
     for number in 0..3 {
         assert_eq!(answer(number, &across_east), Answer::Overlay(Reason::Bridge(Edge::Right)));
     }
     let rings = vec![vec![5., 5., 10., 5., 10., 8., 5., 8., 5., 5.]];
-    assert_eq!(cut(flags(3), &across_east, &[5], Room::of(&[5])), Ok((Answer::Cut { rings: 1 }, rings)));
+    assert_eq!(cut(flags(3), &across_east, &[5], Room::of_polygon(&[5])), Ok((Answer::Cut { rings: 1 }, rings)));
     assert_eq!(answer(0, &bow_tie), input);
     assert_eq!(answer(1, &bow_tie), Answer::Unchanged);
 }
@@ -142,7 +127,7 @@ fn each_bound_is_its_own_and_the_buffer_widens_all() {
     let bounds = Bounds { west: 1., south: 2., east: 30., north: 40. };
     let around = [-50., -50., 50., -50., 50., 50., -50., 50., -50., -50.];
     let rings = vec![vec![0.5, 40.5, 0.5, 1.5, 30.5, 1.5, 30.5, 40.5, 0.5, 40.5]];
-    let cut = cut_to(bounds, 0.5, flags(3), &around, &[5], Room::of(&[5]));
+    let cut = cut_to(bounds, 0.5, flags(3), &around, &[5], Room::of_polygon(&[5]));
     assert_eq!(cut, Ok((Answer::Cut { rings: 1 }, rings)));
 }
 
@@ -160,14 +145,14 @@ fn holes_are_cut_too() {
         vec![6., 6., 7., 6., 7., 7., 6., 6.],
     ];
     let lengths = [5, 5, 4];
-    assert_eq!(cut(flags(3), &coords, &lengths, Room::of(&[5, 5, 4])), Ok((Answer::Cut { rings: 3 }, rings)));
+    assert_eq!(cut(flags(3), &coords, &lengths, Room::of_polygon(&[5, 5, 4])), Ok((Answer::Cut { rings: 3 }, rings)));
 }
 
 #[test]
 fn slices_are_exact_one_short_and_larger() {
     let coords = [5., 5., 15., 5., 15., 8., 5., 8., 9., 6., 12., 6., 12., 7., 9., 6.];
     // The exterior is lent unclosed and counts one more.
-    let (lengths, exact) = ([4, 4], Room::of(&[5, 4]));
+    let (lengths, exact) = ([4, 4], Room::of_polygon(&[5, 4]));
     let expected = cut(flags(3), &coords, &lengths, exact);
     assert!(matches!(expected, Ok((Answer::Cut { rings: 2 }, _))));
     let with = |change: &dyn Fn(&mut Room)| {
@@ -189,7 +174,7 @@ fn slices_are_exact_one_short_and_larger() {
 
 #[test]
 fn lengths_that_do_not_fit_are_refused() {
-    let room = Room::of(&[5; 65]);
+    let room = Room::of_polygon(&[5; 65]);
     let refused = |coords: &[f64], lengths: &[u32]| cut(flags(0), coords, lengths, room).unwrap_err();
     assert_eq!(refused(&[], &[]), Refusal::Lengths);
     assert_eq!(refused(&[], &[0; 65]), Refusal::Lengths);
