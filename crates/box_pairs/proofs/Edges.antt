@@ -1,13 +1,13 @@
 -- The edges of the ring at the front of a slice: the sweep's law holds of their crossings, by their lowest x in the total order. Assumes
 -- nothing.
 use mathlib.Core.Path.{_≡_, refl, sym, ap, ap₂, subst, _∙_}
-use mathlib.Core.Bool.{Bool, true, false, true≢false}
+use mathlib.Core.Bool.{Bool, true, false, cond, _&&_, and-false, true≢false}
 use mathlib.Mathlib.Data.Bool.Basic.{eq-false-of-not-eq-true}
 use mathlib.Core.List.{List}
 use Prim.Native.Nat.{ℕ, _+_, _*_, _-_, _≤_, _<_}
 use native.Mathlib.Omega.{arith}
-use lib.Dec.{T}
-use borrow.Author.Tests.{not-false}
+use lib.Dec.{T, ltb}
+use borrow.Author.Tests.{lt-ltb, le-ltb, not-false}
 use lib.Ieee.{Float, nan, binary64, fits, isNan, lt}
 use lib.ListN.{length, getD, set, drop, length-set}
 use lib.Seq.{getD-set-same, getD-set-other, drop-set-lt, drop-drop, getD-take}
@@ -21,12 +21,15 @@ use Rattle.tile.specs.declared.Coord.{Coord}
 use Rattle.tile.specs.Contracts.{coordAt}
 use Rattle.tile.specs.Ring.{coords}
 use Rattle.tile.proofs.Rings.{front-at, length-front}
+use Rattle.box_pairs.specs.declared.pairs.Pair.{Pair}
+use Rattle.box_pairs.specs.declared.pairs.Pair.the-variants.{None, At}
 use Rattle.box_pairs.specs.Cross.{cross}
 use Rattle.box_pairs.specs.Contracts.{keyAt, Kept, Sorted, front, edgesAt, mayMeetInY, lowX, Noted, Swept, isScanned, ScannedOrSwept}
-use Rattle.box_pairs.specs.Contracts.{Unused}
-use Rattle.box_pairs.specs.Pairs.{vertexAt, edgesCross, anyBelow, anyPair, selfIntersecting}
+use Rattle.box_pairs.specs.Contracts.{Unused, pairNumber, lesser, PairBelow}
+use Rattle.box_pairs.specs.Pairs.{vertexAt, edgesCross, anyPair, selfIntersecting, firstFrom, firstPair}
 use Rattle.box_pairs.proofs.Crossing.{cross-mirror, cross-numbers, apart-left, apart-y, minimum-is-number}
 use Rattle.box_pairs.proofs.Sweep.{Sweeps}
+use Rattle.box_pairs.proofs.First.{isPair, First, first-from, first-verdict}
 
 -- the highest x of an edge
 unfoldable pub highX : List Coord → ℕ → Float
@@ -42,11 +45,19 @@ module _ (s : List Float) (n : ℕ) (room : 2 * (n + 1) ≤ length s) where
   unfolding selfIntersecting
   crossing-front = let e : length (front s (n + 1)) - 1 ≡ n = omega (arith, length-front s (n + 1) room) in rw e
 
+  pub first-front : firstPair (front s (n + 1)) ≡ firstFrom (edgesCross (front s (n + 1))) 0 n
+  unfolding firstPair
+  first-front = let e : length (front s (n + 1)) - 1 ≡ n = omega (arith, length-front s (n + 1) room) in rw e
+
   pub edges-front : (i j : ℕ) → i < n → j < n → cross (coordAt s i) (coordAt s (i + 1)) (coordAt s j) (coordAt s (j + 1)) ≡ edgesCross
       (front s (n + 1)) i j
   unfolding edgesCross
   edges-front i j li lj =
       rw (at-front i (omega arith), at-front (i + 1) (omega arith), at-front j (omega arith), at-front (j + 1) (omega arith))
+
+  pub lesser-front : (i j m : ℕ) → i < n → j < n → lesser s i j m ≡ cond (ltb (pairNumber i j) m && edgesCross (front s (n + 1)) i j) (pairNumber i j) m
+  unfolding lesser
+  lesser-front i j m li lj = rw (edges-front i j li lj)
 
   pub low-front : (i : ℕ) → i < n → minimum (coordAt s i .x) (coordAt s (i + 1) .x) ≡ lowX (front s (n + 1)) i
   unfolding lowX
@@ -65,6 +76,21 @@ module _ (s : List Float) (n : ℕ) (room : 2 * (n + 1) ≤ length s) where
 pub never-meet : (s : List Float) (i j : ℕ) → mayMeetInY s i j ≡ false → edgesAt s i j ≡ false
 unfolding mayMeetInY
 never-meet s i j e = apart-y (coordAt s i) (coordAt s (i + 1)) (coordAt s j) (coordAt s (j + 1)) (not-false _ e)
+
+-- ---- the lesser of a number and that of two edges
+
+module _ (s : List Float) (i j m : ℕ) where
+  pub lesser-hit : (r : ℕ) → r ≡ pairNumber i j → r < m → edgesAt s i j ≡ true → r ≡ lesser s i j m
+  unfolding lesser
+  lesser-hit r e l h = let q : ltb (pairNumber i j) m ≡ true = rw (← e) (lt-ltb r m l) in rw (q, h) e
+
+  pub lesser-miss : edgesAt s i j ≡ false → m ≡ lesser s i j m
+  unfolding lesser
+  lesser-miss h = rw (h, and-false (ltb (pairNumber i j) m))
+
+  pub lesser-over : (r : ℕ) → r ≡ pairNumber i j → m ≤ r → m ≡ lesser s i j m
+  unfolding lesser
+  lesser-over r e l = let q : ltb (pairNumber i j) m ≡ false = rw (← e) (le-ltb r m l) in rw q
 
 -- ---- the sweep's law
 
@@ -161,11 +187,39 @@ module _ (n : ℕ) (r : List Coord) (w₀ w₁ w₂ : List Float) (o₀ o₁ : L
         past-order = drop-more n (n + 1) o₁ o₀ (omega arith) (sorted .rest);
       }
 
+-- ---- the verdict and the first pair
+
+-- there is a first pair exactly where two edges cross
+pub crossing-first : (r : List Coord) → isPair (firstPair r) ≡ selfIntersecting r
+unfolding firstPair selfIntersecting
+crossing-first r = first-verdict (edgesCross r) (length r - 1)
+
+-- where none cross there is none
+crossing-no-pair : (r : List Coord) → selfIntersecting r ≡ false → None ≡ firstPair r
+crossing-no-pair r e = go (firstPair r) (crossing-first r ∙ e)
+  where
+    go : (x : Pair) → isPair x ≡ false → None ≡ x
+    go None h = refl
+    go (At i j) h = absurd (never-both refl h)
+
+-- nor where the sweep, which answers a slot, passed all of them
+pub no-pair-left : (r : List Coord) (p n : ℕ) → ltb p n ≡ selfIntersecting r → n ≤ p → None ≡ firstPair r
+no-pair-left r p n e l = crossing-no-pair r (sym e ∙ le-ltb p n l)
+
+-- the edges of the first pair are edges of the ring
+pub pair-below : (n : ℕ) (r : List Coord) → length r ≤ n → PairBelow n (firstPair r)
+unfolding firstPair First
+pair-below n r h = go (firstFrom (edgesCross r) 0 (length r - 1)) (first-from (edgesCross r) 0 (length r - 1))
+  where
+    go : (x : Pair) → First (edgesCross r) 0 (length r - 1) x → PairBelow n x
+    go None f = tt
+    go (At i j) f = (omega (arith, f .1, f .2), omega (arith, f .2))
+
 -- ---- a ring of no coordinate
 
-pub crossing-none : (s : List Float) → selfIntersecting (front s 0) ≡ false
-unfolding selfIntersecting anyPair anyBelow coords
-crossing-none s = refl
+pub first-none : (s : List Float) → firstPair (front s 0) ≡ None
+unfolding firstPair firstFrom coords
+first-none s = refl
 
 -- ---- scan or sweep, by the test that decides it
 
@@ -180,10 +234,10 @@ module _ (edges : ℕ) (r : List Coord) (b : Bool) (e : b ≡ isScanned edges) w
 pub after-none : (n : ℕ) (r : List Coord) (w : List Float) (o : List ℕ) → n ≡ 0 → ScannedOrSwept (n - 1) r w o w o
 after-none n r w o e = rw e (after-scan 0 r true refl w o refl)
 
--- what `any_edge_pair` says of a ring's edges, of which there is one less than of its n coordinates
-abbrev pub ByEdges : (m edges : ℕ) (s w w′ : List Float) (o o′ : List ℕ) (b : Bool) → Type 0
-ByEdges m edges s w w′ o o′ b = (b ≡ selfIntersecting (front s m)) × (Unused m w o w′ o′ × ScannedOrSwept edges (front s m) w o w′ o′)
+-- what `first_edge_pair` says of a ring's edges, of which there is one less than of its n coordinates
+abbrev pub ByEdges : (m edges : ℕ) (s w w′ : List Float) (o o′ : List ℕ) (x : Pair) → Type 0
+ByEdges m edges s w w′ o o′ x = (x ≡ firstPair (front s m)) × (Unused m w o w′ o′ × ScannedOrSwept edges (front s m) w o w′ o′)
 
-pub by-edges : (n : ℕ) (s w w′ : List Float) (o o′ : List ℕ) (b : Bool) → (n ≡ 0 → ⊥)
-    → ByEdges (n - 1 + 1) (n - 1) s w w′ o o′ b → ByEdges n (n - 1) s w w′ o o′ b
-by-edges n s w w′ o o′ b h p = let q : n - 1 + 1 ≡ n = omega arith in subst (λ (m : ℕ). ByEdges m (n - 1) s w w′ o o′ b) q p
+pub by-edges : (n : ℕ) (s w w′ : List Float) (o o′ : List ℕ) (x : Pair) → (n ≡ 0 → ⊥)
+    → ByEdges (n - 1 + 1) (n - 1) s w w′ o o′ x → ByEdges n (n - 1) s w w′ o o′ x
+by-edges n s w w′ o o′ x h p = let q : n - 1 + 1 ≡ n = omega arith in subst (λ (m : ℕ). ByEdges m (n - 1) s w w′ o o′ x) q p

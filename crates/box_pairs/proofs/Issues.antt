@@ -1,5 +1,5 @@
--- Laws of the issue finder: neighbours that repeat, by place, and the cases of `issueOf`. Assumes nothing.
-use mathlib.Core.Path.{_≡_, refl, _∙_}
+-- Laws of the issue finder: neighbours that repeat, by place, the cases of `issueOf`, and whether it is an issue. Assumes nothing.
+use mathlib.Core.Path.{_≡_, refl, sym, ap, _∙_}
 use mathlib.Core.Bool.{Bool, true, false, not, _||_, _&&_, cond}
 use mathlib.Core.List.{List, [], _∷_}
 use Prim.Native.Nat.{ℕ, suc, _+_, _*_, _≤_, _<_}
@@ -8,15 +8,23 @@ use native.Mathlib.Omega.{arith}
 use lib.ListN.{length, getD, drop, length-drop}
 use lib.Seq.{drop-cons}
 use lib.Ieee.{Float, nan}
+use lib.Dec.{ltb}
 use borrow.Author.Tests.{lt-ltb, le-ltb}
+use Rattle.binary64.proofs.Booleans.{never-both}
 use Rattle.tile.specs.declared.Coord.{Coord}
 use Rattle.tile.specs.Contracts.{coordAt}
 use Rattle.tile.proofs.Rings.{front-at, length-front}
-use Rattle.box_pairs.specs.declared.Issue.the-variants.{Sound, Short, Repeated, Crossing}
+use Rattle.box_pairs.specs.declared.Issue.the-variants.{Sound, Short}
+use Rattle.box_pairs.specs.declared.Position.{Position}
+use Rattle.box_pairs.specs.declared.Position.the-variants as Positions
+use Rattle.box_pairs.specs.declared.pairs.Pair.{Pair}
+use Rattle.box_pairs.specs.declared.pairs.Pair.the-variants as Pairs
 use Rattle.box_pairs.specs.Cross.{degenerate}
-use Rattle.box_pairs.specs.Contracts.{front}
-use Rattle.box_pairs.specs.Pairs.{selfIntersecting}
-use Rattle.box_pairs.specs.Issue.{repeated, issueOf}
+use Rattle.box_pairs.specs.Contracts.{front, PairBelow, IssueBelow}
+use Rattle.box_pairs.specs.Pairs.{selfIntersecting, firstPair}
+use Rattle.box_pairs.specs.Issue.{repeated, repeatedFrom, firstRepeated, crossingAt, crossingOf, repeatedOr, issueOf, hasIssue}
+use Rattle.box_pairs.proofs.First.{isPair}
+use Rattle.box_pairs.proofs.Edges.{crossing-first, pair-below}
 
 -- ---- neighbours
 
@@ -27,22 +35,51 @@ few (p ∷ []) h = refl
 few (p ∷ q ∷ []) h = refl
 few (p ∷ q ∷ s ∷ l) h = absurd (omega arith)
 
-pub one-more : (l : List Coord) (k : ℕ) (z : Coord) → k + 2 < length l → repeated (drop k l) ≡ degenerate (getD l k z) (getD l (k + 1) z) ||
-    repeated (drop (k + 1) l)
+pub one-more : (l : List Coord) (k : ℕ) (z : Coord) → k + 2 < length l → repeated (drop k l) ≡ degenerate (getD l k z) (getD l (k + 1) z) || repeated (drop (k + 1) l)
 unfolding repeated
-one-more l k z h =
-    rw (add-one k, drop-cons l k z (omega arith), drop-cons l (suc k) z (omega arith), drop-cons l (suc (suc k)) z (omega arith))
+one-more l k z h = rw (add-one k, drop-cons l k z (omega arith), drop-cons l (suc k) z (omega arith), drop-cons l (suc (suc k)) z (omega arith))
+
+-- the same of the place
+few-place : (j : ℕ) (l : List Coord) → length l ≤ 2 → repeatedFrom j l ≡ Positions.None
+unfolding repeatedFrom
+few-place j [] h = refl
+few-place j (p ∷ []) h = refl
+few-place j (p ∷ q ∷ []) h = refl
+few-place j (p ∷ q ∷ s ∷ l) h = absurd (omega arith)
+
+one-more-place : (j : ℕ) (l : List Coord) (k : ℕ) (z : Coord) → k + 2 < length l
+    → repeatedFrom j (drop k l) ≡ cond (degenerate (getD l k z) (getD l (k + 1) z)) (Positions.At j) (repeatedFrom (j + 1) (drop (k + 1) l))
+unfolding repeatedFrom
+one-more-place j l k z h = rw (add-one j, add-one k, drop-cons l k z (omega arith), drop-cons l (suc k) z (omega arith), drop-cons l (suc (suc k)) z (omega arith))
+
+abbrev pub isPosition : Position → Bool
+isPosition Positions.None = false
+isPosition (Positions.At k) = true
+
+-- there is a first place exactly where neighbours repeat
+place-verdict : (j : ℕ) (l : List Coord) → isPosition (repeatedFrom j l) ≡ repeated l
+unfolding repeated repeatedFrom
+place-verdict j [] = refl
+place-verdict j (p ∷ []) = refl
+place-verdict j (p ∷ q ∷ []) = refl
+place-verdict j (p ∷ q ∷ s ∷ l) = go (degenerate p q) (place-verdict (suc j) (q ∷ s ∷ l))
+  where
+    go : (b : Bool) → isPosition (repeatedFrom (suc j) (q ∷ s ∷ l)) ≡ repeated (q ∷ s ∷ l) → isPosition (cond b (Positions.At j) (repeatedFrom (suc j) (q ∷ s ∷ l))) ≡ b || repeated (q ∷ s ∷ l)
+    go true h = refl
+    go false h = h
+
+pub repeated-first : (l : List Coord) → isPosition (firstRepeated l) ≡ repeated l
+repeated-first l = place-verdict 0 l
 
 module _ (s : List Float) (n : ℕ) (room : 2 * n ≤ length s) where
-  pub repeated-next : (k : ℕ) → k + 2 < n → repeated (drop k (front s n)) ≡ degenerate (coordAt s k) (coordAt s (k + 1)) || repeated
-      (drop (k + 1) (front s n))
+  pub repeated-next : (k : ℕ) → k + 2 < n
+      → repeatedFrom k (drop k (front s n)) ≡ cond (degenerate (coordAt s k) (coordAt s (k + 1))) (Positions.At k) (repeatedFrom (k + 1) (drop (k + 1) (front s n)))
   repeated-next k l =
       let z : Coord = record { x = nan; y = nan } in
-      one-more (front s n) k z (omega (arith, length-front s n room))
-      ∙ rw (front-at s n k z room (omega arith), front-at s n (k + 1) z room (omega arith))
+      one-more-place k (front s n) k z (omega (arith, length-front s n room)) ∙ rw (front-at s n k z room (omega arith), front-at s n (k + 1) z room (omega arith))
 
-  pub repeated-end : (k : ℕ) → n ≤ k + 2 → repeated (drop k (front s n)) ≡ false
-  repeated-end k l = few (drop k (front s n)) (omega (arith, length-drop k (front s n), length-front s n room))
+  pub repeated-end : (k : ℕ) → n ≤ k + 2 → repeatedFrom k (drop k (front s n)) ≡ Positions.None
+  repeated-end k l = few-place k (drop k (front s n)) (omega (arith, length-drop k (front s n), length-front s n room))
 
   -- ---- the cases
 
@@ -50,21 +87,50 @@ module _ (s : List Float) (n : ℕ) (room : 2 * n ≤ length s) where
   unfolding issueOf
   issue-short b l = rw (length-front s n room, lt-ltb n 4 l)
 
-  long : 4 ≤ n → (b : Bool) → issueOf b (front s n) ≡ cond (repeated (front s n)) Repeated
-      (cond (not b && selfIntersecting (front s n)) Crossing Sound)
+  pub issue-long : (b : Bool) → 4 ≤ n → issueOf b (front s n) ≡ repeatedOr (firstRepeated (front s n)) (crossingOf b (front s n))
   unfolding issueOf
-  long l b = rw (length-front s n room, le-ltb n 4 l)
+  issue-long b l = rw (length-front s n room, le-ltb n 4 l)
 
-  pub issue-repeated : (b : Bool) → 4 ≤ n → repeated (front s n) ≡ true → issueOf b (front s n) ≡ Repeated
-  issue-repeated b l e = long l b ∙ rw e
+-- ---- the verdict, in the words of document 01
 
-  pub issue-simple : (b : Bool) → 4 ≤ n → repeated (front s n) ≡ false → b ≡ true → issueOf b (front s n) ≡ Sound
-  issue-simple b l e t = long l b ∙ rw (e, t)
+pub issue-verdict : (b : Bool) (r : List Coord) → hasIssue (issueOf b r) ≡ ltb (length r) 4 || (repeated r || (not b && selfIntersecting r))
+unfolding issueOf hasIssue
+issue-verdict b r = rw (← repeated-first r, ← crossing-first r) (go (ltb (length r) 4) (firstRepeated r) b (firstPair r))
+  where
+    go : (t : Bool) (x : Position) (c : Bool) (y : Pair)
+        → hasIssue (cond t Short (repeatedOr x (cond c Sound (crossingAt y)))) ≡ t || (isPosition x || (not c && isPair y))
+    go true x c y = refl
+    go false (Positions.At k) c y = refl
+    go false Positions.None true y = refl
+    go false Positions.None false Pairs.None = refl
+    go false Positions.None false (Pairs.At i j) = refl
 
-  pub issue-crossing : (b : Bool) → 4 ≤ n → repeated (front s n) ≡ false → b ≡ false → selfIntersecting (front s n) ≡ true
-      → issueOf b (front s n) ≡ Crossing
-  issue-crossing b l e t x = long l b ∙ rw (e, t, x)
+-- ---- the positions that are told
 
-  pub issue-sound : (b : Bool) → 4 ≤ n → repeated (front s n) ≡ false → b ≡ false → selfIntersecting (front s n) ≡ false
-      → issueOf b (front s n) ≡ Sound
-  issue-sound b l e t x = long l b ∙ rw (e, t, x)
+abbrev position-of : ℕ → Position → ℕ
+position-of z Positions.None = z
+position-of z (Positions.At k) = k
+
+position-below : (j : ℕ) (l : List Coord) (k : ℕ) → repeatedFrom j l ≡ Positions.At k → k < j + length l
+unfolding repeatedFrom
+position-below j [] k e = absurd (never-both refl (sym (ap isPosition e)))
+position-below j (p ∷ []) k e = absurd (never-both refl (sym (ap isPosition e)))
+position-below j (p ∷ q ∷ []) k e = absurd (never-both refl (sym (ap isPosition e)))
+position-below j (p ∷ q ∷ s ∷ l) k e = go (degenerate p q) (λ h. position-below (suc j) (q ∷ s ∷ l) k h) e
+  where
+    go : (b : Bool) → (repeatedFrom (suc j) (q ∷ s ∷ l) ≡ Positions.At k → k < suc j + length (q ∷ s ∷ l))
+        → cond b (Positions.At j) (repeatedFrom (suc j) (q ∷ s ∷ l)) ≡ Positions.At k → k < j + length (p ∷ q ∷ s ∷ l)
+    go true later h = let z : j ≡ k = ap (position-of j) h in omega arith
+    go false later h = omega (arith, later h)
+
+pub issue-below : (n : ℕ) (b : Bool) (r : List Coord) → length r ≤ n → IssueBelow n (issueOf b r)
+unfolding issueOf
+issue-below n b r l = go (ltb (length r) 4) (firstRepeated r) refl b (firstPair r) (pair-below n r l)
+  where
+    go : (t : Bool) (x : Position) → firstRepeated r ≡ x → (c : Bool) (y : Pair) → PairBelow n y
+        → IssueBelow n (cond t Short (repeatedOr x (cond c Sound (crossingAt y))))
+    go true x e c y h = tt
+    go false (Positions.At k) e c y h = omega (arith, position-below 0 r k e)
+    go false Positions.None e true y h = tt
+    go false Positions.None e false Pairs.None h = tt
+    go false Positions.None e false (Pairs.At i j) h = h

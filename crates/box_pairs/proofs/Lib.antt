@@ -1,5 +1,6 @@
 mod Crossing
 mod Edges
+mod First
 mod Issues
 mod Loops
 pub mod Offered

@@ -1,15 +1,17 @@
 -- Laws that this crate offers to those above it beside its contracts. By these they know the issue of an exterior; they unfold none of it.
 -- Assumes nothing.
-use mathlib.Core.Path.{_≡_, refl}
-use mathlib.Core.Bool.{Bool, true, false, cond, _||_}
+use mathlib.Core.Path.{_≡_, _∙_}
+use mathlib.Core.Bool.{Bool, true, false, _||_, or-false}
 use mathlib.Core.List.{List}
 use Prim.Native.Nat.{ℕ, _+_, _<_, _≤_}
 use lib.ListN.{length, getD, drop}
 use borrow.Author.Tests.{lt-ltb, le-ltb}
 use Rattle.tile.specs.declared.Coord.{Coord}
-use Rattle.box_pairs.specs.declared.Issue.the-variants.{Sound, Repeated}
+use Rattle.box_pairs.specs.Contracts.{PairBelow, IssueBelow}
 use Rattle.box_pairs.specs.Cross.{degenerate}
+use Rattle.box_pairs.specs.Pairs.{firstPair}
 use Rattle.box_pairs.specs.Issue.{repeated, issueOf, hasIssue}
+use Rattle.box_pairs.proofs.Edges as edges
 use Rattle.box_pairs.proofs.Issues as issues
 
 -- ---- neighbours that repeat
@@ -32,9 +34,14 @@ simple-short r h = rw (lt-ltb (length r) 4 h)
 
 -- of 4 or more it is only neighbours that repeat
 pub simple-long : (r : List Coord) → 4 ≤ length r → hasIssue (issueOf true r) ≡ repeated r
-unfolding issueOf hasIssue
-simple-long r h = rw (le-ltb (length r) 4 h) (go (repeated r))
-  where
-    go : (t : Bool) → hasIssue (cond t Repeated Sound) ≡ t
-    go true = refl
-    go false = refl
+simple-long r h = issues.issue-verdict true r ∙ rw (le-ltb (length r) 4 h) (or-false (repeated r))
+
+-- ---- the positions that are told
+
+-- an issue's are those of coordinates of the ring
+pub issue-below : (n : ℕ) (b : Bool) (r : List Coord) → length r ≤ n → IssueBelow n (issueOf b r)
+issue-below = issues.issue-below
+
+-- and so are those of the first pair of edges that cross
+pub pair-below : (n : ℕ) (r : List Coord) → length r ≤ n → PairBelow n (firstPair r)
+pair-below = edges.pair-below

@@ -7,7 +7,7 @@ use native.Mathlib.Nat.{le-refl}
 use native.Mathlib.Decide.{ℕ-discrete, decLt}
 use native.Mathlib.Omega.{arith}
 use lib.ListN.{getD}
-use Rattle.box_pairs.specs.Contracts.{Positions, InOrder}
+use Rattle.box_pairs.specs.Contracts.{Positions, InOrder, Clear, Passed, atSlots}
 use Rattle.box_pairs.specs.Pairs.{anyBelow, anyPair}
 
 -- ---- the definition
@@ -42,61 +42,38 @@ pair-none hit n h = below-none (λ j. anyBelow (λ i. hit i j) j) n (λ j jn. be
 
 -- ---- two loops over the pairs of slots
 
--- no q after p and below b has `g p q`
-abbrev pub Clear : (ℕ → ℕ → Bool) → ℕ → ℕ → Type 0
-Clear g p b = (q : ℕ) → p < q → q < b → g p q ≡ false
-
 -- the inner loop, at q
-pub record Inner (g : ℕ → ℕ → Bool) (n p q : ℕ) (found : Bool) : Type 0 where
+pub record Inner (g : ℕ → ℕ → Bool) (n p q : ℕ) : Type 0 where
   pub after : p < q
   pub inside : q ≤ n
-  pub none : found ≡ false
   pub clear : Clear g p q
 
--- the outer loop, at p
-pub record Outer (g : ℕ → ℕ → Bool) (n p : ℕ) (found : Bool) : Type 0 where
-  pub inside : p ≤ n
-  pub none : found ≡ false
-  pub clear : (p′ : ℕ) → p′ < p → Clear g p′ n
+pub outer-start : (g : ℕ → ℕ → Bool) (n : ℕ) → Passed g n 0
+outer-start g n = record { inside = zero-le; clear = λ p l. absurd (omega arith) }
 
-pub outer-start : (g : ℕ → ℕ → Bool) (n : ℕ) → Outer g n 0 false
-outer-start g n = record { inside = zero-le; none = refl; clear = λ p l. absurd (omega arith) }
+pub inner-start : (g : ℕ → ℕ → Bool) (n p : ℕ) → p < n → Inner g n p (p + 1)
+inner-start g n p l = record { after = omega arith; inside = omega arith; clear = λ q a b. absurd (omega arith) }
 
-pub inner-start : (g : ℕ → ℕ → Bool) (n p : ℕ) (found : Bool) → p < n → Outer g n p found → Inner g n p (p + 1) found
-inner-start g n p found l o = record { after = omega arith; inside = omega arith; none = o .none; clear = λ q a b. absurd (omega arith) }
-
-pub inner-next : (g : ℕ → ℕ → Bool) (n p q : ℕ) (found : Bool) → q < n → Inner g n p q found → g p q ≡ false → Inner g n p (q + 1) found
-inner-next g n p q found l s e =
+pub inner-next : (g : ℕ → ℕ → Bool) (n p q : ℕ) → q < n → Inner g n p q → g p q ≡ false → Inner g n p (q + 1)
+inner-next g n p q l s e =
     record {
       after = omega (arith, s .after);
       inside = omega arith;
-      none = s .none;
       clear = λ q′ a b. elim (ℕ-discrete q′ q) [ yes z ↦ rw z e | no ne ↦ s .clear q′ a (omega arith) ];
     }
 
-pub outer-next : (g : ℕ → ℕ → Bool) (n p q : ℕ) (found₀ found : Bool) → p < n → Outer g n p found₀ → Inner g n p q found → Clear g p n
-    → Outer g n (p + 1) found
-outer-next g n p q found₀ found l o s c =
+pub outer-next : (g : ℕ → ℕ → Bool) (n p : ℕ) → p < n → Passed g n p → Clear g p n → Passed g n (p + 1)
+outer-next g n p l o c =
     record {
       inside = omega arith;
-      none = s .none;
       clear = λ p′ a. elim (ℕ-discrete p′ p) [ yes z ↦ subst (λ (m : ℕ). Clear g m n) (sym z) c | no ne ↦ o .clear p′ (omega arith) ];
     }
-
--- ---- the scan
-
-pub scan-done : (hit : ℕ → ℕ → Bool) (n p : ℕ) (found : Bool) → n ≤ p → Outer hit n p found → found ≡ anyPair hit n
-scan-done hit n p found np o = o .none ∙ sym (pair-none hit n (λ i j ij jn. o .clear i (omega arith) j ij jn))
 
 -- ---- the sweep: `stop i j` says that the positions from j on, by key, do not hit i
 
 pub record Sweeps (k : ℕ → ℕ) (n : ℕ) (stop hit : ℕ → ℕ → Bool) : Type 0 where
   pub mirror : (i j : ℕ) → hit i j ≡ hit j i
   pub past : (i j l : ℕ) → i < n → j < n → l < n → k j ≤ k l → stop i j ≡ true → hit i l ≡ false
-
--- a property of two positions, at slots
-abbrev pub atSlots : (ℕ → ℕ → Bool) → List ℕ → ℕ → ℕ → Bool
-atSlots f xs p q = f (getD xs p 0) (getD xs q 0)
 
 module _ (k : ℕ → ℕ) (n : ℕ) (stop hit : ℕ → ℕ → Bool) (w : Sweeps k n stop hit) (xs : List ℕ) (ps : Positions n xs)
     (so : InOrder k n xs) where
@@ -124,9 +101,10 @@ module _ (k : ℕ → ℕ) (n : ℕ) (stop hit : ℕ → ℕ → Bool) (w : Swee
             (elim (ℕ-discrete q q′) [ yes z ↦ rw z (le-refl _) | no ne ↦ so q q′ (omega arith) u ]) s
       ]
 
-  pub sweep-done : (p : ℕ) (found : Bool) → n ≤ p → Outer (atSlots hit xs) n p found → found ≡ anyPair hit n
-  sweep-done p found np o =
-      o .none ∙ sym (pair-none hit n (λ i j ij jn.
+  -- where all slots are passed, no pair is hit
+  pub sweep-done : (p : ℕ) → n ≤ p → Passed (atSlots hit xs) n p → anyPair hit n ≡ false
+  sweep-done p np o =
+      pair-none hit n (λ i j ij jn.
       let a = ps .found i (omega arith) in
       let b = ps .found j jn in
       let no-slots : (s t : ℕ) → s < t → t < n → hit (getD xs s 0) (getD xs t 0) ≡ false = λ s t st tn. o .clear s (omega arith) t st tn in
@@ -136,4 +114,4 @@ module _ (k : ℕ → ℕ) (n : ℕ) (stop hit : ℕ → ℕ → Bool) (w : Swee
           | yes z ↦ absurd (let e : i ≡ j = sym (a .2) ∙ (ap (λ (m : ℕ). getD xs m 0) z ∙ b .2) in omega arith)
           | no ne ↦ w .mirror i j ∙ (rw (b .2, a .2) at (no-slots (b .0) (a .0) (omega arith) (a .1)))
         ]
-      ]))
+      ])

@@ -1,13 +1,18 @@
--- What is wrong with an exterior (document 01, "Unchanged"). Definitions only.
-use mathlib.Core.Bool.{Bool, true, false, not, cond, _&&_, _||_}
+-- What is wrong with an exterior (document 01, "Unchanged"), and where (document 02, Point 1). Definitions only.
+use mathlib.Core.Bool.{Bool, true, false, cond, _||_}
 use mathlib.Core.List.{List, [], _∷_}
+use Prim.Native.Nat.{ℕ, suc}
 use lib.Dec.{ltb}
 use lib.ListN.{length}
 use Rattle.tile.specs.declared.Coord.{Coord}
 use Rattle.box_pairs.specs.declared.Issue.{Issue}
 use Rattle.box_pairs.specs.declared.Issue.the-variants.{Sound, Short, Repeated, Crossing}
+use Rattle.box_pairs.specs.declared.Position.{Position}
+use Rattle.box_pairs.specs.declared.Position.the-variants as Positions
+use Rattle.box_pairs.specs.declared.pairs.Pair.{Pair}
+use Rattle.box_pairs.specs.declared.pairs.Pair.the-variants as Pairs
 use Rattle.box_pairs.specs.Cross.{degenerate}
-use Rattle.box_pairs.specs.Pairs.{selfIntersecting}
+use Rattle.box_pairs.specs.Pairs.{firstPair}
 
 -- "two neighbours differ by less than 1e-10 in x and in y, the last segment excepted"
 unfoldable pub repeated : List Coord → Bool
@@ -16,13 +21,37 @@ repeated (p ∷ []) = false
 repeated (p ∷ q ∷ []) = false
 repeated (p ∷ q ∷ s ∷ r) = degenerate p q || repeated (q ∷ s ∷ r)
 
--- "An exterior has an issue if it has fewer than 4 coordinates; or two neighbours ..; or, unless `assume_simple` is set, two edges cross"
+-- the first of the earliest such neighbours, in a list whose first position is k
+unfoldable pub repeatedFrom : ℕ → List Coord → Position
+repeatedFrom k [] = Positions.None
+repeatedFrom k (p ∷ []) = Positions.None
+repeatedFrom k (p ∷ q ∷ []) = Positions.None
+repeatedFrom k (p ∷ q ∷ s ∷ r) = cond (degenerate p q) (Positions.At k) (repeatedFrom (suc k) (q ∷ s ∷ r))
+
+-- "the position, from 0, of the first of the earliest such pair"
+abbrev pub firstRepeated : List Coord → Position
+firstRepeated r = repeatedFrom 0 r
+
+abbrev pub repeatedOr : Position → Issue → Issue
+repeatedOr Positions.None issue = issue
+repeatedOr (Positions.At k) issue = Repeated k
+
+abbrev pub crossingAt : Pair → Issue
+crossingAt Pairs.None = Sound
+crossingAt (Pairs.At i j) = Crossing i j
+
+-- "unless `assume_simple` is set, two edges cross"; "both edge numbers, from 0 and the lower first"
+abbrev pub crossingOf : Bool → List Coord → Issue
+crossingOf simple r = cond simple Sound (crossingAt (firstPair r))
+
+-- "An exterior has an issue if it has fewer than 4 coordinates; or two neighbours ..; or, unless `assume_simple` is set, two edges cross";
+-- "Short comes before repeated, and repeated before crossing."
 unfoldable pub issueOf : Bool → List Coord → Issue
-issueOf simple r = cond (ltb (length r) 4) Short (cond (repeated r) Repeated (cond (not simple && selfIntersecting r) Crossing Sound))
+issueOf simple r = cond (ltb (length r) 4) Short (repeatedOr (firstRepeated r) (crossingOf simple r))
 
 -- whether document 01 calls it an issue: all but `Sound`
 unfoldable pub hasIssue : Issue → Bool
 hasIssue Sound = false
 hasIssue Short = true
-hasIssue Repeated = true
-hasIssue Crossing = true
+hasIssue (Repeated k) = true
+hasIssue (Crossing i j) = true

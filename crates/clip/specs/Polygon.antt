@@ -1,9 +1,9 @@
 -- What becomes of one polygon at a tile, in document 01's order ("Nothing, or dropped", "Unchanged", "Cut rings", "Overlay wanted"), and
--- the numbers of its answers ("Frames"). Definitions only.
-use mathlib.Core.Bool.{Bool, _&&_, cond}
+-- the numbers of its answers ("Frames", and document 02, Point 1). Definitions only.
+use mathlib.Core.Bool.{Bool, _&&_, _||_, cond}
 use mathlib.Core.List.{List, [], _∷_}
 use Prim.Native.Nat.{ℕ}
-use lib.Dec.{ltb}
+use lib.Dec.{ltb, eqb}
 use lib.ListN.{length}
 use Rattle.tile.specs.declared.Coord.{Coord}
 use Rattle.tile.specs.declared.TileBounds.{TileBounds}
@@ -11,6 +11,7 @@ use Rattle.tile.specs.declared.Edge.{Edge}
 use Rattle.tile.specs.declared.Edge.the-variants.{Left, Right, Bottom, Top}
 use Rattle.tile.specs.Ring.{close}
 use Rattle.box_pairs.specs.declared.Issue.{Issue}
+use Rattle.box_pairs.specs.declared.Issue.the-variants.{Sound, Short, Repeated, Crossing}
 use Rattle.box_pairs.specs.Issue.{issueOf, hasIssue}
 use Rattle.sutherland_hodgman.specs.Clip.{clipRing}
 use Rattle.rings.specs.declared.bridge.Bridge.{Bridge}
@@ -24,6 +25,7 @@ use Rattle.rings.specs.LentRings.{exterior}
 use Rattle.clip.specs.declared.polygon.Flags.{Flags}
 use Rattle.clip.specs.declared.polygon.Reason.{Reason}
 use Rattle.clip.specs.declared.polygon.Reason.the-variants as Reasons
+use Rattle.clip.specs.declared.polygon.ReasonDetail.{ReasonDetail}
 use Rattle.clip.specs.declared.polygon.Route.{Route}
 use Rattle.clip.specs.declared.polygon.Route.the-variants as Routes
 use Rattle.clip.specs.declared.polygon.PolygonAnswer.{PolygonAnswer}
@@ -48,7 +50,7 @@ overlayIfBridge None route = route
 abbrev pub cutExterior : TileBounds → List Coord → List Coord
 cutExterior b r = close (clipRing b r)
 
--- "An empty exterior: nothing." "Reason 2: the cut exterior has one."
+-- "An empty exterior: nothing." "Reason 2: the cut exterior has one.", since document 02, Point 1, one of 2, 9 and 10
 unfoldable pub routeCut : Flags → TileBounds → List Coord → Route
 routeCut flags b r =
     let cut = cutExterior b r in
@@ -56,8 +58,8 @@ routeCut flags b r =
     cond (ltb 0 (length (clipRing b r))) (overlayIfIssue issue (Reasons.Cut issue)
     (overlayIfBridge (bridgeUnlessSkipped flags b cut) (Routes.Cut (length cut)))) Routes.Nothing
 
--- "Rectangle and buffered bounds apart: nothing." "Reason 1: the input exterior has an issue." "Holes are not checked." "No issue and
--- rectangle inside the bounds (edges included): unchanged."
+-- "Rectangle and buffered bounds apart: nothing." "Reason 1: the input exterior has an issue.", since Point 1 one of 1, 7 and 8. "Holes
+-- are not checked." "No issue and rectangle inside the bounds (edges included): unchanged."
 unfoldable pub routeExterior : Flags → Rect → TileBounds → List Coord → Route
 routeExterior flags rect b r =
     let issue = issueOf (flags .«assume_simple») r in
@@ -128,11 +130,28 @@ edgeNumber Right = 4
 edgeNumber Bottom = 5
 edgeNumber Top = 6
 
--- the paper's number of each reason
-abbrev pub reasonNumber : Reason → ℕ
-reasonNumber (Reasons.Input issue) = 1
-reasonNumber (Reasons.Cut issue) = 2
-reasonNumber (Reasons.Bridge edge) = edgeNumber edge
+-- a reason's number and two positions
+abbrev pub detail : ℕ → ℕ → ℕ → ReasonDetail
+detail number first second = record { number = number; first = first; second = second }
+
+-- an issue, by the numbers of its three cases: "the position, from 0, of the first of the earliest such pair"; "both edge numbers, from 0
+-- and the lower first"; "zero where they don't apply". No reason has `Sound`.
+abbrev pub issueDetail : ℕ → ℕ → ℕ → Issue → ReasonDetail
+issueDetail short repeated crossing Sound = detail 0 0 0
+issueDetail short repeated crossing Short = detail short 0 0
+issueDetail short repeated crossing (Repeated position) = detail repeated position 0
+issueDetail short repeated crossing (Crossing lower higher) = detail crossing lower higher
+
+-- the papers' number of each reason: "The short ring keeps reason 1; reason 7 is a repeated neighbour ..; reason 8 is a crossing ..
+-- Reason 2 is split likewise into 2, 9 and 10."
+abbrev pub reasonDetail : Reason → ReasonDetail
+reasonDetail (Reasons.Input issue) = issueDetail 1 7 8 issue
+reasonDetail (Reasons.Cut issue) = issueDetail 2 9 10 issue
+reasonDetail (Reasons.Bridge edge) = detail (edgeNumber edge) 0 0
+
+-- a reason's number as document 01 has it: "The equality rule and document 01's worked cases speak of the reasons merged back."
+abbrev pub mergedNumber : ℕ → ℕ
+mergedNumber number = cond (eqb number 7 || eqb number 8) 1 (cond (eqb number 9 || eqb number 10) 2 number)
 
 -- the answer, without the rings of a cut
 abbrev pub answerOf : Routed → PolygonAnswer
@@ -143,17 +162,17 @@ answerOf (cut rings) = PolygonAnswers.Cut (length rings)
 answerOf (overlay reason) = PolygonAnswers.Overlay reason
 
 -- what an answer tells: the paper's number of it, "(0 nothing, 1 whole dropped, 2 whole unchanged, ..", "(2 unchanged, 4 cut, 5 overlay)";
--- the reason, "0 unless overlay"; of a cut "how many rings", else 0; and the guard count, how many polygons were dropped: "dropped,
--- guard count 1"
+-- the reason, "0 unless overlay", with its positions; of a cut "how many rings", else 0; and the guard count, how many polygons were
+-- dropped: "dropped, guard count 1"
 pub record Told : Type 0 where
   pub number : ℕ
-  pub reason : ℕ
+  pub reason : ReasonDetail
   pub rings : ℕ
   pub guards : ℕ
 
 abbrev pub told : PolygonAnswer → Told
-told PolygonAnswers.Nothing = record { number = 0; reason = 0; rings = 0; guards = 0 }
-told PolygonAnswers.Dropped = record { number = 1; reason = 0; rings = 0; guards = 1 }
-told PolygonAnswers.Unchanged = record { number = 2; reason = 0; rings = 0; guards = 0 }
-told (PolygonAnswers.Cut rings) = record { number = 4; reason = 0; rings = rings; guards = 0 }
-told (PolygonAnswers.Overlay reason) = record { number = 5; reason = reasonNumber reason; rings = 0; guards = 0 }
+told PolygonAnswers.Nothing = record { number = 0; reason = detail 0 0 0; rings = 0; guards = 0 }
+told PolygonAnswers.Dropped = record { number = 1; reason = detail 0 0 0; rings = 0; guards = 1 }
+told PolygonAnswers.Unchanged = record { number = 2; reason = detail 0 0 0; rings = 0; guards = 0 }
+told (PolygonAnswers.Cut rings) = record { number = 4; reason = detail 0 0 0; rings = rings; guards = 0 }
+told (PolygonAnswers.Overlay reason) = record { number = 5; reason = reasonDetail reason; rings = 0; guards = 0 }

@@ -39,6 +39,13 @@ pub enum Reason {
     Bridge(Edge),
 }
 
+// What an answer tells of a reason: its number, and two positions in the exterior that it speaks of, 0 where they don't apply.
+pub struct ReasonDetail {
+    pub number: u8,
+    pub first: u32,
+    pub second: u32,
+}
+
 // What the exterior decides; of a cut, how many coordinates the cut exterior has.
 pub enum Route {
     Nothing,
@@ -80,6 +87,16 @@ pub fn guard_count(answer: PolygonAnswer) -> usize
     }
 }
 
+fn detail(number: u8, first: u32, second: u32) -> ReasonDetail
+    ensures { λ r. ⌜ r ≡ Polygon.detail number first second ⌝ }
+{
+    ReasonDetail {
+        number,
+        first,
+        second,
+    }
+}
+
 // The number of the edge that a bridge runs along, as a reason.
 fn edge_number(edge: Edge) -> u8
     ensures { λ r. ⌜ r ≡ Polygon.edgeNumber edge ⌝ }
@@ -92,14 +109,26 @@ fn edge_number(edge: Edge) -> u8
     }
 }
 
-// Document 01's number of a reason.
-pub fn reason_number(reason: Reason) -> u8
-    ensures { λ r. ⌜ r ≡ Polygon.reasonNumber reason ⌝ }
+// What is told of an issue, by the numbers of a short ring, of a repeated neighbour and of a crossing.
+fn issue_detail(short: u8, repeated: u8, crossing: u8, issue: Issue) -> ReasonDetail
+    ensures { λ r. ⌜ r ≡ Polygon.issueDetail short repeated crossing issue ⌝ }
+{
+    match issue {
+        Issue::Sound => detail(0, 0, 0),
+        Issue::Short => detail(short, 0, 0),
+        Issue::Repeated(position) => detail(repeated, position, 0),
+        Issue::Crossing(lower, higher) => detail(crossing, lower, higher),
+    }
+}
+
+// The papers' number of a reason, and its positions.
+pub fn reason_detail(reason: Reason) -> ReasonDetail
+    ensures { λ r. ⌜ r ≡ Polygon.reasonDetail reason ⌝ }
 {
     match reason {
-        Reason::Input(issue) => 1,
-        Reason::Cut(issue) => 2,
-        Reason::Bridge(edge) => edge_number(edge),
+        Reason::Input(issue) => issue_detail(1, 7, 8, issue),
+        Reason::Cut(issue) => issue_detail(2, 9, 10, issue),
+        Reason::Bridge(edge) => detail(edge_number(edge), 0, 0),
     }
 }
 

@@ -1,4 +1,5 @@
--- The counts in the answer to a frame fit the two bytes that each has, so that none is cut off where it is written. Assumes nothing.
+-- The counts and positions in the answer to a frame fit the two bytes that each has, so that none is cut off where it is written. Assumes
+-- nothing.
 use mathlib.Core.Path.{_≡_}
 use mathlib.Core.Bool.{Bool, true, false, cond}
 use mathlib.Core.List.{List, [], _∷_}
@@ -20,7 +21,9 @@ use Rattle.clip.specs.declared.polygon.Flags.{Flags}
 use Rattle.clip.specs.declared.polygon.Route.{Route}
 use Rattle.clip.specs.declared.polygon.Route.the-variants as Routes
 use Rattle.clip.specs.Polygon as Polygon
+use Rattle.clip.specs.Contracts.{RouteWithin}
 use Rattle.clip.proofs.Cuts.{cut-fits-room, hole-fits-room}
+use Rattle.clip.proofs.Positions.{exterior-within}
 use Rattle.frame_bytes.specs.Frame.{read, mostParts, mostInRing, polygonKind, headBytes, countOf, readRing, readPart, partCountOf, Frame}
 use Rattle.frame_bytes.specs.Frame.{readFrame}
 use Rattle.frame_bytes.proofs.Coordinates.{close-grows}
@@ -41,7 +44,7 @@ RoutedFits Polygon.nothing = Unit {0}
 RoutedFits Polygon.dropped = Unit {0}
 RoutedFits Polygon.unchanged = Unit {0}
 RoutedFits (Polygon.cut rings) = Fits (length rings) × Every RingFits rings
-RoutedFits (Polygon.overlay reason) = Unit {0}
+RoutedFits (Polygon.overlay reason) = Fits (Polygon.reasonDetail reason .first) × Fits (Polygon.reasonDetail reason .second)
 
 abbrev pub PartFits : Part → Type 0
 PartFits part = Fits (part .index) × RoutedFits (part .outcome)
@@ -69,6 +72,10 @@ small-part l part rest e =
     let p = part-read l part rest e in
     let few : length part ≤ mostRings = omega (arith, many-length readRing (countOf l) (drop 2 l) part rest (p .rings), p .few) in
     (few, many-every readRing ShortRing short-ring (countOf l) (drop 2 l) part rest (p .rings))
+
+short-exterior : (rings : List (List Coord)) → Every ShortRing rings → ShortRing (exterior rings)
+short-exterior [] w = omega arith
+short-exterior (r ∷ rings) w = w .0
 
 -- ---- rings that are cut
 
@@ -108,16 +115,16 @@ module _ (b : TileBounds) where
   -- ---- a polygon, and a part
 
   module _ (flags : Flags) (rings : List (List Coord)) (w : SmallPart rings) where
-    by-route : (to : Route) → RoutedFits (Polygon.routed to b rings)
+    by-route : (to : Route) → RouteWithin (B (length (exterior rings))) to → RoutedFits (Polygon.routed to b rings)
     unfolding Polygon.overlayOrDropped
-    by-route Routes.Nothing = tt
-    by-route Routes.Unchanged = tt
-    by-route (Routes.Cut n) = cut-fits rings w
-    by-route (Routes.Overlay reason) = go (anyHugeRing rings)
+    by-route Routes.Nothing p = tt
+    by-route Routes.Unchanged p = tt
+    by-route (Routes.Cut n) p = cut-fits rings w
+    by-route (Routes.Overlay reason) p = go (anyHugeRing rings)
       where
         go : (t : Bool) → RoutedFits (cond t Polygon.dropped (Polygon.overlay reason))
         go true = tt
-        go false = tt
+        go false = let f = room-fits (length (exterior rings)) (short-exterior rings (w .1)) in (omega (arith, p .0), omega (arith, p .1))
 
     polygon-fits : RoutedFits (Polygon.route flags b rings)
     unfolding Polygon.route Polygon.routeRect
@@ -126,7 +133,9 @@ module _ (b : TileBounds) where
         go : (rect : Rect) → RoutedFits (Polygon.routeRect flags rect b rings)
         go Rects.Nothing = tt
         go Rects.NotFinite = tt
-        go (Rects.Box x y z t) = by-route (Polygon.routeExterior flags (Rects.Box x y z t) b (exterior rings))
+        go (Rects.Box x y z t) =
+            by-route (Polygon.routeExterior flags (Rects.Box x y z t) b (exterior rings))
+            (exterior-within flags (Rects.Box x y z t) b (exterior rings))
 
     part-fits : RoutedFits (routePart flags b rings)
     unfolding routePart

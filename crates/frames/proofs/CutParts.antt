@@ -1,7 +1,7 @@
 -- A cut part of a frame: its exterior and its holes have room, and what is written is the part's bytes. Assumes nothing.
 use mathlib.Core.Path.{_≡_, refl, sym, _∙_, ap}
 use mathlib.Core.List.{List, [], _∷_, _++_, append-assoc}
-use Prim.Native.Nat.{ℕ, _+_, _*_, _-_, _≤_}
+use Prim.Native.Nat.{ℕ, _+_, _*_, _-_, _<_, _≤_}
 use native.Mathlib.Omega.{arith}
 use lib.Ieee.{Float}
 use lib.ListN.{length, take, drop, length-append}
@@ -17,12 +17,13 @@ use Rattle.sutherland_hodgman.proofs.Offered.{B-mono}
 use Rattle.rings.specs.LentRings.{exterior, largest, total, mostRings}
 use Rattle.rings.specs.Representable.{anyHugeRing}
 use Rattle.rings.proofs.LentRings.{larger-least}
-use Rattle.clip.specs.Polygon.{unlessNone, cutExterior, cutHoles, cutRings, cut, overlay, reasonNumber}
+use Rattle.clip.specs.Polygon.{unlessNone, cutExterior, cutHoles, cutRings, cut, overlay, reasonDetail}
 use Rattle.clip.specs.Contracts.{ExteriorRoom}
 use Rattle.clip.specs.declared.polygon.Reason.{Reason}
+use Rattle.clip.specs.declared.polygon.ReasonDetail.{ReasonDetail}
 use Rattle.clip.proofs.Cuts.{cut-fits-room, cut-rings}
-use Rattle.frame_bytes.specs.Frame.{Reading, refused, read, countOf, coordsOf}
-use Rattle.frame_bytes.specs.Contracts.{allIn, partAt, hugeOf}
+use Rattle.frame_bytes.specs.Frame.{Reading, refused, read, countOf, coordsOf, readPart}
+use Rattle.frame_bytes.specs.Contracts.{Accepted, allIn, partAt, hugeOf}
 use Rattle.frame_bytes.specs.Room.{partRoom}
 use Rattle.frame_bytes.specs.Encoding.{each, countBytes, coordBytes, ringBytes}
 use Rattle.frame_bytes.proofs.Coordinates.{decoded}
@@ -154,27 +155,62 @@ module _ (index : ℕ) (rings : List (List Coord)) where
 
 -- ---- an overlay
 
-pub overlay-room : (rings : List (List Coord)) (out to : ℕ) → to + partRoom 16 rings ≤ out → to + 4 ≤ out
+-- a part that is read has an exterior
+pub some-rings : (frame : List ℕ) (at : ℕ) → at ≤ length frame → Accepted (readPart (drop at frame)) → 0 < length (partAt frame at)
+some-rings frame at h a = rw (part-here frame at h a) (omega arith)
+
+-- so that the room of a part, without a coordinate, is that of its overlay
+pub overlay-room : (rings : List (List Coord)) (out to : ℕ) → 0 < length rings → to + partRoom 16 rings ≤ out → to + 8 ≤ out
 unfolding partRoom
-overlay-room rings out to h = omega (arith, h)
+overlay-room rings out to some h = omega (arith, h)
 
 pub huge-in : (x : Reading (List (List Coord))) → hugeOf x ≡ anyHugeRing (allIn x)
 unfolding anyHugeRing
 huge-in (refused r) = refl
 huge-in (read rings rest) = refl
 
-pub overlay-bytes : (index : ℕ) (reason : Reason) → writtenPart index (overlay reason) ≡ countBytes index ++ (5 ∷ reasonNumber reason ∷ [])
-unfolding partBytes
-overlay-bytes index reason = refl
+module _ (index : ℕ) (reason : Reason) where
+  abbrev overlayHead : List ℕ
+  overlayHead = countBytes index ++ (5 ∷ reasonDetail reason .number ∷ [])
 
-pub overlay-length : (index : ℕ) (reason : Reason) → length (writtenPart index (overlay reason)) ≡ 4
-overlay-length index reason =
-    omega (
-      arith,
-      ap length (overlay-bytes index reason),
-      length-append (countBytes index) (5 ∷ reasonNumber reason ∷ []),
-      length-count index,
-    )
+  abbrev firstBytes : List ℕ
+  firstBytes = countBytes (reasonDetail reason .first)
+
+  abbrev secondBytes : List ℕ
+  secondBytes = countBytes (reasonDetail reason .second)
+
+  overlay-bytes : writtenPart index (overlay reason) ≡ (overlayHead ++ firstBytes) ++ secondBytes
+  unfolding partBytes
+  overlay-bytes =
+      sym (ap (λ (l : List ℕ). l ++ secondBytes) (append-assoc (countBytes index) (5 ∷ reasonDetail reason .number ∷ []) firstBytes)
+      ∙ append-assoc (countBytes index) (5 ∷ reasonDetail reason .number ∷ firstBytes) secondBytes)
+
+  head-of-four : length overlayHead ≡ 4
+  head-of-four = omega (arith, length-append (countBytes index) (5 ∷ reasonDetail reason .number ∷ []), length-count index)
+
+  pub overlay-length : length (writtenPart index (overlay reason)) ≡ 8
+  overlay-length =
+      omega (
+        arith,
+        ap length overlay-bytes,
+        length-append (overlayHead ++ firstBytes) secondBytes,
+        length-append overlayHead firstBytes,
+        head-of-four,
+        length-count (reasonDetail reason .first),
+        length-count (reasonDetail reason .second),
+      )
+
+  -- the head, and the two positions behind it
+  pub overlay-written : (d : ReasonDetail) → d ≡ reasonDetail reason → (to : ℕ) (o o₁ o₂ o₃ : List ℕ)
+      → o₁ ≡ sets o to (countBytes index ++ (5 ∷ d .number ∷ [])) → o₂ ≡ sets o₁ (to + 4) (countBytes (d .first))
+      → o₃ ≡ sets o₂ (to + 4 + 2) (countBytes (d .second)) → o₃ ≡ sets o to (writtenPart index (overlay reason))
+  overlay-written d e to o o₁ o₂ o₃ h₁ h₂ h₃ =
+      let k : to + 4 ≡ to + length overlayHead = omega (arith, head-of-four) in
+      let l : to + 4 + 2 ≡ to + length (overlayHead ++ firstBytes) =
+      omega (arith, head-of-four, length-append overlayHead firstBytes, length-count (reasonDetail reason .first)) in
+      let w₁ : o₁ ≡ sets o to overlayHead = rw e at h₁ in
+      let w₂ : o₂ ≡ sets o to (overlayHead ++ firstBytes) = (rw (e, w₁, k) at h₂) ∙ sym (sets-append o to overlayHead firstBytes) in
+      (rw (e, w₂, l) at h₃) ∙ sym (sets-append o to (overlayHead ++ firstBytes) secondBytes) ∙ ap (sets o to) (sym overlay-bytes)
 
 -- ---- the exterior of a part, read into a slice
 
@@ -210,7 +246,8 @@ module _ (frame : List ℕ) (at ring a b order out to : ℕ) (room : PartRoom fr
       )
 
   pub part-head : to + 4 ≤ out
-  part-head = overlay-room (partAt frame at) out to (room .output)
+  part-head =
+      omega (arith, overlay-room (partAt frame at) out to (some-rings frame at (room .within) (room .accepted)) (room .output))
 
   -- read into a slice as n coordinates, the exterior stands at its front
   pub exterior-read : (n : ℕ) (s s′ : List Float) → length s ≡ ring → n ≡ countOf (drop (at + 2) frame)

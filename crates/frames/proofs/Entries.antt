@@ -3,13 +3,14 @@
 use mathlib.Core.Path.{_≡_, refl, sym, _∙_, ap, subst}
 use mathlib.Core.Bool.{Bool, true, false, not, cond, _&&_, and-true, true≢false}
 use mathlib.Core.List.{List, [], _∷_}
-use Prim.Native.Nat.{ℕ, suc, _+_, _*_, _≤_}
+use Prim.Native.Nat.{ℕ, suc, _+_, _*_, _<_, _≤_}
 use native.Mathlib.Omega.{arith}
 use borrow.Author.Tests.{eqb-true, ne-eqb, not-true, not-false}
 use lib.Dec.{eqb}
 use lib.ListN.{length, drop, length-append}
 use Rattle.binary64.proofs.Booleans.{both, neither}
 use Rattle.binary64.proofs.Fill.{whole-over}
+use Rattle.binary64.specs.Lists.{Every}
 use Rattle.tile.specs.declared.Coord.{Coord}
 use Rattle.tile.specs.declared.TileBounds.{TileBounds}
 use Rattle.box_pairs.specs.Issue.{issueOf, hasIssue}
@@ -24,11 +25,11 @@ use Rattle.frame_bytes.specs.declared.head.Head.{Head}
 use Rattle.frame_bytes.specs.declared.reader.FrameRefusal.{FrameRefusal}
 use Rattle.frame_bytes.specs.declared.reader.FrameCheck.the-variants.{Fails}
 use Rattle.frame_bytes.specs.Frame.{Reading, refused, read, polygonKind, multipolygonKind, longest, mostParts, mostInRing, headBytes}
-use Rattle.frame_bytes.specs.Frame.{readPart, Frame, kindOf, partCountOf, wrongKind, wrongPartCount, headOf, readFrame}
+use Rattle.frame_bytes.specs.Frame.{countOf, readRing, readPart, Frame, kindOf, partCountOf, wrongKind, wrongPartCount, headOf, readFrame}
 use Rattle.frame_bytes.specs.Contracts.{checkOf, Accepted, allIn, partAt, frameRoom, frameRect, soundIfSimple}
 use Rattle.frame_bytes.specs.Room.{leastRoom, coordinateBytes, partRoom, outputRoom, readCall}
 use Rattle.frame_bytes.specs.Encoding.{each, coordBytes, headerBytes}
-use Rattle.frame_bytes.proofs.Readings.{taken, many-length, frame-read}
+use Rattle.frame_bytes.proofs.Readings.{taken, many-length, many-every, part-read, frame-read}
 use Rattle.frame_bytes.proofs.Rooms.{mostPart, parts-le, frame-head, frame-few, frame-parts, call-read}
 use Rattle.frame_bytes.proofs.Writing.{each-append, length-header}
 use Rattle.frame_bytes.proofs.SimpleExteriors.{sound-part}
@@ -266,22 +267,34 @@ module _ (frame : List ℕ) (head : Head) (out : ℕ) (c : Cuttable frame head o
 
 -- ---- the answer's bytes have room
 
-listing-fits : (flags : Flags) (b : TileBounds) (i : ℕ) (parts : List (List (List Coord)))
+-- a part that is read has an exterior
+abbrev SomeRings : List (List Coord) → Type 0
+SomeRings rings = 0 < length rings
+
+some-rings : (l : List ℕ) (part : List (List Coord)) (rest : List ℕ) → readPart l ≡ read part rest → SomeRings part
+some-rings l part rest e =
+    let p = part-read l part rest e in omega (arith, many-length readRing (countOf l) (drop 2 l) part rest (p .rings), p .some)
+
+parts-some : (l : List ℕ) (f : Frame) (rest : List ℕ) → readFrame l ≡ read f rest → Every SomeRings (f .parts)
+parts-some l f rest e =
+    many-every readPart SomeRings some-rings (partCountOf l) (drop headBytes l) (f .parts) rest (frame-read l f rest e .parts)
+
+listing-fits : (flags : Flags) (b : TileBounds) (i : ℕ) (parts : List (List (List Coord))) → Every SomeRings parts
     → length (each (partBytes coordBytes) (listParts flags b i parts .parts)) ≤ total (partRoom 16) parts
 unfolding listParts total each
-listing-fits flags b i [] = omega arith
-listing-fits flags b i (part ∷ parts) =
+listing-fits flags b i [] some = omega arith
+listing-fits flags b i (part ∷ parts) some =
     let f = partBytes coordBytes in
     let to = routePart flags b part in
     let l = listParts flags b (suc i) parts .parts in
     let one : length (each f (listedBefore i to [])) ≤ partRoom 16 part = rw (← routed-as flags b part)
-    (listed-fits i b part flags (rectangle part)) in
+    (listed-fits i b part (some .0) flags (rectangle part)) in
     omega (
       arith,
       ap (λ (x : List Part). length (each f x)) (listed-append i to l),
       ap length (each-append f (listedBefore i to []) l),
       length-append (each f (listedBefore i to [])) (each f l),
-      listing-fits flags b (suc i) parts,
+      listing-fits flags b (suc i) parts (some .1),
     )
 
 parts-bytes : (guard : ℕ) (parts : List Part) → length (answerBytes coordBytes (ofParts guard parts)) ≤ 5 + length
@@ -304,23 +317,26 @@ polygon-bytes Polygon.unchanged = omega (arith, length-header 2 0 0)
 polygon-bytes (Polygon.cut rings) = parts-bytes 0 (record { index = 0; outcome = Polygon.cut rings } ∷ [])
 polygon-bytes (Polygon.overlay reason) = parts-bytes 0 (record { index = 0; outcome = Polygon.overlay reason } ∷ [])
 
-route-fits : (flags : Flags) (rect : Rect) (b : TileBounds) (rings : List (List Coord))
+route-fits : (flags : Flags) (rect : Rect) (b : TileBounds) (rings : List (List Coord)) → SomeRings rings
     → length (each (partBytes coordBytes) (listedBefore 0 (Polygon.routeRect flags rect b rings) [])) ≤ partRoom 16 rings
 unfolding Polygon.routeRect each
-route-fits flags Rects.Nothing b rings = omega arith
-route-fits flags Rects.NotFinite b rings = omega arith
-route-fits flags (Rects.Box w s e n) b rings = routed-fits 0 b rings (Polygon.routeExterior flags (Rects.Box w s e n) b (exterior rings))
+route-fits flags Rects.Nothing b rings some = omega arith
+route-fits flags Rects.NotFinite b rings some = omega arith
+route-fits flags (Rects.Box w s e n) b rings some =
+    routed-fits 0 b rings some (Polygon.routeExterior flags (Rects.Box w s e n) b (exterior rings))
 
-polygon-fits : (flags : Flags) (b : TileBounds) (parts : List (List (List Coord)))
+polygon-fits : (flags : Flags) (b : TileBounds) (parts : List (List (List Coord))) → Every SomeRings parts
     → length (answerBytes coordBytes (ofPolygon (Polygon.route flags b (onlyPart parts)))) ≤ 5 + total (partRoom 16) parts
 unfolding Polygon.route Polygon.routeRect withRings total answerBytes
-polygon-fits flags b [] = omega (arith, length-header 0 0 0)
-polygon-fits flags b (part ∷ parts) = omega (arith, polygon-bytes (Polygon.route flags b part), route-fits flags (rectangle part) b part)
+polygon-fits flags b [] some = omega (arith, length-header 0 0 0)
+polygon-fits flags b (part ∷ parts) some =
+    omega (arith, polygon-bytes (Polygon.route flags b part), route-fits flags (rectangle part) b part (some .0))
 
-multipolygon-fits : (flags : Flags) (b : TileBounds) (parts : List (List (List Coord)))
+multipolygon-fits : (flags : Flags) (b : TileBounds) (parts : List (List (List Coord))) → Every SomeRings parts
     → length (answerBytes coordBytes (ofMultipolygon flags b parts)) ≤ 5 + total (partRoom 16) parts
 unfolding ofMultipolygon answerBytes
-multipolygon-fits flags b parts = let whole = withParts Rects.Nothing parts in go whole (intersectsBounds whole b) (isFullyInside whole b)
+multipolygon-fits flags b parts some =
+    let whole = withParts Rects.Nothing parts in go whole (intersectsBounds whole b) (isFullyInside whole b)
   where
     go : (r : Rect) (i j : Bool) → length (answerBytes coordBytes
         (ifBox r (cond i (cond j Unchanged (ofListing (listParts flags b 0 parts))) (Nothing 0)))) ≤ 5 + total (partRoom 16) parts
@@ -329,17 +345,17 @@ multipolygon-fits flags b parts = let whole = withParts Rects.Nothing parts in g
     go (Rects.Box w s e n) false j = omega (arith, length-header 0 0 0)
     go (Rects.Box w s e n) true true = omega (arith, length-header 2 0 0)
     go (Rects.Box w s e n) true false =
-        omega (arith, parts-bytes (listParts flags b 0 parts .guard) (listParts flags b 0 parts .parts), listing-fits flags b 0 parts)
+        omega (arith, parts-bytes (listParts flags b 0 parts .guard) (listParts flags b 0 parts .parts), listing-fits flags b 0 parts some)
 
-answer-fits : (f : Frame) → length (frameBytes f) ≤ outputRoom coordinateBytes (f .parts)
+answer-fits : (f : Frame) → Every SomeRings (f .parts) → length (frameBytes f) ≤ outputRoom coordinateBytes (f .parts)
 unfolding answerTo outputRoom
-answer-fits f = go (eqb (f .head .kind) polygonKind)
+answer-fits f some = go (eqb (f .head .kind) polygonKind)
   where
     go : (t : Bool) → length (answerBytes coordBytes
         (cond t (ofPolygon (Polygon.route (flagsIn (f .head)) (boundsIn (f .head)) (onlyPart (f .parts))))
         (ofMultipolygon (flagsIn (f .head)) (boundsIn (f .head)) (f .parts)))) ≤ 5 + total (partRoom 16) (f .parts)
-    go true = polygon-fits (flagsIn (f .head)) (boundsIn (f .head)) (f .parts)
-    go false = multipolygon-fits (flagsIn (f .head)) (boundsIn (f .head)) (f .parts)
+    go true = polygon-fits (flagsIn (f .head)) (boundsIn (f .head)) (f .parts) some
+    go false = multipolygon-fits (flagsIn (f .head)) (boundsIn (f .head)) (f .parts) some
 
 -- ---- the call
 
@@ -359,7 +375,7 @@ call-answers frame out out′ r a x = let t = taken (readCall frame (length out)
     go f rest e =
         let c = call-read frame (length out) f rest e in
         let same : answerRead (readFrame frame) ≡ answerTo f = ap answerRead (c .0) in
-        let fits : length (frameBytes f) ≤ length out = omega (arith, answer-fits f, c .1) in
+        let fits : length (frameBytes f) ≤ length out = omega (arith, answer-fits f (parts-some frame f rest (c .0)), c .1) in
         (rw (e, x .count, same), x .output ∙ rw (e, same) (whole-over (frameBytes f) out fits))
 
 pub call-refuses : (x : Reading Frame) (r : FrameRefusal) (out : List ℕ) → checkOf x ≡ Fails r → (Refused r ≡ answerOfReading x)
@@ -380,4 +396,4 @@ answered-few frame out n q = go (readCall frame out) refl q
         let same : length (frameBytes f) ≡ n = cc in
         let most : total (partRoom coordinateBytes) (f .parts) ≤ partCountOf frame * mostPart =
         rw (r .parts) at (parts-le 0 (partCountOf frame) (drop headBytes frame) (frame-parts frame (rw (c .0)))) in
-        omega (arith, same, answer-fits f, most, r .few)
+        omega (arith, same, answer-fits f (parts-some frame f rest (c .0)), most, r .few)

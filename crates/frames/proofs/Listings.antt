@@ -39,7 +39,7 @@ use Rattle.frames.specs.Contracts.{writtenPart, partAnswer, PartRoom, ro
 use Rattle.frames.specs.Contracts.{listingOf, finishedHeader, finishedLength, polygonHeader, polygonLength, Answers, Few, Workable}
 use Rattle.frames.specs.Contracts.{PartsRoom}
 use Rattle.frames.proofs.Cutting.{unless-append, unless-bytes}
-use Rattle.frames.proofs.CutParts.{overlay-length, part-bytes}
+use Rattle.frames.proofs.CutParts.{some-rings, overlay-length, part-bytes}
 
 -- ---- a part of a multipolygon, by its rectangle
 
@@ -178,7 +178,7 @@ rings-bytes b (r ∷ rings) =
       holes-bytes b rings,
     )
 
-module _ (i : ℕ) (b : TileBounds) (rings : List (List Coord)) where
+module _ (i : ℕ) (b : TileBounds) (rings : List (List Coord)) (some : 0 < length rings) where
   pub routed-fits : (to : Route) → length (each (partBytes coordBytes) (listedBefore i (Polygon.routed to b rings) [])) ≤ partRoom 16 rings
   unfolding each partRoom Polygon.overlayOrDropped
   routed-fits Routes.Nothing = omega arith
@@ -283,7 +283,11 @@ module _ (flags : Flags) (bounds : TileBounds) (frame : List ℕ) (at k ring a b
         accepted = part-next .later;
         workable = workable-here .1;
         output =
-            omega (arith, output-here, listed-fits i bounds (partAt frame at) flags rect);
+            omega (
+              arith,
+              output-here,
+              listed-fits i bounds (partAt frame at) (some-rings frame at (room .within) (part-next .accepted)) flags rect,
+            );
       }
 
   -- what the part and those behind it list

@@ -1,9 +1,14 @@
--- Document 01's worked cases marked P ("Worked on bounds 0, 0, 10, 10, buffer 0"): one table and one claim, computed from the definitions,
--- from a frame's bytes to the bytes that answer it. Assumes nothing.
+-- Document 01's worked cases marked P ("Worked on bounds 0, 0, 10, 10, buffer 0"), which "speak of the reasons merged back", and cases of
+-- document 02, Point 1, with their positions: two tables and one claim, computed from the definitions, from a frame's bytes to the
+-- bytes that answer it. Assumes nothing.
 use mathlib.Core.Path.{_≡_, refl}
+use mathlib.Core.Bool.{cond}
 use mathlib.Core.List.{List, [], _∷_, _++_}
 use Prim.Native.Nat.{ℕ, _*_, _^_}
-use lib.Ieee.{nan, ofInt, ofBits, toBits, round, isNan, lt, le, eq, add, sub, mul, div}
+use lib.Dec.{eqb}
+use lib.IntN.{pos, negℤ}
+use lib.ListN.{getD, take}
+use lib.Ieee.{nan, binary64, ofInt, ofBits, toBits, round, isNan, lt, le, eq, add, sub, mul, div}
 use Rattle.binary64.specs.Bytes.{Little, doubleBytes, fromLow, toLow}
 use Rattle.binary64.specs.Compare.{minimum, maximum, magnitude, tolerance, near, overlayLimit, huge}
 use Rattle.binary64.specs.Interpolation.{interpolate}
@@ -12,15 +17,15 @@ use Rattle.tile.specs.Bounds.{newOf}
 use Rattle.tile.specs.Ring.{same, last, closed, close}
 use Rattle.tile.proofs.WholeNumbers.{num, at}
 use Rattle.box_pairs.specs.Cross.{crossProductSign, aboveBelow, splits, intersectProperly, degenerate, apartOn, apart, cross}
-use Rattle.box_pairs.specs.Pairs.{anyBelow, anyPair, edgesCross, selfIntersecting}
-use Rattle.box_pairs.specs.Issue.{repeated, issueOf, hasIssue}
+use Rattle.box_pairs.specs.Pairs.{firstInRow, firstFrom, edgesCross, firstPair}
+use Rattle.box_pairs.specs.Issue.{repeatedFrom, issueOf, hasIssue}
 use Rattle.sutherland_hodgman.specs.CuttingLines.{inside, crossing}
 use Rattle.sutherland_hodgman.specs.Clip.{steps, leaveOff, around, pass, passes, finish, clipRing}
 use Rattle.rings.specs.Bridge.{runsAlong, bridgeOf, firstBridge}
 use Rattle.rings.specs.Rectangle.{withCoord, withRing, withRings, reaches, intersectsBounds, liesBetween, isFullyInside, withParts}
 use Rattle.rings.specs.Representable.{hugeCoord, anyHuge, anyHugeRing}
 use Rattle.clip.specs.Polygon.{bridgeUnlessSkipped, routeCut, routeExterior, cutHole, cutHoles, cutRings, overlayOrDropped, routeRect}
-use Rattle.clip.specs.Polygon.{route}
+use Rattle.clip.specs.Polygon.{route, mergedNumber}
 use Rattle.frame_bytes.specs.declared.reader.FrameRefusal.{FrameRefusal}
 use Rattle.frame_bytes.specs.Frame.{polygonKind, multipolygonKind, Reading, refused, read, Frame, readMany, countOf, coordsOf, readCount}
 use Rattle.frame_bytes.specs.Frame.{readCoords, readRing, readPart, readParts, readFrame}
@@ -38,6 +43,11 @@ nanX y = record { x = nan; y = num y }
 nanY : ℕ → Coord
 unfolding num
 nanY x = record { x = num x; y = nan }
+
+-- west of 0
+westOf : ℕ → ℕ → Coord
+unfolding num ofInt
+westOf x y = record { x = ofInt binary64 (negℤ (pos x)); y = num y }
 
 -- ---- rows
 
@@ -69,6 +79,10 @@ unchanged = answer (2 ∷ 0 ∷ 0 ∷ 0 ∷ 0 ∷ [])
 -- one part is listed: "index from 0, 2 bytes; 1 byte (2 unchanged, 4 cut, 5 overlay); reason, 1 byte"
 abbrev overlay : ℕ → Outcome
 overlay reason = answer (3 ∷ 0 ∷ 0 ∷ 1 ∷ 0 ∷ 0 ∷ 0 ∷ 5 ∷ reason ∷ [])
+
+-- "A listed overlay part now ends with two 2-byte positions": here below 256
+abbrev overlayAt : ℕ → ℕ → ℕ → Outcome
+overlayAt reason first second = answer (3 ∷ 0 ∷ 0 ∷ 1 ∷ 0 ∷ 0 ∷ 0 ∷ 5 ∷ reason ∷ first ∷ 0 ∷ second ∷ 0 ∷ [])
 
 -- "if cut, ring count and rings as above"
 abbrev cutTo : List Coord → Outcome
@@ -128,6 +142,29 @@ table =
     ∷ always (at 20 20 ∷ at 30 20 ∷ at 30 30 ∷ nanY 20 ∷ []) dropped
     ∷ []
 
+-- ---- cases of document 02, Point 1
+
+abbrev located : List (List Row)
+located =
+    -- "The short ring keeps reason 1"
+    always (at 2 2 ∷ at 8 2 ∷ at 2 2 ∷ []) (overlayAt 1 0 0)
+    -- "reason 7 is a repeated neighbour with the position, from 0, of the first of the earliest such pair"
+    ∷ always (at 2 2 ∷ at 2 2 ∷ at 8 2 ∷ at 8 8 ∷ at 2 2 ∷ []) (overlayAt 7 0 0)
+    ∷ always (at 2 2 ∷ at 8 2 ∷ at 8 2 ∷ at 8 8 ∷ at 8 8 ∷ at 2 2 ∷ []) (overlayAt 7 1 0)
+    -- a repeated neighbour comes before a crossing
+    ∷ always (at 2 2 ∷ at 8 8 ∷ at 8 2 ∷ at 2 8 ∷ at 2 8 ∷ at 2 2 ∷ []) (overlayAt 7 3 0)
+    -- "reason 8 is a crossing, with both edge numbers": the edges 0 and 2; then 0 and 4, and 1 and 3 too
+    ∷ (row 0 bowTie (overlayAt 8 0 2) ∷ [])
+    ∷ (row 0 (at 2 6 ∷ at 3 7 ∷ at 4 2 ∷ at 6 7 ∷ at 3 5 ∷ at 2 8 ∷ at 2 6 ∷ []) (overlayAt 8 0 4) ∷ [])
+    -- "Reason 2 is split likewise into 2, 9 and 10": a triangle whose cut is one corner, three times; a cut whose first two corners are
+    -- one; a cut whose edges 0 and 3 cross
+    ∷ always (at 5 10 ∷ at 8 15 ∷ at 2 15 ∷ at 5 10 ∷ []) (overlayAt 2 0 0)
+    ∷ always (at 10 2 ∷ at 20 2 ∷ at 20 8 ∷ at 10 8 ∷ at 10 2 ∷ []) (overlayAt 9 0 0)
+    ∷ (row 0 (at 5 3 ∷ westOf 4 6 ∷ at 9 2 ∷ at 2 4 ∷ at 5 3 ∷ []) (overlayAt 10 0 3) ∷ [])
+    -- the reasons 3 to 6 have no position
+    ∷ unlessBoth acrossEast (overlayAt 4 0 0)
+    ∷ []
+
 -- ---- the claim
 
 -- "Kind, 1 byte ..; flags, 1 byte ..; west, south, east, north, buffer, 8 bytes each; part count, 2 bytes": one part, of one ring
@@ -137,33 +174,42 @@ frameOf kind flags r =
     let ten = doubleBytes Little (num 10) in
     kind ∷ flags ∷ zero ++ (zero ++ (ten ++ (ten ++ (zero ++ (countBytes 1 ++ (countBytes 1 ++ ringBytes coordBytes r))))))
 
-abbrev replied : Reading Frame → Outcome
-replied (refused r) = refusal r
-replied (read f rest) = answer (frameBytes f)
+-- an answer that lists one part at most, with the reason of an overlay merged back and without its positions: byte 7 says what becomes of
+-- the part, and byte 8 has the reason
+abbrev merged : List ℕ → List ℕ
+merged bytes = cond (eqb (getD bytes 7 0) 5) (take 8 bytes ++ (mergedNumber (getD bytes 8 0) ∷ [])) bytes
 
-abbrev outcomeOf : Case → Outcome
-outcomeOf (frame kind flags r) = replied (readFrame (frameOf kind flags r))
-outcomeOf (ring r) = cutRing (clipRing (newOf (num 0) (num 0) (num 10) (num 10)) r)
+abbrev asWritten : List ℕ → List ℕ
+asWritten bytes = bytes
+
+-- what is answered, the bytes of an answer as they are looked at
+abbrev replied : (List ℕ → List ℕ) → Reading Frame → Outcome
+replied look (refused r) = refusal r
+replied look (read f rest) = answer (look (frameBytes f))
+
+abbrev outcomeOf : (List ℕ → List ℕ) → Case → Outcome
+outcomeOf look (frame kind flags r) = replied look (readFrame (frameOf kind flags r))
+outcomeOf look (ring r) = cutRing (clipRing (newOf (num 0) (num 0) (num 10) (num 10)) r)
 
 abbrev rows : List (List Row) → List Row
 rows [] = []
 rows (group ∷ groups) = group ++ rows groups
 
-abbrev outcomes : List Row → List Outcome
-outcomes [] = []
-outcomes (c ∷ cs) = outcomeOf (c .given) ∷ outcomes cs
+abbrev outcomes : (List ℕ → List ℕ) → List Row → List Outcome
+outcomes look [] = []
+outcomes look (c ∷ cs) = outcomeOf look (c .given) ∷ outcomes look cs
 
 abbrev becoming : List Row → List Outcome
 becoming [] = []
 becoming (c ∷ cs) = c .becomes ∷ becoming cs
 
-each-becomes : outcomes (rows table) ≡ becoming (rows table)
+each-becomes : (outcomes merged (rows table) ≡ becoming (rows table)) × (outcomes asWritten (rows located) ≡ becoming (rows located))
 unfolding readFrame readParts readPart readRing readCoords readCount readMany coordsOf countOf fromLow toLow answerTo ofMultipolygon
     withParts listParts routePart answerBytes partBytes ringBytes each route routeRect routeExterior routeCut overlayOrDropped cutRings
     cutHoles cutHole bridgeUnlessSkipped firstBridge bridgeOf runsAlong withRings withRing withCoord intersectsBounds reaches
-    isFullyInside liesBetween anyHugeRing anyHuge hugeCoord issueOf hasIssue repeated selfIntersecting anyPair anyBelow edgesCross cross
+    isFullyInside liesBetween anyHugeRing anyHuge hugeCoord issueOf hasIssue repeatedFrom firstPair firstFrom firstInRow edgesCross cross
     apart apartOn degenerate intersectProperly splits aboveBelow crossProductSign clipRing finish passes pass around leaveOff steps inside
-    crossing interpolate same last closed close at nanX nanY num minimum maximum magnitude tolerance near overlayLimit huge
+    crossing interpolate same last closed close at nanX nanY westOf num minimum maximum magnitude tolerance near overlayLimit huge
     ofInt ofBits toBits
     round isNan lt le eq add sub mul div
-each-becomes = refl
+each-becomes = (refl, refl)

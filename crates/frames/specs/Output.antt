@@ -1,12 +1,12 @@
--- Answers as bytes, and what a frame call leaves in the output (document 01, "Frames"). The bytes of a coordinate are a parameter.
--- Definitions only.
+-- Answers as bytes, and what a frame call leaves in the output (document 01, "Frames"; document 02, Point 1). The bytes of a coordinate are
+-- a parameter. Definitions only.
 use mathlib.Core.List.{List, [], _∷_, _++_}
 use Prim.Native.Nat.{ℕ}
 use lib.ListN.{length}
 use Rattle.binary64.specs.Slices.{over}
 use Rattle.tile.specs.declared.Coord.{Coord}
 use Rattle.clip.specs.Polygon as Polygon
-use Rattle.clip.specs.Polygon.{answerOf, told}
+use Rattle.clip.specs.Polygon.{answerOf, told, reasonDetail}
 use Rattle.frame_bytes.specs.Frame.{Reading, refused, read, Frame}
 use Rattle.frame_bytes.specs.Room.{readCall}
 use Rattle.frame_bytes.specs.Encoding.{each, countBytes, coordBytes, headerBytes, ringBytes}
@@ -20,19 +20,19 @@ answerByte Unchanged = 2
 answerByte (Listed guard parts) = 3
 
 module _ (coordinate : Coord → List ℕ) where
-  -- "if cut, ring count and rings as above"
-  abbrev pub cutBytes : Polygon.Routed → List ℕ
-  cutBytes Polygon.nothing = []
-  cutBytes Polygon.dropped = []
-  cutBytes Polygon.unchanged = []
-  cutBytes (Polygon.cut rings) = countBytes (length rings) ++ each (ringBytes coordinate) rings
-  cutBytes (Polygon.overlay reason) = []
+  -- how a listed part ends: "if cut, ring count and rings as above"; "A listed overlay part now ends with two 2-byte positions"
+  abbrev pub partEnd : Polygon.Routed → List ℕ
+  partEnd Polygon.nothing = []
+  partEnd Polygon.dropped = []
+  partEnd Polygon.unchanged = []
+  partEnd (Polygon.cut rings) = countBytes (length rings) ++ each (ringBytes coordinate) rings
+  partEnd (Polygon.overlay reason) = countBytes (reasonDetail reason .first) ++ countBytes (reasonDetail reason .second)
 
   -- "A listed part: index from 0, 2 bytes; 1 byte (2 unchanged, 4 cut, 5 overlay); reason, 1 byte, 0 unless overlay"
   unfoldable pub partBytes : Part → List ℕ
   partBytes part =
       countBytes (part .index)
-      ++ (told (answerOf (part .outcome)) .number ∷ told (answerOf (part .outcome)) .reason ∷ cutBytes (part .outcome))
+      ++ (told (answerOf (part .outcome)) .number ∷ told (answerOf (part .outcome)) .reason .number ∷ partEnd (part .outcome))
 
   -- a whole that is dropped has "guard count 1"
   unfoldable pub answerBytes : Answer → List ℕ

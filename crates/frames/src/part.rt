@@ -16,7 +16,7 @@ use clip::polygon::OVERLAY;
 use clip::polygon::Reason;
 use clip::polygon::Route;
 use clip::polygon::clip_hole;
-use clip::polygon::reason_number;
+use clip::polygon::reason_detail;
 use clip::polygon::route_exterior;
 use frame_bytes::encode::PART;
 use frame_bytes::encode::put_count;
@@ -134,7 +134,7 @@ fn overlay_or_dropped(
     to: usize,
 ) -> PartAnswer
     requires { ⌜ (at ≤ length (now frame)) × FrameBytesContracts.Accepted (Frames.readPart (drop at (now frame)))
-        × (to + 4 ≤ length (now out)) ⌝ }
+        × (to + 8 ≤ length (now out)) ⌝ }
     ensures { λ r. ⌜ r ≡ Contracts.partAnswer to index
         (Polygon.overlayOrDropped (FrameBytesContracts.partAt (now (frame .entry)) at) reason) ⌝ }
     ensures { λ _. ⌜ now (out .exit) ≡ sets (now (out .entry)) to
@@ -143,8 +143,12 @@ fn overlay_or_dropped(
     if part_has_huge(frame, at) {
         return PartAnswer::Dropped;
     }
-    put_part(out, to, index, OVERLAY, reason_number(reason));
-    PartAnswer::Listed(to + PART)
+    let detail = reason_detail(reason);
+    put_part(out, to, index, OVERLAY, detail.number);
+    let positions = to + PART;
+    put_count(out, positions, detail.first as usize);
+    put_count(out, positions + COUNT, detail.second as usize);
+    PartAnswer::Listed(positions + COUNT + COUNT)
 }
 
 // What becomes of the part at `at` whose exterior has this route; a cut exterior stands at the front of b.

@@ -2,7 +2,7 @@
 use mathlib.Core.Path.{_≡_, subst, _∙_}
 use mathlib.Core.Bool.{Bool, true, _&&_}
 use mathlib.Core.List.{List}
-use Prim.Native.Nat.{ℕ, _+_, _-_, _*_, _/_, _^_, _≤_}
+use Prim.Native.Nat.{ℕ, _+_, _-_, _*_, _/_, _<_, _≤_}
 use native.Mathlib.Omega.{arith}
 use lib.Dec.{leb, ltb}
 use lib.Ieee.{Float}
@@ -13,11 +13,14 @@ use Rattle.binary64.proofs.Booleans.{both}
 use Rattle.tile.specs.declared.Coord.{Coord}
 use Rattle.tile.specs.Ring.{flat}
 use Rattle.tile.specs.Contracts.{Written}
-use Rattle.tile.proofs.Rings.{length-flat}
-use Rattle.box_pairs.specs.Contracts.{front, IssueRoom}
-use Rattle.box_pairs.specs.Pairs.{selfIntersecting}
+use Rattle.tile.proofs.Rings.{length-flat, length-front}
+use Rattle.box_pairs.specs.declared.pairs.Pair.{Pair}
+use Rattle.box_pairs.specs.Contracts.{front, IssueRoom, PairBelow, IssueBelow}
+use Rattle.box_pairs.specs.Pairs.{firstPair}
+use Rattle.box_pairs.specs.Issue.{issueOf}
+use Rattle.box_pairs.proofs.Offered.{issue-below, pair-below}
 use Rattle.sutherland_hodgman.specs.Growth.{halfGrowth, mostCoordinates}
-use Rattle.probe.specs.Edges.{hasRoom, flagCode}
+use Rattle.probe.specs.Edges.{most, hasRoom, pairCode}
 use Rattle.probe.specs.Passes.{hasPassRoom}
 
 pub room-of : (ring work : List Float) (order : List ℕ) → hasRoom (length ring / 2) work order ≡ true
@@ -25,22 +28,38 @@ pub room-of : (ring work : List Float) (order : List ℕ) → hasRoom (length ri
 unfolding hasRoom
 room-of ring work order h =
     let n = length ring / 2 in
-    let a = both (leb n (length work / 2)) (leb n (length order) && ltb n (2 ^ 32)) h in
-    let b = both (leb n (length order)) (ltb n (2 ^ 32)) (a .1) in
+    let a = both (leb n (length work / 2)) (leb n (length order) && ltb n most) h in
+    let b = both (leb n (length order)) (ltb n most) (a .1) in
     record {
       ring-room = omega arith;
       work-room = omega (arith, leb-true n (length work / 2) (a .0));
       order-room = leb-true n (length order) (b .0);
-      small = ltb-true n (2 ^ 32) (b .1);
+      small = omega (arith, ltb-true n most (b .1));
     }
+
+-- and the positions that are told have the bits that they are written in
+pub few-of : (n : ℕ) (work : List Float) (order : List ℕ) → hasRoom n work order ≡ true → n < most
+unfolding hasRoom
+few-of n work order h =
+    ltb-true n most (both (leb n (length order)) (ltb n most) (both (leb n (length work / 2)) (leb n (length order) && ltb n most) h .1) .1)
+
+pub issue-fits : (ring : List Float) (b : Bool) → length ring / 2 < most → IssueBelow most (issueOf b (front ring (length ring / 2)))
+issue-fits ring b l =
+    issue-below most b (front ring (length ring / 2)) (omega (arith, length-front ring (length ring / 2) (omega arith)))
+
+pub pair-fits : (ring : List Float) (n : ℕ) (x : Pair) → n < most → 2 * n ≤ length ring → (n ≡ 0 → ⊥) → x ≡ firstPair (front ring (n - 1 + 1))
+    → PairBelow most x
+pair-fits ring n x l room some e =
+    let q : n - 1 + 1 ≡ n = omega arith in
+    rw (e, q) (pair-below most (front ring n) (omega (arith, length-front ring n room)))
 
 -- a ring of n coordinates has one edge less
 pub one-edge-less : (P : ℕ → Type 0) (n : ℕ) → (n ≡ 0 → ⊥) → P n → P (n - 1 + 1)
 one-edge-less P n h p = let q : n ≡ n - 1 + 1 = omega arith in subst P q p
 
-pub same-verdict : (ring : List Float) (n : ℕ) (b : Bool) → (n ≡ 0 → ⊥) → b ≡ selfIntersecting (front ring (n - 1 + 1))
-    → flagCode b ≡ flagCode (selfIntersecting (front ring n))
-same-verdict ring n b h e = let q : n - 1 + 1 ≡ n = omega arith in rw (e, q)
+pub same-pair : (ring : List Float) (n : ℕ) (x : Pair) → (n ≡ 0 → ⊥) → x ≡ firstPair (front ring (n - 1 + 1))
+    → pairCode x ≡ pairCode (firstPair (front ring n))
+same-pair ring n x h e = let q : n - 1 + 1 ≡ n = omega arith in rw (e, q)
 
 -- the room that the call of a pass tests is the room that the pass asks for
 pub pass-room-of : (n out : ℕ) → hasPassRoom n out ≡ true → 2 * halfGrowth n ≤ out

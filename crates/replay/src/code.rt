@@ -2,11 +2,10 @@
 ghost use mathlib.Core.Path.{_≡_};
 ghost use Prim.Native.Nat.{_^_, _<_};
 ghost use Rattle.sutherland_hodgman.specs.RingCall.{ringCallCode};
-ghost use Rattle.slices.specs.SliceCall.{answerCode, sliceCallCode};
+ghost use Rattle.slices.specs.SliceCall.{sliceCallCode};
 ghost use Rattle.replay.specs.Code.{bitsOf, isRefusal, ringNumbers, ringsWritten};
-use clip::polygon::PolygonAnswer;
-use clip::polygon::reason_number;
 use slices::call::SliceAnswer;
+use slices::call::answer_code;
 use sutherland_hodgman::call::Refusal;
 use sutherland_hodgman::call::RingAnswer;
 
@@ -56,26 +55,13 @@ pub fn numbers_of(code: u64) -> usize
     (2 * code) as usize
 }
 
-fn of_polygon(answer: PolygonAnswer) -> u64
-    requires { ⌜ answerCode answer < 2 ^ 64 ⌝ }
-    ensures { λ r. ⌜ r ≡ answerCode answer ⌝ }
-{
-    match answer {
-        PolygonAnswer::Nothing => 0,
-        PolygonAnswer::Dropped => 1,
-        PolygonAnswer::Unchanged => 2,
-        PolygonAnswer::Cut(rings) => 4 + 65536 * rings as u64,
-        PolygonAnswer::Overlay(reason) => 5 + 256 * reason_number(reason) as u64,
-    }
-}
-
 pub fn of_slice(answer: SliceAnswer) -> u64
     requires { ⌜ bitsOf (sliceCallCode answer) < 2 ^ 64 ⌝ }
     ensures { λ r. ⌜ r ≡ bitsOf (sliceCallCode answer) ⌝ }
 {
     match answer {
         SliceAnswer::Refused(refusal) => of_refusal(refusal),
-        SliceAnswer::Answered(polygon, guards) => of_polygon(polygon),
+        SliceAnswer::Answered(polygon, guards) => answer_code(polygon),
     }
 }
 

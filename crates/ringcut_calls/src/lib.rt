@@ -1,25 +1,17 @@
 // The calls that C and Rust programs link, in one static library. A slice crosses as a pointer and a length, of which include/ringcut.h
 // says what they must be; a refusal is answered as minus its number.
 ghost use mathlib.Core.Path.{_≡_};
-ghost use Prim.Native.Nat.{_^_, _<_};
 ghost use Rattle.tile.specs.Bounds.{newOf};
 ghost use Rattle.sutherland_hodgman.specs.RingCall.{ringSlices, ringCallAnswer, ringCallCode, ringCallSlices, RingCallPromise};
-ghost use Rattle.slices.specs.SliceCall.{polygonSlices, sliceCallAnswer, sliceCallSlices, answerCode, sliceCallCode, sliceCallGuards};
-ghost use Rattle.slices.specs.SliceCall.{guardsIn};
+ghost use Rattle.slices.specs.SliceCall.{polygonSlices, sliceCallAnswer, sliceCallSlices, sliceCallCode, sliceCallGuards, guardsIn};
 ghost use Rattle.frames.specs.Output.{frameCallOutput};
 ghost use Rattle.frames.specs.FrameCall.{frameCallAnswer, frameCallCode};
 ghost use Rattle.ringcut_calls.specs.Flags.{isSet, flagsOf};
-use clip::polygon::CUT;
-use clip::polygon::DROPPED;
 use clip::polygon::Flags;
-use clip::polygon::NOTHING;
-use clip::polygon::OVERLAY;
-use clip::polygon::PolygonAnswer;
-use clip::polygon::UNCHANGED;
-use clip::polygon::reason_number;
 use frame_bytes::reader::refusal_number;
 use frames::entry::FrameAnswer;
 use slices::call::SliceAnswer;
+use slices::call::answer_code;
 use sutherland_hodgman::call::Refusal;
 use sutherland_hodgman::call::RingAnswer;
 use tile::TileBounds;
@@ -61,20 +53,6 @@ pub extern "C" fn ringcut_ring(
     match sutherland_hodgman::call::ring(ring, bounds, scratch, out) {
         RingAnswer::Refused(r) => refusal_code(r),
         RingAnswer::Clipped(n) => n as i64,
-    }
-}
-
-// An answer as one number: what it is, 256 times the reason of an overlay, 65,536 times the count of a cut's rings.
-fn answer_code(answer: PolygonAnswer) -> usize
-    requires { ⌜ answerCode answer < 2 ^ 32 ⌝ }
-    ensures { λ r. ⌜ r ≡ answerCode answer ⌝ }
-{
-    match answer {
-        PolygonAnswer::Nothing => NOTHING as usize,
-        PolygonAnswer::Dropped => DROPPED as usize,
-        PolygonAnswer::Unchanged => UNCHANGED as usize,
-        PolygonAnswer::Cut(rings) => CUT as usize + 65536 * rings,
-        PolygonAnswer::Overlay(reason) => OVERLAY as usize + 256 * reason_number(reason) as usize,
     }
 }
 

@@ -1,8 +1,8 @@
--- The slice call (document 01, "Frames", amended by document 02, Point 4): what it answers, and what each lent slice holds afterwards.
--- Definitions only.
+-- The slice call (document 01, "Frames", amended by document 02, Points 4 and 1): what it answers, and what each lent slice holds
+-- afterwards. Definitions only.
 use mathlib.Core.Bool.{Bool, not, cond, _&&_, _||_}
 use mathlib.Core.List.{List, [], _∷_, _++_}
-use Prim.Native.Nat.{ℕ, _+_, _*_}
+use Prim.Native.Nat.{ℕ, _+_, _*_, _^_}
 use lib.Dec.{ltb, leb, eqb}
 use lib.Ieee.{Float}
 use lib.IntN.{ℤ, pos, negsuc, negℤ}
@@ -117,9 +117,12 @@ sliceCallSlices flags bounds buffer coords lengths lent =
 
 -- ---- answers as numbers
 
--- number, reason and rings in one number, which tells the guard count too (`guardsIn`)
+-- number, reason, rings or first position, and second position in one number, which tells the guard count too (`guardsIn`): a cut has no
+-- positions and an overlay no rings, so that these share a place
 abbrev pub answerCode : PolygonAnswer → ℕ
-answerCode answer = told answer .number + 256 * told answer .reason + 65536 * told answer .rings
+answerCode answer =
+    let reason = told answer .reason in
+    told answer .number + 2 ^ 8 * reason .number + 2 ^ 16 * (told answer .rings + reason .first) + 2 ^ 40 * reason .second
 
 -- minus the refusal's number, or the answer's code
 abbrev pub sliceCallCode : SliceAnswer → ℤ

@@ -1,21 +1,27 @@
 // The slice call: one polygon as lent slices. It is open to callers and refuses what it can't cut.
 ghost use mathlib.Core.Path.{_≡_};
-ghost use Prim.Native.Nat.{_*_};
+ghost use Prim.Native.Nat.{_*_, _^_, _<_};
 ghost use lib.ListN.{length, take, replicate};
 ghost use Rattle.tile.specs.Ring as Ring;
 ghost use Rattle.rings.specs.LentRings.{closedRings};
 ghost use Rattle.rings.specs.Contracts.{Lent, Measurable};
 ghost use Rattle.clip.specs.Polygon as Polygon;
 ghost use Rattle.slices.specs.SliceCall.{lengthsFit, checkRoom, checkPolygon, sliceCallRoom, polygonSlices, sliceCallAnswer};
-ghost use Rattle.slices.specs.SliceCall.{sliceCallSlices};
+ghost use Rattle.slices.specs.SliceCall.{sliceCallSlices, answerCode};
 ghost use Rattle.slices.specs.Contracts as Contracts;
 use binary64::slices::clear;
+use clip::polygon::CUT;
+use clip::polygon::DROPPED;
 use clip::polygon::Flags;
+use clip::polygon::NOTHING;
+use clip::polygon::OVERLAY;
 use clip::polygon::PolygonAnswer;
 use clip::polygon::Reason;
 use clip::polygon::Route;
+use clip::polygon::UNCHANGED;
 use clip::polygon::clip_hole;
 use clip::polygon::guard_count;
+use clip::polygon::reason_detail;
 use clip::polygon::route_exterior;
 use rings::lent::MOST_RINGS;
 use rings::lent::closed_sum;
@@ -365,5 +371,31 @@ pub fn polygon(
             let guards = guard_count(answer);
             SliceAnswer::Answered(answer, guards)
         }
+    }
+}
+
+fn overlay_code(reason: Reason) -> u64
+    requires { ⌜ answerCode (PolygonAnswer.Overlay reason) < 2 ^ 64 ⌝ }
+    ensures { λ r. ⌜ r ≡ answerCode (PolygonAnswer.Overlay reason) ⌝ }
+{
+    let told = reason_detail(reason);
+    OVERLAY as u64
+        + 256 * told.number as u64
+        + 65_536 * told.first as u64
+        + 1_099_511_627_776 * told.second as u64
+}
+
+// An answer as one number: what it is, 2^8 times the reason of an overlay, 2^16 times the count of a cut's rings or an overlay's first
+// position, 2^40 times its second position.
+pub fn answer_code(answer: PolygonAnswer) -> u64
+    requires { ⌜ answerCode answer < 2 ^ 64 ⌝ }
+    ensures { λ r. ⌜ r ≡ answerCode answer ⌝ }
+{
+    match answer {
+        PolygonAnswer::Nothing => NOTHING as u64,
+        PolygonAnswer::Dropped => DROPPED as u64,
+        PolygonAnswer::Unchanged => UNCHANGED as u64,
+        PolygonAnswer::Cut(rings) => CUT as u64 + 65_536 * rings as u64,
+        PolygonAnswer::Overlay(reason) => overlay_code(reason),
     }
 }

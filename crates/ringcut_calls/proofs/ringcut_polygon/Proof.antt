@@ -35,8 +35,9 @@ enum-known-answer c = search needs
 
 answer-code-requires : tie.Need-answer-code-requires
 answer-code-requires c κs =
-    answer-below _ _ _ _ _ _ _ _ (sym (c .before .before .before .before .before .before .before .before .before .before .before .polygon
-    .ensures .0) ∙ c .before .answer .given .1)
+    let b = answer-below _ _ _ _ _ _ _ _ (sym (c .before .before .before .before .before .before .before .before .before .before .before
+    .polygon .ensures .0) ∙ c .before .answer .given .1) in
+    omega arith
 
 cast-result : tie.Need-cast-result
 cast-result c =

@@ -9,27 +9,28 @@ use native.Mathlib.Omega.{arith}
 use lib.Ieee.{nan, lt}
 use lib.ListN.{getD}
 use borrow.Author.Needs.{needs}
+use borrow.Author.Tests.{lt-ltb, le-ltb}
 use Rattle.binary64.specs.Contracts.{key}
 use Rattle.tile.specs.declared.Coord.{Coord}
-use Rattle.box_pairs.specs.Contracts.{front, edgesAt, lowX}
+use Rattle.box_pairs.specs.Contracts.{front, edgesAt, lowX, Clear, Passed, atSlots}
 use Rattle.box_pairs.specs.Pairs.{edgesCross}
-use Rattle.box_pairs.proofs.Sweep.{Inner, Outer, Clear, atSlots, Sweeps, outer-start, inner-start, inner-next, outer-next, sweep-hit}
+use Rattle.box_pairs.proofs.Sweep.{Inner, Sweeps, outer-start, inner-start, inner-next, outer-next, sweep-hit}
 use Rattle.box_pairs.proofs.Sweep.{sweep-stop, sweep-done}
 use Rattle.box_pairs.proofs.Edges.{crossing-front, edges-front, never-meet, high-front, stops, edge-sweeps}
 use Rattle.box_pairs.proofs.pairs.sweep_sorted.Statement.{statement}
 use Rattle.box_pairs.proofs.pairs.sweep_sorted.Tie as tie
 
 abbrev Inv-loop : tie.InvT-loop
-Inv-loop ring lows order n found₀ p i high q₀ found q = Inner (atSlots (edgesCross (front ring (n + 1))) order) n p q found
+Inv-loop ring lows order n p i high q₀ q = Inner (atSlots (edgesCross (front ring (n + 1))) order) n p q
 
 abbrev μ-loop : tie.MeasureT-loop
-μ-loop ring lows order n found₀ p i high q₀ found q = n - q
+μ-loop ring lows order n p i high q₀ q = n - q
 
 abbrev Inv-pairs : tie.InvT-pairs
-Inv-pairs ring lows order n found₀ p₀ found p = Outer (atSlots (edgesCross (front ring (n + 1))) order) n p found
+Inv-pairs ring lows order n p₀ p = Passed (atSlots (edgesCross (front ring (n + 1))) order) n p
 
 abbrev μ-pairs : tie.MeasureT-pairs
-μ-pairs ring lows order n found₀ p₀ found p = n - p
+μ-pairs ring lows order n p₀ p = n - p
 
 -- the ring, and what the sweep asks of its edges
 abbrev ring-of : tie.Start Inv-loop μ-loop Inv-pairs μ-pairs → List Coord
@@ -128,8 +129,8 @@ loop-holds : tie.Need-loop-holds Inv-loop μ-loop Inv-pairs μ-pairs
 loop-holds c =
     let o = c .before .before .before .before .before in
     let s = o .before .before .before .before in
-    inner-start (atSlots (edgesCross (ring-of s)) (s .args .order .now)) (s .args .edges) (o .pairs .p) (o .pairs .found)
-    (c .before .before .before .before .pairs-test .taken) (o .pairs .inv)
+    inner-start (atSlots (edgesCross (ring-of s)) (s .args .order .now)) (s .args .edges) (o .pairs .p)
+    (c .before .before .before .before .pairs-test .taken)
 
 mul-j : tie.Need-mul-j Inv-loop μ-loop Inv-pairs μ-pairs
 mul-j c =
@@ -219,7 +220,7 @@ loop-again c =
     let miss : atSlots (edgesCross (ring-of s)) (s .args .order .now) (o .pairs .p) (l .q) ≡ false =
     ⊎-elim (λ w. sym is ∙ (sym (w .1 .ensures) ∙ w .2 .left))
     (λ w. sym is ∙ never-meet _ _ _ (sym (c .before .may-meet-in-y .ensures) ∙ w .left)) (c .if2 .came) in
-    inner-next (atSlots (edgesCross (ring-of s)) (s .args .order .now)) (s .args .edges) (o .pairs .p) (l .q) (l .found)
+    inner-next (atSlots (edgesCross (ring-of s)) (s .args .order .now)) (s .args .edges) (o .pairs .p) (l .q)
     (c .before .before .before .before .before .loop-test .taken)
     (l .inv) miss
 
@@ -240,17 +241,19 @@ pairs-again c =
     (s .args .order .now) (s .pre .1 .positions) (s .pre .1 .sorted)
     (o .pairs .p) (l .q) (l .inv .after) (w .0 .taken) (l .inv .clear) (sym (stop-test (c .before) (l .q) (w .0 .taken)) ∙ w .3 .taken))
     (c .loop-test .came) in
-    outer-next (atSlots (edgesCross (ring-of s)) (s .args .order .now)) (s .args .edges) (o .pairs .p) (l .q) (o .pairs .found) (l .found)
-    (c .before .before .before .before .before .before .pairs-test .taken) (o .pairs .inv) (l .inv) rest
+    outer-next (atSlots (edgesCross (ring-of s)) (s .args .order .now)) (s .args .edges) (o .pairs .p)
+    (c .before .before .before .before .before .before .pairs-test .taken) (o .pairs .inv) rest
 
 returns : tie.Need-returns Inv-loop μ-loop Inv-pairs μ-pairs
 returns c =
     let o = c .before in
     let s = c .before .before .before .before .before in
-    sweep-done (λ i. key (lowX (ring-of s) i)) (s .args .edges) (stops (ring-of s)) (edgesCross (ring-of s)) (sweeps o)
-    (s .args .order .now) (s .pre .1 .positions) (s .pre .1 .sorted)
-    (o .pairs .p) (o .pairs .found) (c .pairs-test .left) (o .pairs .inv)
-    ∙ sym (crossing-front (s .args .ring .now) (s .args .edges) (s .pre .0 .0))
+    let none = sweep-done (λ i. key (lowX (ring-of s) i)) (s .args .edges) (stops (ring-of s)) (edgesCross (ring-of s)) (sweeps o)
+    (s .args .order .now) (s .pre .1 .positions) (s .pre .1 .sorted) (o .pairs .p) (c .pairs-test .left) (o .pairs .inv) in (
+      le-ltb (o .pairs .p) (s .args .edges) (c .pairs-test .left)
+          ∙ sym (crossing-front (s .args .ring .now) (s .args .edges) (s .pre .0 .0) ∙ none),
+      o .pairs .inv,
+    )
 
 returns-2 : tie.Need-returns-2 Inv-loop μ-loop Inv-pairs μ-pairs
 returns-2 c =
@@ -258,13 +261,17 @@ returns-2 c =
     let o = c .before .before .before .before .before .before .before .before .before .before .before .before .before .before in
     let s = c .before .before .before .before .before .before .before .before .before .before .before .before .before .before .before
     .before .before .before in
-    sym (crossing-front (s .args .ring .now) (s .args .edges) (s .pre .0 .0)
-    ∙ sweep-hit (λ i. key (lowX (ring-of s) i)) (s .args .edges) (stops (ring-of s)) (edgesCross (ring-of s)) (sweeps o)
+    let hit = sweep-hit (λ i. key (lowX (ring-of s) i)) (s .args .edges) (stops (ring-of s)) (edgesCross (ring-of s)) (sweeps o)
     (s .args .order .now) (s .pre .1 .positions) (s .pre .1 .sorted)
     (o .pairs .p) (l .q) (l .inv .after) (c .before .before .before .before .before .before .before .loop-test .taken)
     (sym (verdict (c .before .before .before .before .before .before .before .before) (l .q)
     (c .before .before .before .before .before .before .before .loop-test .taken)) ∙
-    (sym (c .before .edges-cross .ensures) ∙ c .if3 .taken)))
+    (sym (c .before .edges-cross .ensures) ∙ c .if3 .taken)) in (
+      lt-ltb (o .pairs .p) (s .args .edges)
+          (c .before .before .before .before .before .before .before .before .before .before .before .before .before .pairs-test .taken)
+          ∙ sym (crossing-front (s .args .ring .now) (s .args .edges) (s .pre .0 .0) ∙ hit),
+      o .pairs .inv,
+    )
 
 pub sweep-sorted-spec : {M : Type 1} → statement M
 sweep-sorted-spec =

@@ -4,7 +4,7 @@ use denote.Ref.{now}
 use borrow.Author.Needs.{needs}
 use Rattle.frame_bytes.specs.Contracts.{partAt}
 use Rattle.frames.specs.declared.part.PartAnswer.the-variants.{Listed}
-use Rattle.frames.proofs.CutParts.{overlay-room}
+use Rattle.frames.proofs.CutParts.{some-rings, overlay-room}
 use Rattle.frames.proofs.part.answer_route.Statement.{statement}
 use Rattle.frames.proofs.part.answer_route.Tie as tie
 
@@ -21,7 +21,7 @@ overlay-or-dropped-requires : tie.Need-overlay-or-dropped-requires
 overlay-or-dropped-requires c κs =
     let a = c .before .before .before .before .before .before .before .before .before .args in
     let p = c .before .before .before .before .before .before .before .before .before .pre in
-    (p .within, p .accepted, overlay-room (partAt (now (a .frame)) (a .at)) _ _ (p .output))
+    (p .within, p .accepted, overlay-room (partAt (now (a .frame)) (a .at)) _ _ (some-rings (now (a .frame)) (a .at) (p .within) (p .accepted)) (p .output))
 
 enum-known-route-2 : tie.Need-enum-known-route-2
 enum-known-route-2 c = search needs

@@ -1,8 +1,10 @@
 -- `edges::probe_find_issue` meets its contract. Assumes nothing.
 use mathlib.Core.Path.{sym, _∙_}
+use Prim.Native.Nat.{_/_}
+use lib.ListN.{length}
 use borrow.Author.Needs.{needs}
 use Rattle.probe.specs.Edges.{foundIssue}
-use Rattle.probe.proofs.Rooms.{room-of}
+use Rattle.probe.proofs.Rooms.{room-of, few-of, issue-fits}
 use Rattle.probe.proofs.edges.probe_find_issue.Statement.{statement}
 use Rattle.probe.proofs.edges.probe_find_issue.Tie as tie
 
@@ -16,7 +18,10 @@ find-issue-requires c κs =
     ∙ c .before .before .if1 .taken)
 
 issue-code-requires : tie.Need-issue-code-requires
-issue-code-requires c κs = search needs
+issue-code-requires c κs =
+    let s = c .before .before .before .before .before .before .before .before .before .before .before .before .before .before .args in
+    let few = few-of (length (s .ring .now) / 2) (s .work .now) (s .order .now) (sym (c .before .before .before .before .before .before .before .before .has-room .ensures) ∙ c .before .before .before .before .before .before .before .if1 .taken) in
+    rw (c .before .before .before .before .find-issue .ensures .0) (issue-fits (s .ring .now) _ few)
 
 same-length : tie.Need-same-length
 same-length c = search needs

@@ -12,14 +12,14 @@ of-refusal-requires c κs = search needs
 enum-known-answer-2 : tie.Need-enum-known-answer-2
 enum-known-answer-2 c = search needs
 
-of-polygon-requires : tie.Need-of-polygon-requires
-of-polygon-requires c κs = rw (c .before .answer2 .given .1) at (c .before .before .before .pre)
+answer-code-requires : tie.Need-answer-code-requires
+answer-code-requires c κs = rw (c .before .answer2 .given .1) at (c .before .before .before .pre)
 
 returns : tie.Need-returns
 returns c = search needs
 
 returns-2 : tie.Need-returns-2
-returns-2 c = rw (c .before .before .answer2 .given .1) (c .of-polygon .ensures)
+returns-2 c = rw (c .before .before .answer2 .given .1) (c .answer-code .ensures)
 
 pub of-slice-spec : {M : Type 1} → statement M
 of-slice-spec =
@@ -28,6 +28,6 @@ of-slice-spec =
     enum-known-answer
     of-refusal-requires
     enum-known-answer-2
-    of-polygon-requires
+    answer-code-requires
     returns
     returns-2)

@@ -1,11 +1,11 @@
--- `pairs::any_edge_pair` meets its contract: a scan writes nothing, and a sweep leaves what it has sorted. Assumes nothing.
+-- `pairs::first_edge_pair` meets its contract: a scan writes nothing, and a sweep leaves what it has sorted. Assumes nothing.
 use mathlib.Core.Path.{refl}
 use Prim.Native.Nat.{_+_}
 use borrow.Author.Needs.{needs}
 use Rattle.box_pairs.specs.Contracts.{front}
 use Rattle.box_pairs.proofs.Edges.{after-scan, after-sweep}
-use Rattle.box_pairs.proofs.pairs.any_edge_pair.Statement.{statement}
-use Rattle.box_pairs.proofs.pairs.any_edge_pair.Tie as tie
+use Rattle.box_pairs.proofs.pairs.first_edge_pair.Statement.{statement}
+use Rattle.box_pairs.proofs.pairs.first_edge_pair.Tie as tie
 
 is-scanned-requires : tie.Need-is-scanned-requires
 is-scanned-requires c κs = search needs
@@ -40,8 +40,8 @@ returns-2 c =
     let swept = after-sweep (a .edges) r _ test (a .work .now) _ (a .order .now) _ left (e .1 .1) in
     (e .0, (e .1 .0, swept))
 
-pub any-edge-pair-spec : {M : Type 1} → statement M
-any-edge-pair-spec =
+pub first-edge-pair-spec : {M : Type 1} → statement M
+first-edge-pair-spec =
     tie.close
     (tie.spec
     is-scanned-requires
