@@ -55,7 +55,7 @@ fn every_answer_is_shown() {
                     Listed::Unchanged => "part unchanged".to_string(),
                     Listed::Cut(rings) if rings.len() > 1 => "cut with a hole".to_string(),
                     Listed::Cut(_) => "cut".to_string(),
-                    Listed::Overlay(reason) => format!("overlay, reason {reason}"),
+                    Listed::Overlay(reason) => format!("overlay, reason {}", reason.number),
                 }));
             }
             Ok(whole) => shown.extend([whole.to_string()]),

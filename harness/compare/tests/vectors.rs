@@ -6,6 +6,7 @@ use std::collections::BTreeSet;
 use compare::calls::{ring_label, slice_label};
 use compare::{vectors, worked};
 use formats::calls::SliceAnswer;
+use formats::reason::Reason;
 use formats::same_numbers;
 use formats::vectors::{decode_rings, decode_slices, MOST_LENT};
 
@@ -61,7 +62,7 @@ fn slice_calls_have_every_answer_in_every_room() {
         assert!(lent.iter().all(|&length| length <= MOST_LENT));
         assert_eq!(*written, if answer.is_ok() { call.room() } else { 0 });
         let label = match answer {
-            Ok(SliceAnswer::Overlay(2..)) => "overlay behind a cut",
+            Ok(SliceAnswer::Overlay(Reason { number: 2.., .. })) => "overlay behind a cut",
             _ => slice_label(answer),
         };
         met.extend(answer.as_ref().ok().and(room(call.out.len(), call.room())).map(|room| (label, room)));

@@ -3,6 +3,7 @@
 use std::fmt::{self, Display};
 
 use crate::cursor::Cursor;
+use crate::reason::Reason;
 use crate::{flat, Refusal, Ring};
 
 #[derive(Debug)]
@@ -23,7 +24,7 @@ pub struct ListedPart {
 pub enum Listed {
     Unchanged,
     Cut(Vec<Ring>),
-    Overlay(u8),
+    Overlay(Reason),
 }
 
 impl Answer {
@@ -72,7 +73,11 @@ impl ListedPart {
         bytes.extend(self.index.to_le_bytes());
         match &self.listed {
             Listed::Unchanged => bytes.extend([2, 0]),
-            Listed::Overlay(reason) => bytes.extend([5, *reason]),
+            Listed::Overlay(reason) => {
+                bytes.extend([5, reason.number]);
+                encode_position(reason.first, bytes);
+                encode_position(reason.second, bytes);
+            }
             Listed::Cut(rings) => {
                 bytes.extend([4, 0]);
                 bytes.extend((rings.len() as u16).to_le_bytes());
@@ -86,11 +91,23 @@ impl ListedPart {
         let listed = match cursor.take().ok()? {
             [2, 0] => Listed::Unchanged,
             [4, 0] => Listed::Cut(cursor.part().ok()?),
-            [5, reason @ 1..=6] => Listed::Overlay(reason),
+            [5, number] => Listed::Overlay(decode_reason(number, cursor)?),
             _ => return None,
         };
         Some(ListedPart { index, listed })
     }
+}
+
+fn encode_position(position: u32, bytes: &mut Vec<u8>) {
+    let position = u16::try_from(position).expect("no ring of a frame is cut to 65,536 coordinates");
+    bytes.extend(position.to_le_bytes());
+}
+
+/// A reason of that number with the positions that stand behind it.
+fn decode_reason(number: u8, cursor: &mut Cursor) -> Option<Reason> {
+    let (first, second) = (cursor.count().ok()? as u32, cursor.count().ok()? as u32);
+    let reason = Reason { number, first, second };
+    reason.is_told().then_some(reason)
 }
 
 fn encode_ring(ring: &Ring, bytes: &mut Vec<u8>) {
@@ -124,7 +141,7 @@ impl Display for ListedPart {
         write!(f, "part {} ", self.index)?;
         match &self.listed {
             Listed::Unchanged => write!(f, "unchanged"),
-            Listed::Overlay(reason) => write!(f, "overlay, reason {reason}"),
+            Listed::Overlay(reason) => write!(f, "overlay, {reason}"),
             Listed::Cut(rings) => {
                 let shown = |ring: &Ring| ring.iter().map(|(x, y)| format!("({x},{y})")).collect::<String>();
                 write!(f, "cut {}", rings.iter().map(shown).collect::<Vec<_>>().join(" hole "))
@@ -143,11 +160,14 @@ mod tests {
         let parts = vec![
             ListedPart { index: 0, listed: Listed::Unchanged },
             ListedPart { index: 2, listed: Listed::Cut(vec![ring.clone(), ring]) },
-            ListedPart { index: 258, listed: Listed::Overlay(6) },
+            ListedPart { index: 258, listed: Listed::Overlay(Reason::without_positions(6)) },
+            ListedPart { index: 3, listed: Listed::Overlay(Reason { number: 7, first: 315, second: 0 }) },
+            ListedPart { index: 4, listed: Listed::Overlay(Reason { number: 10, first: 258, second: 1_609 }) },
         ];
         let words = "part 0 unchanged; \
                      part 2 cut (0.5,1)(2,-3)(4,5)(0.5,1) hole (0.5,1)(2,-3)(4,5)(0.5,1); \
-                     part 258 overlay, reason 6; guard count 513";
+                     part 258 overlay, reason 6; part 3 overlay, reason 7: corner 315 is repeated; \
+                     part 4 overlay, reason 10: edges 258 and 1609 of the cut cross; guard count 513";
         for (answer, words) in [
             (Answer::Nothing { guard_count: 0 }, "nothing"),
             (Answer::Nothing { guard_count: 2 }, "nothing; guard count 2"),
@@ -161,6 +181,21 @@ mod tests {
             assert_eq!(read.encode(), bytes);
             assert!(Answer::decode(&bytes[..bytes.len() - 1]).is_none());
             assert!(Answer::decode(&[&bytes[..], &[0]].concat()).is_none());
+        }
+    }
+
+    /// An overlay part has eight bytes: number, 5, reason, first and second position.
+    #[test]
+    fn an_overlay_part_ends_with_two_positions() {
+        let listed = Listed::Overlay(Reason { number: 8, first: 2, second: 260 });
+        let answer = Answer::Listed { guard_count: 0, parts: vec![ListedPart { index: 1, listed }] };
+        assert_eq!(answer.encode(), [3, 0, 0, 1, 0, 1, 0, 5, 8, 2, 0, 4, 1]);
+        let is_answer = |part: [u8; 6]| Answer::decode(&[&[3, 0, 0, 1, 0, 1, 0], &part[..]].concat()).is_some();
+        assert!(is_answer([5, 10, 0, 0, 2, 0]));
+        for part in
+            [[5, 0, 0, 0, 0, 0], [5, 11, 0, 0, 0, 0], [5, 4, 1, 0, 0, 0], [5, 9, 1, 0, 2, 0], [5, 8, 2, 0, 2, 0]]
+        {
+            assert!(!is_answer(part), "{part:?}");
         }
     }
 

@@ -5,6 +5,7 @@
 use std::fmt::Debug;
 
 use crate::frame::MOST_RINGS;
+use crate::reason::Reason;
 use crate::room::most_cut;
 use crate::{closed_length, flat, pairs, same_number, Bounds, Refusal, Ring};
 
@@ -97,18 +98,18 @@ pub enum SliceAnswer {
     Dropped,
     Unchanged,
     Cut(Vec<Ring>),
-    Overlay(u8),
+    Overlay(Reason),
 }
 
 impl SliceAnswer {
-    /// The answer + 256 x reason + 65,536 x rings of a cut.
+    /// The answer + 2^8 x reason + 2^16 x (a cut's rings, or an overlay's first position) + 2^40 x its second position.
     pub fn code(&self) -> i64 {
         match self {
             SliceAnswer::Nothing => 0,
             SliceAnswer::Dropped => 1,
             SliceAnswer::Unchanged => 2,
             SliceAnswer::Cut(rings) => 4 + 65_536 * rings.len() as i64,
-            SliceAnswer::Overlay(reason) => 5 + 256 * i64::from(*reason),
+            SliceAnswer::Overlay(reason) => 5 + reason.code(),
         }
     }
 
@@ -257,6 +258,7 @@ fn padded(lent: &[f64], answer: &[f64], room: usize) -> Vec<f64> {
 #[cfg(test)]
 mod tests {
     use super::{RingAfter, RingCall, SliceAnswer, SliceCall};
+    use crate::reason::Reason;
 
     #[test]
     fn differences_are_named() {
@@ -304,7 +306,8 @@ mod tests {
         };
         assert_eq!(call.room(), 22);
         let zeros_behind = |numbers: &[f64]| [numbers, &vec![0.0; 22 - numbers.len()], &[7.0; 2]].concat();
-        for answer in [SliceAnswer::Nothing, SliceAnswer::Dropped, SliceAnswer::Unchanged, SliceAnswer::Overlay(2)] {
+        let overlay = SliceAnswer::Overlay(Reason::without_positions(2));
+        for answer in [SliceAnswer::Nothing, SliceAnswer::Dropped, SliceAnswer::Unchanged, overlay] {
             let after = call.after(&Ok(answer));
             assert_eq!((after.out, after.out_lengths), (zeros_behind(&[]), vec![7; 3]));
             assert_eq!((after.scratch, after.order), (vec![0.0; 22], vec![0; 11]));

@@ -7,6 +7,7 @@ pub mod calls;
 mod cursor;
 pub mod frame;
 pub mod passes;
+pub mod reason;
 pub mod room;
 pub mod shown;
 pub mod vectors;

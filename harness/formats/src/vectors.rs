@@ -2,10 +2,14 @@
 //! What lent slices hold before a call is not stored: every number is `MARK`, every whole number `WHOLE_MARK`.
 
 use crate::calls::{RingCall, SliceAnswer, SliceCall};
+use crate::reason::Reason;
 use crate::{flat, pairs, Bounds, Refusal};
 
 pub const MARK: f64 = 7.25;
 pub const WHOLE_MARK: u32 = 77;
+
+/// The answer of a cut, in the lowest byte of its code.
+const CUT: i64 = 4;
 
 /// The longest slice to write to that a program which replays has room for.
 pub const MOST_LENT: usize = 4_096;
@@ -185,7 +189,7 @@ impl Reader<'_> {
 
     /// The length of each ring of a cut; any other answer has none.
     fn cut_lengths(&mut self, code: &Result<i64, Refusal>) -> Vec<usize> {
-        let rings = code.map_or(0, |code| code >> 16);
+        let rings = code.map_or(0, |code| if code & 0xff == CUT { code >> 16 } else { 0 });
         (0..rings).map(|_| self.whole() as usize).collect()
     }
 
@@ -194,8 +198,8 @@ impl Reader<'_> {
             0 => SliceAnswer::Nothing,
             1 => SliceAnswer::Dropped,
             2 => SliceAnswer::Unchanged,
-            4 => SliceAnswer::Cut(lengths.iter().map(|&length| pairs(&self.numbers(2 * length))).collect()),
-            _ => SliceAnswer::Overlay((code >> 8) as u8),
+            CUT => SliceAnswer::Cut(lengths.iter().map(|&length| pairs(&self.numbers(2 * length))).collect()),
+            _ => SliceAnswer::Overlay(Reason::of_code(code)),
         }
     }
 }
@@ -256,24 +260,29 @@ mod tests {
             out: marks(8),
             out_lengths: vec![WHOLE_MARK; 2],
         };
-        let answers = [Ok(SliceAnswer::Cut(vec![vec![(8.0, 9.0)]])), Ok(SliceAnswer::Dropped), Err(22)];
-        let vectors: Vec<SliceVector> = answers.into_iter().map(|answer| (call.clone(), answer)).collect();
+        let crossing = Reason { number: 8, first: 1, second: 3 };
+        let answers =
+            [SliceAnswer::Cut(vec![vec![(8.0, 9.0)]]), SliceAnswer::Dropped, SliceAnswer::Overlay(crossing)].map(Ok);
+        let answers = answers.into_iter().chain([Err(22)]);
+        let vectors: Vec<SliceVector> = answers.map(|answer| (call.clone(), answer)).collect();
         let bytes = encode_slices(&vectors);
-        assert_eq!([0, 4, 8, 12, 16, 20].map(|at| whole_at(&bytes, at)), [3, 2, 6, 3, 8, 2]);
+        assert_eq!([0, 4, 8, 12, 16, 20].map(|at| whole_at(&bytes, at)), [4, 2, 6, 3, 8, 2]);
         assert_eq!([24, 32, 40, 48, 56].map(|at| number_at(&bytes, at)), [3.0, 4.0, 5.0, 6.0, 7.0]);
         assert_eq!([64, 68, 72, 76, 80].map(|at| whole_at(&bytes, at)), [2, 1, 0, 2, 2]);
         assert_eq!([84, 92].map(|at| number_at(&bytes, at)), [1.0, 2.0]);
         // Cut to one ring of one coordinate, and of the output six numbers are written.
         assert_eq!([100, 104, 108, 112].map(|at| whole_at(&bytes, at)), [4 + 65_536, 0, 1, 6]);
         assert_eq!([116, 124].map(|at| number_at(&bytes, at)), [8.0, 9.0]);
-        // Dropped writes as many, all zeros; a refusal writes none.
+        // Dropped writes as many, all zeros, and so does an overlay, whose positions are in its code; a refusal writes none.
         let dropped = &bytes[132..];
         assert_eq!([96, 100, 104].map(|at| whole_at(dropped, at)), [1, 0, 6]);
-        let refused = &dropped[108..];
+        let overlay = &dropped[108..];
+        assert_eq!([96, 100, 104].map(|at| whole_at(overlay, at)), [5 + 8 * 256 + 65_536, 3 * 256, 6]);
+        let refused = &overlay[108..];
         assert_eq!(refused[96..104], (-22_i64).to_le_bytes());
         assert_eq!((whole_at(refused, 104), refused.len()), (0, 108));
         let decoded = decode_slices(&bytes);
-        assert_eq!(decoded.iter().map(|(_, written)| *written).collect::<Vec<_>>(), [6, 6, 0]);
+        assert_eq!(decoded.iter().map(|(_, written)| *written).collect::<Vec<_>>(), [6, 6, 6, 0]);
         let again: Vec<SliceVector> = decoded.into_iter().map(|(vector, _)| vector).collect();
         assert_eq!(encode_slices(&again), bytes);
     }

@@ -128,6 +128,7 @@ fn same_rings(a: &[Ring], b: &[Ring]) -> bool {
 mod tests {
     use super::*;
     use crate::convert::polygon_of;
+    use formats::reason::Reason;
 
     const BOUNDS: TileBounds = TileBounds { lng_min: 0.0, lat_min: 0.0, lng_max: 10.0, lat_max: 10.0 };
     const HINTS: Hints = Hints { assume_simple: false, skip_boundary_fallback: false };
@@ -141,7 +142,7 @@ mod tests {
 
     #[test]
     fn the_right_route_passes() {
-        put_together_with(Route::Overlay(4));
+        put_together_with(Route::Overlay(Reason::without_positions(4)));
     }
 
     #[test]

@@ -1,5 +1,6 @@
 //! What becomes of one part, asked of the Rust's own predicates: the Rust gives no part numbers and no reasons.
 
+use formats::reason::Reason;
 use geo::{Coord, Geometry, LineString, Polygon};
 use tylertoo::clip::opened as clip;
 use tylertoo::ioverlay_clip::opened::polygon_representable;
@@ -13,7 +14,7 @@ pub enum Route {
     Dropped,
     Unchanged,
     Cut(Polygon<f64>),
-    Overlay(u8),
+    Overlay(Reason),
 }
 
 const INPUT_ISSUE: u8 = 1;
@@ -39,7 +40,7 @@ pub fn route_of_polygon(polygon: &Polygon<f64>, buffered: &TileBounds, hints: Hi
         return Route::LeftOut;
     }
     if clip::has_structural_issues(polygon, hints.assume_simple) {
-        return overlay(polygon, INPUT_ISSUE);
+        return overlay(polygon, Reason::without_positions(INPUT_ISSUE));
     }
     if clip::is_fully_inside(&rect, buffered) {
         return Route::Unchanged;
@@ -53,7 +54,7 @@ pub fn route_of_polygon(polygon: &Polygon<f64>, buffered: &TileBounds, hints: Hi
     }
 }
 
-fn overlay(polygon: &Polygon<f64>, reason: u8) -> Route {
+fn overlay(polygon: &Polygon<f64>, reason: Reason) -> Route {
     if polygon_representable(polygon) {
         Route::Overlay(reason)
     } else {
@@ -62,9 +63,9 @@ fn overlay(polygon: &Polygon<f64>, reason: u8) -> Route {
 }
 
 /// Why a cut is not good enough, if it isn't.
-fn reason_against(cut: &Polygon<f64>, buffered: &TileBounds, hints: Hints) -> Option<u8> {
+fn reason_against(cut: &Polygon<f64>, buffered: &TileBounds, hints: Hints) -> Option<Reason> {
     if clip::has_structural_issues(cut, hints.assume_simple) {
-        return Some(CUT_ISSUE);
+        return Some(Reason::without_positions(CUT_ISSUE));
     }
     if hints.assume_simple && hints.skip_boundary_fallback {
         return None;
@@ -74,7 +75,7 @@ fn reason_against(cut: &Polygon<f64>, buffered: &TileBounds, hints: Hints) -> Op
 
 /// The first of Left, Right, Bottom and Top that the edge runs along, asked of the Rust's test one edge and one line at a
 /// time: an edge alone is a ring there and back, and a line at NaN is near nothing.
-fn bridge_reason(start: Coord<f64>, end: Coord<f64>, buffered: &TileBounds) -> Option<u8> {
+fn bridge_reason(start: Coord<f64>, end: Coord<f64>, buffered: &TileBounds) -> Option<Reason> {
     let edge = Polygon::new(LineString::new(vec![start, end]), Vec::new());
     let no_line = TileBounds::new(f64::NAN, f64::NAN, f64::NAN, f64::NAN);
     let lines = [
@@ -85,5 +86,6 @@ fn bridge_reason(start: Coord<f64>, end: Coord<f64>, buffered: &TileBounds) -> O
     ];
     (FIRST_BRIDGE..)
         .zip(lines)
-        .find_map(|(reason, line)| clip::has_boundary_connecting_edges(&edge, &line).then_some(reason))
+        .find(|(_, line)| clip::has_boundary_connecting_edges(&edge, line))
+        .map(|(number, _)| Reason::without_positions(number))
 }

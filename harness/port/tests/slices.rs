@@ -8,6 +8,7 @@ use compare::worked::{
 };
 use formats::calls::{SliceAfter, SliceAnswer, SliceCall, MOST_COORDINATES};
 use formats::frame::MOST_RINGS;
+use formats::reason::Reason;
 use formats::{Coord, Part, Ring};
 use port::calls;
 use port::slices::{self, check_against};
@@ -25,6 +26,10 @@ fn checked(call: &SliceCall) -> &'static str {
 fn answered(call: &SliceCall) -> i64 {
     checked(call);
     slices::answer(call, 1).answer
+}
+
+fn overlay(number: u8, first: u32, second: u32) -> SliceAnswer {
+    SliceAnswer::Overlay(Reason { number, first, second })
 }
 
 #[test]
@@ -46,7 +51,7 @@ fn ring_counts_agree_at_their_limits() {
             if refused {
                 assert_eq!([&holes, &empty_holes, &empty_rings].map(checked), ["19"; 3]);
             } else {
-                let overlay_or = |cut: i64| if flags == 3 { cut } else { 5 + 256 * 4 };
+                let overlay_or = |cut: i64| if flags == 3 { cut } else { overlay(4, 0, 0).code() };
                 assert_eq!(answered(&holes), overlay_or(4 + 65_536 * rings as i64));
                 assert_eq!(answered(&empty_holes), overlay_or(4 + 65_536));
                 assert_eq!(answered(&empty_rings), 0);
@@ -255,7 +260,7 @@ fn any_number_but_0_sets_a_flag() {
         calls::polygon(flags, &call.bounds, call.buffer, &call.coords, &call.lengths, calls::lent(&mut after))
     };
     let (bow_tie, across) = (call(0, &[BOW_TIE.to_vec()]), call(0, &[ACROSS_EAST.to_vec()]));
-    let (crossing, bridge, cut) = (5 + 256, 5 + 256 * 4, 4 + 65_536);
+    let (crossing, bridge, cut) = (overlay(8, 0, 2).code(), overlay(4, 0, 0).code(), 4 + 65_536);
     for number in 0..=255 {
         let if_set = |set: i64, not_set: i64| if number == 0 { not_set } else { set };
         assert_eq!(answer(&bow_tie, number, 0), if_set(2, crossing), "assume_simple {number}");
@@ -274,9 +279,10 @@ fn any_number_but_0_sets_a_flag() {
 
 #[test]
 fn an_empty_exterior_with_coordinates_in_a_hole() {
+    let short = overlay(1, 0, 0).code();
     for flags in 0..4 {
-        assert_eq!(answered(&call(flags, &[vec![], INSIDE.to_vec()])), 5 + 256);
-        assert_eq!(answered(&call(flags, &[vec![], ACROSS_EAST.to_vec(), vec![]])), 5 + 256);
+        assert_eq!(answered(&call(flags, &[vec![], INSIDE.to_vec()])), short);
+        assert_eq!(answered(&call(flags, &[vec![], ACROSS_EAST.to_vec(), vec![]])), short);
         assert_eq!(answered(&call(flags, &[vec![], APART.to_vec()])), 0);
         assert_eq!(answered(&call(flags, &[vec![], vec![(1e150, 2.), (2., 2.)]])), 1);
         assert_eq!(answered(&call(flags, &[vec![], vec![(f64::NAN, 2.)]])), 1);
@@ -383,7 +389,7 @@ fn a_wrong_expected_answer_is_noticed() {
         Ok(SliceAnswer::Nothing),
         Ok(SliceAnswer::Dropped),
         Ok(SliceAnswer::Unchanged),
-        Ok(SliceAnswer::Overlay(4)),
+        Ok(overlay(4, 0, 0)),
         changed(|rings| rings.truncate(1)),
         changed(|rings| rings.push(Vec::new())),
         changed(|rings| rings.swap(0, 1)),
@@ -448,21 +454,21 @@ fn assert_worked(flags: &[u8], ring: &[Coord], expected: SliceAnswer) {
 
 #[test]
 fn worked_polygons() {
-    use SliceAnswer::{Cut, Dropped, Nothing, Overlay, Unchanged};
+    use SliceAnswer::{Cut, Dropped, Nothing, Unchanged};
 
     const EVERY_FLAG: &[u8] = &[0, 1, 2, 3];
     assert_worked(EVERY_FLAG, &INSIDE, Unchanged);
     let cut: Ring = vec![(5., 5.), (10., 5.), (10., 8.), (5., 8.), (5., 5.)];
     assert_worked(&[3], &ACROSS_EAST, Cut(vec![cut]));
-    assert_worked(&[0, 1, 2], &ACROSS_EAST, Overlay(4));
-    assert_worked(&[0], &BOW_TIE, Overlay(1));
+    assert_worked(&[0, 1, 2], &ACROSS_EAST, overlay(4, 0, 0));
+    assert_worked(&[0], &BOW_TIE, overlay(8, 0, 2));
     assert_worked(&[1], &BOW_TIE, Unchanged);
-    assert_worked(EVERY_FLAG, &[(2., 2.), (8., 2.), (2., 2.)], Overlay(1));
-    assert_worked(EVERY_FLAG, &[(2., 2.), (2., 2.), (8., 2.), (8., 8.), (2., 2.)], Overlay(1));
+    assert_worked(EVERY_FLAG, &[(2., 2.), (8., 2.), (2., 2.)], overlay(1, 0, 0));
+    assert_worked(EVERY_FLAG, &[(2., 2.), (2., 2.), (8., 2.), (8., 8.), (2., 2.)], overlay(7, 0, 0));
     assert_worked(EVERY_FLAG, &[(2., 2.), (8., 2.), (8., 8.), (2., 2.), (2., 2.)], Unchanged);
-    assert_worked(EVERY_FLAG, &[(10., 2.), (20., 2.), (20., 8.), (10., 8.), (10., 2.)], Overlay(2));
+    assert_worked(EVERY_FLAG, &[(10., 2.), (20., 2.), (20., 8.), (10., 8.), (10., 2.)], overlay(9, 0, 0));
     assert_worked(EVERY_FLAG, &[(2., 2.), (1e150, 2.), (2., 2.)], Dropped);
-    assert_worked(EVERY_FLAG, &[(2., 2.), (9e149, 2.), (2., 2.)], Overlay(1));
+    assert_worked(EVERY_FLAG, &[(2., 2.), (9e149, 2.), (2., 2.)], overlay(1, 0, 0));
     assert_worked(EVERY_FLAG, &APART, Nothing);
     for place in 0..2 * APART.len() {
         let mut ring = APART;
