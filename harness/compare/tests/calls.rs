@@ -336,7 +336,7 @@ fn is_cut(call: &SliceCall, rings: &[Ring]) -> bool {
     let finite = call.coords.iter().all(|number| number.is_finite());
     let meets = any(&|x, _| x >= west) && any(&|x, _| x <= east) && any(&|_, y| y >= south) && any(&|_, y| y <= north);
     let inside = !any(&|x, y| x < west || x > east || y < south || y > north);
-    finite && meets && !inside && !oracle::has_structural_issues(&rings[0], call.assume_simple)
+    finite && meets && !inside && oracle::issue(&rings[0], call.assume_simple).is_none()
 }
 
 /// Of the holes of a cut: is one left out before one that stays?

@@ -1,24 +1,25 @@
-//! Issues of a ring, and the scan and the sweep for crossing edges: the Rust takes one or the other by the ring's length,
-//! the second reading looks at every pair.
+//! Issues of a ring and where they are, and the scan and the sweep for crossing edges: the Rust takes one or the other by the
+//! ring's length, the second reading looks at every pair.
 
 use formats::frame::{Frame, POLYGON};
 use formats::{pairs, Coord};
 use generator::Style;
+use oracle::Issue;
 use reading::{Mistake, Reading, Vertex};
 
 /// Above this many edges the Rust sweeps.
 const SCANNED: usize = 32;
 
 #[test]
-fn verdicts_agree_nan_included() {
+fn pairs_agree_nan_included() {
     let mut verdicts = [0; 4];
     for style in Style::ALL {
         for index in 0..1_500 {
             let ring = long_ring(style, index);
             let vertices = vertices(&ring);
-            let crosses = oracle::has_self_intersecting_edges(&ring);
-            assert_eq!(crosses, Reading::RIGHT.crosses_itself(&vertices), "{style:?}, index {index}");
-            verdicts[usize::from(crosses) + 2 * usize::from(ring.len() - 1 > SCANNED)] += 1;
+            let pair = oracle::first_crossing(&ring);
+            assert_eq!(pair, Reading::RIGHT.crossing_pair(&vertices), "{style:?}, index {index}");
+            verdicts[usize::from(pair.is_some()) + 2 * usize::from(ring.len() - 1 > SCANNED)] += 1;
         }
     }
     assert!(verdicts.iter().all(|&times| times > 200), "scan and sweep, both verdicts: {verdicts:?}");
@@ -32,11 +33,20 @@ fn issues_agree() {
             let mut closed = vertices(&ring);
             Reading::RIGHT.close(&mut closed);
             for assume_simple in [false, true] {
-                let issue = oracle::has_structural_issues(&ring, assume_simple);
-                let read = Reading::RIGHT.has_issue(&closed, assume_simple);
+                let issue = oracle::issue(&ring, assume_simple);
+                let read = Reading::RIGHT.issue(&closed, assume_simple).map(as_told);
                 assert_eq!(issue, read, "{style:?}, index {index}, assume_simple {assume_simple}");
             }
         }
+    }
+}
+
+/// The second reading's issue as the oracle has it.
+fn as_told(issue: reading::Issue) -> Issue {
+    match issue {
+        reading::Issue::Short => Issue::Short,
+        reading::Issue::Repeated(k) => Issue::Repeated(k as u32),
+        reading::Issue::Crossing(lower, higher) => Issue::Crossing(lower as u32, higher as u32),
     }
 }
 
@@ -56,7 +66,7 @@ fn sweep_visits_the_pairs_whose_boxes_are_not_apart() {
 #[test]
 fn edges_whose_boxes_are_apart_do_not_cross() {
     let ring = [(92.5, 254.4), (32.5, 89.4), (0., 90.), (6.1, 16.8), (30.1, 82.8), (90., 100.), (92.5, 254.4)];
-    assert_answers(&ring, Mistake::CrossesWithoutBoxes, UNCHANGED, OVERLAY);
+    assert_answers(&ring, Mistake::CrossesWithoutBoxes, UNCHANGED, &crossing(0, 3));
 }
 
 /// Likewise, but the boxes touch in x. The edges miss each other by some last bits there: geo's own test, which document 01
@@ -65,13 +75,15 @@ fn edges_whose_boxes_are_apart_do_not_cross() {
 fn edges_whose_boxes_touch_may_cross() {
     let middle = 2.2999999999999985;
     let ring = [(10.5, 16.7), (2.1, middle), (5., -5.), (-2.1, -4.9), (2.1, 2.3), (0., 15.), (10.5, 16.7)];
-    assert_answers(&ring, Mistake::TouchingBoxesApart, OVERLAY, UNCHANGED);
+    assert_answers(&ring, Mistake::TouchingBoxesApart, &crossing(0, 3), UNCHANGED);
 }
 
 const UNCHANGED: &[u8] = &[2, 0, 0, 0, 0];
 
-/// Part 0, reason 1.
-const OVERLAY: &[u8] = &[3, 0, 0, 1, 0, 0, 0, 5, 1];
+/// Part 0, reason 8.
+fn crossing(lower: u8, higher: u8) -> [u8; 13] {
+    [3, 0, 0, 1, 0, 0, 0, 5, 8, lower, 0, higher, 0]
+}
 
 /// What the Rust and the reading answer to the ring alone, inside the bounds, and what the mistaken reading does.
 fn assert_answers(ring: &[Coord], mistake: Mistake, right: &[u8], mistaken: &[u8]) {
@@ -91,10 +103,10 @@ fn boxes_decide_in_scan_and_sweep() {
         let mut ring = pairs(&generator::ring_call(Style::Collinear, 7, index).ring);
         ring.truncate(400);
         ring.push(ring[0]);
-        let crosses = oracle::has_self_intersecting_edges(&ring);
+        let pair = oracle::first_crossing(&ring);
         let swept = usize::from(ring.len() - 1 > SCANNED);
         for (mistake, times) in mistakes.iter().zip(&mut decided[swept]) {
-            *times += u32::from(Reading::with(*mistake).crosses_itself(&vertices(&ring)) != crosses);
+            *times += u32::from(Reading::with(*mistake).crossing_pair(&vertices(&ring)).is_some() != pair.is_some());
         }
     }
     assert!(

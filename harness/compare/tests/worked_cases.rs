@@ -14,9 +14,9 @@ const NOTHING: &[u8] = &[0, 0, 0, 0, 0];
 const DROPPED: &[u8] = &[1, 1, 0, 0, 0];
 const UNCHANGED: &[u8] = &[2, 0, 0, 0, 0];
 
-/// The one listed part is part 0, an overlay.
-fn overlay(reason: u8) -> Vec<u8> {
-    vec![3, 0, 0, 1, 0, 0, 0, 5, reason]
+/// The one listed part is part 0, an overlay that tells these positions.
+fn overlay(reason: u8, first: u8, second: u8) -> [u8; 13] {
+    [3, 0, 0, 1, 0, 0, 0, 5, reason, first, 0, second, 0]
 }
 
 /// The one listed part is part 0, cut to this ring.
@@ -52,40 +52,40 @@ fn square_inside() {
 fn square_across_the_east_bound() {
     let ring = [(5., 5.), (15., 5.), (15., 8.), (5., 8.), (5., 5.)];
     assert_polygon(&[3], &ring, &cut(&[(5., 5.), (10., 5.), (10., 8.), (5., 8.), (5., 5.)]));
-    assert_polygon(&[0, 1, 2], &ring, &overlay(4));
+    assert_polygon(&[0, 1, 2], &ring, &overlay(4, 0, 0));
 }
 
 #[test]
 fn bow_tie_inside() {
     let ring = [(2., 2.), (8., 8.), (8., 2.), (2., 8.), (2., 2.)];
-    assert_polygon(&[0], &ring, &overlay(1));
+    assert_polygon(&[0], &ring, &overlay(8, 0, 2));
     assert_polygon(&[1], &ring, UNCHANGED);
     assert_answer(MULTIPOLYGON, 0, &ring, UNCHANGED);
 }
 
 #[test]
 fn exteriors_with_issues() {
-    assert_polygon(EVERY_FLAG, &[(2., 2.), (8., 2.), (2., 2.)], &overlay(1));
-    assert_polygon(EVERY_FLAG, &[(2., 2.), (2., 2.), (8., 2.), (8., 8.), (2., 2.)], &overlay(1));
+    assert_polygon(EVERY_FLAG, &[(2., 2.), (8., 2.), (2., 2.)], &overlay(1, 0, 0));
+    assert_polygon(EVERY_FLAG, &[(2., 2.), (2., 2.), (8., 2.), (8., 8.), (2., 2.)], &overlay(7, 0, 0));
     assert_polygon(EVERY_FLAG, &[(2., 2.), (8., 2.), (8., 8.), (2., 2.), (2., 2.)], UNCHANGED);
 }
 
 #[test]
 fn square_that_touches_the_east_bound() {
-    assert_polygon(EVERY_FLAG, &[(10., 2.), (20., 2.), (20., 8.), (10., 8.), (10., 2.)], &overlay(2));
+    assert_polygon(EVERY_FLAG, &[(10., 2.), (20., 2.), (20., 8.), (10., 8.), (10., 2.)], &overlay(9, 0, 0));
 }
 
 /// Both lie outside, beyond the corner, with a rectangle that is not apart.
 #[test]
 fn an_issue_wins_over_an_empty_cut() {
     assert_polygon(EVERY_FLAG, &[(9., 12.), (12., 9.), (12., 12.), (9., 12.)], NOTHING);
-    assert_polygon(EVERY_FLAG, &[(9., 12.), (12., 9.), (12., 9.), (12., 12.), (9., 12.)], &overlay(1));
+    assert_polygon(EVERY_FLAG, &[(9., 12.), (12., 9.), (12., 9.), (12., 12.), (9., 12.)], &overlay(7, 1, 0));
 }
 
 #[test]
 fn magnitudes_of_1e150() {
     assert_polygon(EVERY_FLAG, &[(2., 2.), (1e150, 2.), (2., 2.)], DROPPED);
-    assert_polygon(EVERY_FLAG, &[(2., 2.), (9e149, 2.), (2., 2.)], &overlay(1));
+    assert_polygon(EVERY_FLAG, &[(2., 2.), (9e149, 2.), (2., 2.)], &overlay(1, 0, 0));
 }
 
 #[test]

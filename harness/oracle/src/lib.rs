@@ -1,9 +1,10 @@
 //! The oracle: what the unchanged Rust answers to document 01's calls. Result, coordinates, guard count and overlay calls
-//! come from one run of `clip_geometry_simple` on the whole geometry; only part numbers and reasons, which the Rust doesn't
-//! give, are asked of its predicates part by part. Single passes come from its `clip_ring_against_edge`.
+//! come from one run of `clip_geometry_simple` on the whole geometry; only part numbers and reasons with their positions, which
+//! the Rust doesn't give, are asked of its predicates part by part. Single passes come from its `clip_ring_against_edge`.
 
 mod answer;
 mod convert;
+mod issue;
 mod lines;
 mod pass;
 mod route;
@@ -20,6 +21,7 @@ use tylertoo::sutherland_hodgman::opened::clip_ring;
 use convert::{bounds_of, coords_of, polygon_of, ring_of};
 use run::Hints;
 
+pub use issue::Issue;
 pub use lines::lines;
 pub use pass::pass;
 pub use tylertoo::tile::TileBounds;
@@ -70,14 +72,14 @@ pub fn slice_call(call: &SliceCall) -> Result<SliceAnswer, Refusal> {
     })
 }
 
-/// Whether two edges of the ring cross, by the scan or the sweep as the ring's length has it.
-pub fn has_self_intersecting_edges(ring: &[Coord]) -> bool {
-    clip::has_self_intersecting_edges(&coords_of(ring))
+/// The first pair of edges of the ring that cross, as it is lent.
+pub fn first_crossing(ring: &[Coord]) -> Option<(usize, usize)> {
+    issue::first_crossing(&coords_of(ring))
 }
 
-/// Whether a polygon with this exterior, closed, has an issue.
-pub fn has_structural_issues(ring: &[Coord], assume_simple: bool) -> bool {
-    clip::has_structural_issues(&polygon_of(&[ring.to_vec()]), assume_simple)
+/// The first issue of a polygon with this exterior, closed.
+pub fn issue(ring: &[Coord], assume_simple: bool) -> Option<Issue> {
+    issue::issue_of(&polygon_of(&[ring.to_vec()]), assume_simple)
 }
 
 /// The pairs of edges that scan or sweep visit, each as its two edges' ends.

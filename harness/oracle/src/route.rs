@@ -7,6 +7,7 @@ use tylertoo::ioverlay_clip::opened::polygon_representable;
 use tylertoo::sutherland_hodgman::clip_polygon_sh;
 use tylertoo::tile::TileBounds;
 
+use crate::issue::issue_of;
 use crate::run::Hints;
 
 pub enum Route {
@@ -17,8 +18,9 @@ pub enum Route {
     Overlay(Reason),
 }
 
-const INPUT_ISSUE: u8 = 1;
-const CUT_ISSUE: u8 = 2;
+/// The reasons of a short ring, a repeated corner and a crossing.
+const INPUT_ISSUES: [u8; 3] = [1, 7, 8];
+const CUT_ISSUES: [u8; 3] = [2, 9, 10];
 const FIRST_BRIDGE: u8 = 3;
 
 /// A part of a multipolygon that is neither inside nor dropped as a whole; inside, issues are not looked at.
@@ -39,8 +41,8 @@ pub fn route_of_polygon(polygon: &Polygon<f64>, buffered: &TileBounds, hints: Hi
     if !clip::intersects_bounds(&rect, buffered) {
         return Route::LeftOut;
     }
-    if clip::has_structural_issues(polygon, hints.assume_simple) {
-        return overlay(polygon, Reason::without_positions(INPUT_ISSUE));
+    if let Some(issue) = issue_of(polygon, hints.assume_simple) {
+        return overlay(polygon, issue.reason(INPUT_ISSUES));
     }
     if clip::is_fully_inside(&rect, buffered) {
         return Route::Unchanged;
@@ -64,8 +66,8 @@ fn overlay(polygon: &Polygon<f64>, reason: Reason) -> Route {
 
 /// Why a cut is not good enough, if it isn't.
 fn reason_against(cut: &Polygon<f64>, buffered: &TileBounds, hints: Hints) -> Option<Reason> {
-    if clip::has_structural_issues(cut, hints.assume_simple) {
-        return Some(Reason::without_positions(CUT_ISSUE));
+    if let Some(issue) = issue_of(cut, hints.assume_simple) {
+        return Some(issue.reason(CUT_ISSUES));
     }
     if hints.assume_simple && hints.skip_boundary_fallback {
         return None;

@@ -13,7 +13,7 @@ pub struct Flags {
     pub skip_boundary_fallback: u8,
 }
 
-/// The answer + 256 x reason + 65,536 x rings of a cut, or minus the refusal.
+/// The answer's one number, or minus the refusal.
 pub fn polygon(
     flags: Flags,
     bounds: &Bounds,

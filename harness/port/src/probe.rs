@@ -42,10 +42,10 @@ mod exported {
             work_len: usize,
             order: *mut u32,
             order_len: usize,
-        ) -> u8;
+        ) -> u64;
         pub fn probe_check_call(frame: *const u8, frame_len: usize, out_len: usize) -> u8;
         pub fn probe_frame_room(frame: *const u8, frame_len: usize) -> usize;
-        pub fn probe_scan_pairs(ring: *const f64, ring_len: usize) -> u8;
+        pub fn probe_scan_pairs(ring: *const f64, ring_len: usize) -> u64;
         pub fn probe_sweep_pairs(
             ring: *const f64,
             ring_len: usize,
@@ -53,9 +53,12 @@ mod exported {
             work_len: usize,
             order: *mut u32,
             order_len: usize,
-        ) -> u8;
+        ) -> u64;
     }
 }
+
+/// What the issue finder, the scan and the sweep answer where they look for nothing.
+pub const NOT_LOOKED_FOR: u64 = u64::MAX;
 
 /// Four numbers lent for an answer; one left unwritten would show as NaN.
 const UNWRITTEN: Bounds = [f64::NAN; 4];
@@ -147,8 +150,9 @@ pub fn clip_ring_against_edge(
     }
 }
 
-/// The issue of an exterior: 0 sound, 1 short, 2 repeated, 3 crossing; 255 where the work slices are too short.
-pub fn find_issue(ring: &[f64], assume_simple: bool, work: &mut [f64], order: &mut [u32]) -> u8 {
+/// The issue of an exterior: 0 sound, 1 short, 2 repeated, 3 crossing, + 2^8 x its first and 2^32 x its second position;
+/// `NOT_LOOKED_FOR` where the work slices are too short.
+pub fn find_issue(ring: &[f64], assume_simple: bool, work: &mut [f64], order: &mut [u32]) -> u64 {
     // SAFETY: as in `empty`.
     unsafe {
         exported::probe_find_issue(
@@ -163,14 +167,15 @@ pub fn find_issue(ring: &[f64], assume_simple: bool, work: &mut [f64], order: &m
     }
 }
 
-/// Whether two edges cross, by all pairs: 0 or 1; 255 for no coordinate.
-pub fn scan_pairs(ring: &[f64]) -> u8 {
+/// The first two edges that cross, by all pairs: 0 for none, 1 + 2^8 x the lower + 2^32 x the higher; `NOT_LOOKED_FOR` for no
+/// coordinate.
+pub fn scan_pairs(ring: &[f64]) -> u64 {
     // SAFETY: as in `empty`.
     unsafe { exported::probe_scan_pairs(ring.as_ptr(), ring.len()) }
 }
 
-/// Whether two edges cross, by the sweep: 0 or 1; 255 for no coordinate or where the work slices are too short.
-pub fn sweep_pairs(ring: &[f64], work: &mut [f64], order: &mut [u32]) -> u8 {
+/// The same by the sweep; `NOT_LOOKED_FOR` for no coordinate or where the work slices are too short.
+pub fn sweep_pairs(ring: &[f64], work: &mut [f64], order: &mut [u32]) -> u64 {
     // SAFETY: as in `empty`.
     unsafe {
         exported::probe_sweep_pairs(

@@ -1,5 +1,6 @@
 //! The issue finder, scan and sweep of the port against the Rust, the share that every test run takes.
 
+use port::probe::NOT_LOOKED_FOR;
 use port::{issues, probe};
 
 #[test]
@@ -31,7 +32,7 @@ fn every_length_about_the_scan_limit_agrees() {
 #[test]
 fn work_slices_one_short_are_not_used() {
     let numbers: Vec<f64> = regular(40).iter().flat_map(|&(x, y)| [x, y]).collect();
-    assert_eq!(probe::find_issue(&numbers, false, &mut [0.0; 81], &mut [0; 41]), 255);
-    assert_eq!(probe::find_issue(&numbers, false, &mut [0.0; 82], &mut [0; 40]), 255);
+    assert_eq!(probe::find_issue(&numbers, false, &mut [0.0; 81], &mut [0; 41]), NOT_LOOKED_FOR);
+    assert_eq!(probe::find_issue(&numbers, false, &mut [0.0; 82], &mut [0; 40]), NOT_LOOKED_FOR);
     assert_eq!(probe::find_issue(&numbers, false, &mut [0.0; 82], &mut [0; 41]), 0);
 }

@@ -312,7 +312,7 @@ fn the_buffer_widens_and_narrows_the_bounds() {
     }
 }
 
-/// Edges that all but touch: the rounded test finds a crossing in the cut exterior and none in the input. Reason 2, unless
+/// Edges that all but touch: the rounded test finds a crossing in the cut exterior and none in the input. Reason 10, unless
 /// `assume_simple` leaves the test out.
 #[test]
 fn a_cut_exterior_may_cross_where_the_input_does_not() {
@@ -321,7 +321,8 @@ fn a_cut_exterior_may_cross_where_the_input_does_not() {
         let call = SliceCall { bounds: [0.0, 0.0, 4.0, 4.0], buffer: 1e-10, ..call(flags, &part) };
         answered(&call)
     });
-    assert_eq!(answers, [5 + 256 * 2, 5 + 256 * 5, 5 + 256 * 2, 4 + 65_536]);
+    let (crossing, bridge) = (overlay(10, 0, 3).code(), overlay(5, 0, 0).code());
+    assert_eq!(answers, [crossing, bridge, crossing, 4 + 65_536]);
 }
 
 /// There and back, the first vertex repeated: each pass leaves off one, so that a hole of seven coordinates is cut to three
@@ -362,10 +363,13 @@ fn holes_and_long_rings_agree() {
             }
         }
         if coordinates > 6 {
-            let mut crossing = regular(coordinates, (5., 5.), 4.);
-            crossing.swap(coordinates / 2, coordinates / 2 + 1);
-            let part = [crossing];
-            assert_eq!([0, 1, 2, 3].map(|flags| answered(&call(flags, &part))), [261, 2, 261, 2], "{coordinates}");
+            // The edges before and behind the one between the two that are swapped cross.
+            let swapped = coordinates / 2;
+            let mut ring = regular(coordinates, (5., 5.), 4.);
+            ring.swap(swapped, swapped + 1);
+            let crossing = overlay(8, swapped as u32 - 1, swapped as u32 + 1).code();
+            let answers = [0, 1, 2, 3].map(|flags| answered(&call(flags, &[ring.clone()])));
+            assert_eq!(answers, [crossing, 2, crossing, 2], "{coordinates}");
         }
     }
 }
@@ -523,6 +527,7 @@ fn a_pair_of_edges_crosses_by_rounding_alone() {
         (30.842900723745238, 21.76917765348354),
         (-31.568978182155334, -73.81603924119962),
     ];
+    let crossing = overlay(8, 0, 2).code();
     for (ring, scale) in [(decimals, 2f64.powi(56)), (degrees, 2f64.powi(50))] {
         let [a, b, c, d, _] = ring;
         let side = |point: Coord| exact_side(scale, [a, b, point]);
@@ -532,6 +537,6 @@ fn a_pair_of_edges_crosses_by_rounding_alone() {
             let call = SliceCall { bounds: [-100.0, -100.0, 100.0, 100.0], ..call(flags, &[ring.to_vec()]) };
             answered(&call)
         });
-        assert_eq!(answers, [5 + 256, 2, 5 + 256, 2], "{ring:?}");
+        assert_eq!(answers, [crossing, 2, crossing, 2], "{ring:?}");
     }
 }

@@ -5,6 +5,7 @@ use std::iter;
 
 use crate::cut::{Passed, Side};
 use crate::polygon::{Bounds, Box4, Flags, Routed};
+use crate::reason::Reason;
 use crate::ring::{b, half_growth, vertices};
 use crate::{Mistake, Reading, Vertex};
 
@@ -106,7 +107,7 @@ impl Reading {
         Ok((cut, Room { largest: room, sum: room }))
     }
 
-    /// The answer + 256 x reason + 65,536 x rings of a cut, or minus the number of the refusal.
+    /// The answer's number, or minus the number of the refusal.
     pub fn slice_call(&self, slices: &Slices, lent: &mut Lent) -> i64 {
         self.begin(lent);
         match self.slice_answer(slices, lent) {
@@ -117,13 +118,22 @@ impl Reading {
                 }
                 let written = self.written(slices, &routed);
                 self.leave(lent, room, &written);
-                match routed {
-                    Routed::Nothing => 0,
-                    Routed::Dropped => 1,
-                    Routed::Unchanged => 2,
-                    Routed::Cut(rings) => 4 + 65_536 * rings.len() as i64,
-                    Routed::Overlay(reason) => 5 + 256 * i64::from(reason),
-                }
+                self.code(&routed)
+            }
+        }
+    }
+
+    /// The answer + 256 x reason + 65,536 x rings of a cut, or the first position of an overlay + 2^40 x its second.
+    fn code(&self, routed: &Routed) -> i64 {
+        match routed {
+            Routed::Nothing => 0,
+            Routed::Dropped => 1,
+            Routed::Unchanged => 2,
+            Routed::Cut(rings) => 4 + 65_536 * rings.len() as i64,
+            Routed::Overlay(Reason { number, first, second }) => {
+                let wraps = self.makes(Mistake::PositionsIn16Bits);
+                let held = |position: usize| if wraps { i64::from(position as u16) } else { position as i64 };
+                5 + 256 * i64::from(*number) + 65_536 * held(*first) + (1 << 40) * held(*second)
             }
         }
     }
@@ -174,7 +184,7 @@ impl Reading {
                 numbers: numbers_of(&rings.concat()),
                 lengths: rings.iter().map(|ring| ring.len() as u32).collect(),
             },
-            Routed::Overlay(2..) if self.makes(Mistake::OverlayLeavesCut) => {
+            Routed::Overlay(reason) if reason.is_of_cut() && self.makes(Mistake::OverlayLeavesCut) => {
                 let rings = self.closed(&self.lent_rings(slices).unwrap_or_default());
                 let cut = self.cut_rings(&rings, &Bounds::new(slices.bounds, slices.buffer));
                 Written { numbers: numbers_of(&cut.concat()), lengths: Vec::new() }

@@ -2,6 +2,7 @@
 
 use crate::multipolygon::Whole;
 use crate::polygon::{Bounds, Flags, Routed};
+use crate::reason::Reason;
 use crate::ring::b;
 use crate::{Mistake, Reading, Vertex};
 
@@ -144,7 +145,10 @@ impl Reading {
     fn put_part(&self, bytes: &mut Vec<u8>, routed: &Routed) {
         match routed {
             Routed::Unchanged => bytes.extend([2, 0]),
-            Routed::Overlay(reason) => bytes.extend([5, *reason]),
+            Routed::Overlay(Reason { number, first, second }) => {
+                bytes.extend([5, *number]);
+                self.put_positions(bytes, *first, *second);
+            }
             Routed::Cut(rings) => {
                 bytes.extend([4, 0]);
                 bytes.extend((rings.len() as u16).to_le_bytes());
@@ -155,8 +159,19 @@ impl Reading {
                         self.put_number(bytes, v.y);
                     }
                 }
+                if self.makes(Mistake::PositionsOnCutParts) {
+                    self.put_positions(bytes, 0, 0);
+                }
             }
             Routed::Nothing | Routed::Dropped => unreachable!("only what is kept is listed"),
+        }
+    }
+
+    /// An overlay part ends with two positions of 2 bytes each.
+    fn put_positions(&self, bytes: &mut Vec<u8>, first: usize, second: usize) {
+        for position in [first as u16, second as u16] {
+            let big_endian = self.makes(Mistake::PositionsBigEndian);
+            bytes.extend(if big_endian { position.to_be_bytes() } else { position.to_le_bytes() });
         }
     }
 

@@ -1,6 +1,20 @@
-//! Section "Unchanged": issues of a ring and crossings of its edges, every pair looked at.
+//! Section "Unchanged": issues of a ring and crossings of its edges, every pair looked at; and where they are: document 02,
+//! point 1.
 
 use crate::{Mistake, Reading, Vertex};
+
+/// Up to so many edges all pairs are scanned; above, they are swept.
+const SCANNED: usize = 32;
+
+/// What is wrong with a ring, and where.
+#[derive(Clone, Copy, Debug, PartialEq, Eq)]
+pub enum Issue {
+    Short,
+    /// By the first of the two neighbours.
+    Repeated(usize),
+    /// By the two edges, the lower first.
+    Crossing(usize, usize),
+}
 
 #[derive(Clone, Copy)]
 struct Edge {
@@ -35,25 +49,76 @@ impl Reading {
         self.near(a.x, b.x) && self.near(a.y, b.y)
     }
 
-    pub fn has_issue(&self, ring: &[Vertex], assume_simple: bool) -> bool {
+    /// The issue of a closed ring: short before repeated, and repeated before crossing.
+    pub fn issue(&self, ring: &[Vertex], assume_simple: bool) -> Option<Issue> {
         let fewest = if self.makes(Mistake::FourBesidesClosing) { 5 } else { 4 };
-        if ring.len() < fewest {
-            return true;
-        }
+        let short = (ring.len() < fewest).then_some(Issue::Short);
         let skips_repeats = assume_simple && self.makes(Mistake::SimpleSkipsRepeats);
-        (!skips_repeats && self.repeats(ring)) || (!assume_simple && self.crosses_itself(ring))
+        let repeated = || self.repeat(ring).filter(|_| !skips_repeats).map(Issue::Repeated);
+        let crossing = || {
+            let pair = if assume_simple { None } else { self.crossing_pair(ring) };
+            pair.map(|(lower, higher)| Issue::Crossing(lower, higher))
+        };
+        if self.makes(Mistake::RepeatedBeforeShort) {
+            return repeated().or(short).or_else(crossing);
+        }
+        if self.makes(Mistake::CrossingBeforeRepeated) {
+            return short.or_else(crossing).or_else(repeated);
+        }
+        short.or_else(repeated).or_else(crossing)
     }
 
-    /// Whether two neighbours are near, the last segment excepted.
-    fn repeats(&self, ring: &[Vertex]) -> bool {
+    /// The first of the earliest two neighbours that are near, the last segment excepted.
+    fn repeat(&self, ring: &[Vertex]) -> Option<usize> {
         let excepted = usize::from(!self.makes(Mistake::LastRepeatIsIssue));
-        let segments = ring.len() - 1 - excepted;
-        (0..segments).any(|k| self.near_vertices(ring[k], ring[k + 1]))
+        let segments = ring.len().saturating_sub(1 + excepted);
+        let mut repeats = ring.windows(2).take(segments).map(|ends| self.near_vertices(ends[0], ends[1]));
+        if self.makes(Mistake::LastRepeatFound) {
+            return repeats.rposition(|repeated| repeated);
+        }
+        repeats.position(|repeated| repeated)
     }
 
-    pub fn crosses_itself(&self, ring: &[Vertex]) -> bool {
+    /// The first by lower and then by higher number of the pairs of edges that cross.
+    pub fn crossing_pair(&self, ring: &[Vertex]) -> Option<(usize, usize)> {
         let edges: Vec<Edge> = ring.windows(2).map(|ends| Edge::new(ends[0], ends[1])).collect();
-        edges.iter().enumerate().any(|(i, a)| edges[i + 1..].iter().any(|b| self.cross(a, b)))
+        if self.makes(Mistake::FirstHitOfSweep) && edges.len() > SCANNED {
+            return self.first_hit_of_sweep(&edges);
+        }
+        if self.makes(Mistake::HigherMajor) {
+            return self.crossing_pairs(&edges).min_by_key(|&(lower, higher)| (higher, lower));
+        }
+        if self.makes(Mistake::LastCrossingFound) {
+            return self.crossing_pairs(&edges).max();
+        }
+        if self.makes(Mistake::ClosingEdgeLast) {
+            let before_closing = &edges[..edges.len().saturating_sub(1)];
+            return self.first_pair(before_closing).or_else(|| self.first_pair(&edges));
+        }
+        self.first_pair(&edges)
+    }
+
+    /// The lowest edge that any other crosses is the lower of the first pair: none of those that cross it comes before it. The
+    /// lowest of those is the higher.
+    fn first_pair(&self, edges: &[Edge]) -> Option<(usize, usize)> {
+        let lowest_across =
+            |k: usize| (0..edges.len()).find(|&other| other != k && self.cross(&edges[k], &edges[other]));
+        (0..edges.len()).find_map(|lower| Some((lower, lowest_across(lower)?)))
+    }
+
+    fn crossing_pairs<'a>(&'a self, edges: &'a [Edge]) -> impl Iterator<Item = (usize, usize)> + 'a {
+        let pairs = (0..edges.len()).flat_map(move |higher| (0..higher).map(move |lower| (lower, higher)));
+        pairs.filter(|&(lower, higher)| self.cross(&edges[lower], &edges[higher]))
+    }
+
+    /// The pair that is met first where edges are taken by their lowest x.
+    fn first_hit_of_sweep(&self, edges: &[Edge]) -> Option<(usize, usize)> {
+        let mut order: Vec<usize> = (0..edges.len()).collect();
+        order.sort_by(|&a, &b| edges[a].low.x.total_cmp(&edges[b].low.x));
+        order.iter().enumerate().find_map(|(place, &a)| {
+            let b = order[place + 1..].iter().copied().find(|&b| self.cross(&edges[a], &edges[b]))?;
+            Some((a.min(b), a.max(b)))
+        })
     }
 
     fn cross(&self, a: &Edge, b: &Edge) -> bool {

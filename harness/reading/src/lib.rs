@@ -1,4 +1,4 @@
-//! A second reading of document 01 and of document 02's points 3 and 4, written from their text alone: it shares no code with
+//! A second reading of document 01 and of document 02's points 1, 3 and 4, written from their text alone: it shares no code with
 //! the oracle. It can make one deliberate mistake, so that the generator can be shown to find it.
 
 mod calls;
@@ -9,10 +9,12 @@ mod mistake;
 mod multipolygon;
 mod polygon;
 mod program;
+mod reason;
 mod ring;
 
 pub use calls::{Lent, PassCounts, Slices};
 pub use cut::Side;
+pub use issues::Issue;
 pub use mistake::{Mistake, Place};
 pub use polygon::{Flags, Routed};
 pub use ring::Vertex;

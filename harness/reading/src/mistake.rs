@@ -137,6 +137,10 @@ mistakes! {
         RoomForLessThan64Rings,
         /// Gives 22 for hardly any room before it reads the frame.
         RoomBeforeFrame,
+        /// Ends cut parts with positions too.
+        PositionsOnCutParts,
+        /// Writes positions with the high byte first.
+        PositionsBigEndian,
     }
 
     [Frames, Passes] {
@@ -170,6 +174,42 @@ mistakes! {
         NanSingleStaysOne,
         /// Takes the room for rings as they are lent.
         RoomUnclosed,
+    }
+
+    [Frames, SliceCalls] {
+        // Which pair and which corner.
+        /// Tells the pair that a sweep by lowest x meets first.
+        FirstHitOfSweep,
+        /// Tells the first pair by higher and then by lower number.
+        HigherMajor,
+        /// Tells the last of the pairs that cross.
+        LastCrossingFound,
+        /// Looks for the pair before the ring is closed, and at the closing edge only where there is none.
+        ClosingEdgeLast,
+        /// Tells the last of the repeated corners.
+        LastRepeatFound,
+        /// Tells the second of the two neighbours.
+        SecondOfRepeated,
+        /// Gives 7 for a short ring with a repeated corner.
+        RepeatedBeforeShort,
+        /// Looks for a crossing before a repeated corner.
+        CrossingBeforeRepeated,
+
+        // How they are numbered and told.
+        /// Numbers corners and edges from 1.
+        PositionsFromOne,
+        /// Numbers an edge by the coordinate that it ends at, so that the closing edge is 0.
+        EdgesByEnd,
+        /// Tells the higher edge first.
+        HigherEdgeFirst,
+        /// Numbers the corners of the cut by their places in the input, where they have one.
+        CutNumberedInInput,
+        /// Gives 10 for a repeated corner of the cut and 9 for a crossing.
+        SwapsCutReasons,
+        /// Gives 1 and 2 for every issue, as before they were split.
+        ReasonsMerged,
+        /// Tells the number of the edge that runs along a bound.
+        BridgeHasPosition,
     }
 
     [Frames, RingCalls, SliceCalls] {
@@ -218,6 +258,8 @@ mistakes! {
         OverlayLeavesCut,
         /// Clears the second length slice past the answer.
         ClearsLengthsPastAnswer,
+        /// Has 16 bits for a position, as a frame does.
+        PositionsIn16Bits,
     }
 
     [Lines] {

@@ -1,6 +1,7 @@
 //! One polygon: sections "Nothing, or dropped", "Unchanged", "Cut rings" and "Overlay wanted".
 
 use crate::cut::Side;
+use crate::reason::Reason;
 use crate::{Mistake, Reading, Vertex};
 
 /// Bounds, or the rectangle of some rings.
@@ -65,7 +66,7 @@ pub enum Routed {
     Dropped,
     Unchanged,
     Cut(Vec<Vec<Vertex>>),
-    Overlay(u8),
+    Overlay(Reason),
 }
 
 impl Reading {
@@ -119,8 +120,9 @@ impl Reading {
             return Routed::Unchanged;
         }
         let checked = if self.makes(Mistake::ChecksHoles) { rings } else { &rings[..1] };
-        if checked.iter().any(|ring| self.has_issue(ring, flags.assume_simple)) {
-            return self.overlay(rings, 1);
+        let found = checked.iter().find_map(|ring| Some((ring, self.issue(ring, flags.assume_simple)?)));
+        if let Some((ring, issue)) = found {
+            return self.overlay(rings, self.input_reason(ring, issue));
         }
         if inside {
             return Routed::Unchanged;
@@ -134,7 +136,7 @@ impl Reading {
         if cut[0].len() < fewest {
             return Routed::Nothing;
         }
-        match self.reason(&cut, bounds, flags) {
+        match self.reason(&rings[0], &cut, bounds, flags) {
             Some(reason) => self.overlay(rings, reason),
             None => Routed::Cut(cut),
         }
@@ -155,10 +157,11 @@ impl Reading {
         cut
     }
 
-    /// Why the cut won't do, 2 to 6.
-    fn reason(&self, cut: &[Vec<Vertex>], bounds: &Bounds, flags: Flags) -> Option<u8> {
-        if !self.makes(Mistake::CutIssuesUnseen) && self.has_issue(&cut[0], flags.assume_simple) {
-            return Some(2);
+    /// Why the cut of a polygon with this exterior won't do.
+    fn reason(&self, input: &[Vertex], cut: &[Vec<Vertex>], bounds: &Bounds, flags: Flags) -> Option<Reason> {
+        let issue = self.issue(&cut[0], flags.assume_simple);
+        if let Some(issue) = issue.filter(|_| !self.makes(Mistake::CutIssuesUnseen)) {
+            return Some(self.cut_reason(input, &cut[0], issue));
         }
         let skipped = if self.makes(Mistake::SkipsBridgesOnFlag2) {
             flags.skip_boundary_fallback
@@ -174,25 +177,33 @@ impl Reading {
         looked_at.iter().find_map(|ring| self.bridge(ring, bounds))
     }
 
-    fn bridge(&self, ring: &[Vertex], bounds: &Bounds) -> Option<u8> {
+    /// Reasons 3 to 6, which have no positions.
+    fn bridge(&self, ring: &[Vertex], bounds: &Bounds) -> Option<Reason> {
         let bounds = if self.makes(Mistake::BridgesUnbuffered) { &bounds.given } else { &bounds.buffered };
         let runs_along = |ends: &[Vertex], side: Side| {
             let bound = side.bound(bounds);
             (self.makes(Mistake::ShortBridges) || !self.near_vertices(ends[0], ends[1]))
                 && ends.iter().all(|&end| self.near(side.across_and_along(end).0, bound))
         };
-        let reasons = || (3..).zip(Side::ORDER);
-        let mut edges = ring.windows(2);
+        let numbers = || (3..).zip(Side::ORDER);
+        let mut edges = ring.windows(2).enumerate();
+        let reason = |number: u8, edge: usize| {
+            let first = if self.makes(Mistake::BridgeHasPosition) { edge } else { 0 };
+            Reason { number, first, second: 0 }
+        };
         if self.makes(Mistake::BridgeByLine) {
-            return reasons()
-                .find(|&(_, side)| edges.clone().any(|ends| runs_along(ends, side)))
-                .map(|(reason, _)| reason);
+            return numbers()
+                .find(|&(_, side)| edges.clone().any(|(_, ends)| runs_along(ends, side)))
+                .map(|(number, _)| reason(number, 0));
         }
-        edges.find_map(|ends| reasons().find(|&(_, side)| runs_along(ends, side)).map(|(reason, _)| reason))
+        edges.find_map(|(k, ends)| {
+            let (number, _) = numbers().find(|&(_, side)| runs_along(ends, side))?;
+            Some(reason(number, k))
+        })
     }
 
     /// An overlay, or dropped where a coordinate of the polygon has magnitude 1e150 or more.
-    fn overlay(&self, rings: &[Vec<Vertex>], reason: u8) -> Routed {
+    fn overlay(&self, rings: &[Vec<Vertex>], reason: Reason) -> Routed {
         let looked_at = if self.makes(Mistake::RepresentableByExterior) { &rings[..1] } else { rings };
         if looked_at.iter().flatten().any(|&v| self.too_large(v)) {
             Routed::Dropped
