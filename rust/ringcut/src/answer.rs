@@ -1,44 +1,7 @@
 //! What a slice call answers.
 
-use crate::Refusal;
-
-/// A bound that an edge runs along.
-#[derive(Clone, Copy, Debug, PartialEq, Eq, Hash)]
-pub enum Edge {
-    /// x is west.
-    Left,
-    /// x is east.
-    Right,
-    /// y is south.
-    Bottom,
-    /// y is north.
-    Top,
-}
-
-/// Why an overlay is wanted.
-#[derive(Clone, Copy, Debug, PartialEq, Eq, Hash)]
-pub enum Reason {
-    /// The exterior has an issue: it is short, repeats a coordinate, or crosses itself.
-    Input,
-    /// The cut exterior has one.
-    Cut,
-    /// An edge of the cut exterior runs along this bound.
-    Bridge(Edge),
-}
-
-impl Reason {
-    /// Document 01's number of the reason, 1 to 6, as it stands in a frame's answer.
-    pub const fn number(self) -> u8 {
-        match self {
-            Reason::Input => 1,
-            Reason::Cut => 2,
-            Reason::Bridge(Edge::Left) => 3,
-            Reason::Bridge(Edge::Right) => 4,
-            Reason::Bridge(Edge::Bottom) => 5,
-            Reason::Bridge(Edge::Top) => 6,
-        }
-    }
-}
+use crate::room::MOST_CUT;
+use crate::{Reason, Refusal};
 
 /// What becomes of a polygon.
 #[derive(Clone, Copy, Debug, PartialEq, Eq, Hash)]
@@ -68,25 +31,24 @@ impl Answer {
         }
     }
 
-    /// What a code stands for: the answer, 256 times an overlay's reason and 65,536 times a cut's rings, or minus a refusal.
+    /// What a code stands for: the answer, 2^8 times an overlay's reason, 2^16 times a cut's rings or an overlay's first position and
+    /// 2^40 times its second, or minus a refusal.
     pub(crate) fn from_code(code: i64) -> Result<Answer, Refusal> {
         if code < 0 {
             return Err(Refusal::from_code(code));
         }
-        let overlay = |reason| Ok(Answer::Overlay(reason));
-        match (code & 0xff, code >> 8 & 0xff, code >> 16) {
-            (0, 0, 0) => Ok(Answer::Nothing),
-            (1, 0, 0) => Ok(Answer::Dropped),
-            (2, 0, 0) => Ok(Answer::Unchanged),
-            (4, 0, rings @ 1..=64) => Ok(Answer::Cut { rings: rings as usize }),
-            (5, 1, 0) => overlay(Reason::Input),
-            (5, 2, 0) => overlay(Reason::Cut),
-            (5, 3, 0) => overlay(Reason::Bridge(Edge::Left)),
-            (5, 4, 0) => overlay(Reason::Bridge(Edge::Right)),
-            (5, 5, 0) => overlay(Reason::Bridge(Edge::Bottom)),
-            (5, 6, 0) => overlay(Reason::Bridge(Edge::Top)),
-            _ => unreachable!("the library answered {code}, which its contract rules out"),
-        }
+        let field = |shifted: i64| (shifted & 0xff_ffff) as usize;
+        let answer = match (code & 0xff, code >> 8 & 0xff, field(code >> 16), field(code >> 40)) {
+            (0, 0, 0, 0) => Some(Answer::Nothing),
+            (1, 0, 0, 0) => Some(Answer::Dropped),
+            (2, 0, 0, 0) => Some(Answer::Unchanged),
+            (4, 0, rings @ 1..=64, 0) => Some(Answer::Cut { rings }),
+            (5, reason, first @ 0..MOST_CUT, second @ 0..MOST_CUT) => {
+                Reason::from_numbers(reason, first, second).map(Answer::Overlay)
+            }
+            _ => None,
+        };
+        Ok(answer.unwrap_or_else(|| unreachable!("the library answered {code}, which its contract rules out")))
     }
 }
 
@@ -97,7 +59,11 @@ mod tests {
     use std::panic::catch_unwind;
 
     use super::Answer;
-    use crate::Refusal;
+    use crate::{Issue, Reason, Refusal};
+
+    /// By what a code has an overlay's two positions multiplied.
+    const FIRST: i64 = 1 << 16;
+    const SECOND: i64 = 1 << 40;
 
     #[test]
     fn a_code_holds_the_answer_the_reason_and_the_rings() {
@@ -117,16 +83,36 @@ mod tests {
     }
 
     #[test]
+    fn a_code_holds_an_overlays_positions() {
+        for (of_exterior, repeated, crossing) in [(Reason::Input as fn(Issue) -> Reason, 7, 8), (Reason::Cut, 9, 10)] {
+            let overlay = |issue| Ok(Answer::Overlay(of_exterior(issue)));
+            for corner in [0, 1, 0xff, 0x1_0000, 331_777] {
+                let code = 5 + 256 * repeated + FIRST * corner;
+                assert_eq!(Answer::from_code(code), overlay(Issue::Repeated { corner: corner as usize }));
+            }
+            for (lower, higher) in [(0, 1), (0, 4), (0xff, 0x100), (0xffff, 0x1_0000), (331_776, 331_777)] {
+                let code = 5 + 256 * crossing + FIRST * lower + SECOND * higher;
+                let issue = Issue::Crossing { lower: lower as usize, higher: higher as usize };
+                assert_eq!(Answer::from_code(code), overlay(issue));
+            }
+        }
+    }
+
+    #[test]
     fn only_dropped_has_a_guard_count() {
-        for (code, count) in [(0, 0), (1, 1), (2, 0), (4 + 65_536, 0), (5 + 256, 0)] {
+        for (code, count) in [(0, 0), (1, 1), (2, 0), (4 + 65_536, 0), (5 + 256, 0), (5 + 256 * 7 + FIRST, 0)] {
             assert_eq!(Answer::from_code(code).unwrap().guard_count(), count, "code {code}");
         }
     }
 
     #[test]
     fn other_numbers_are_no_codes() {
-        let past_each_field = [3, 6, 1 + 256, 2 + 65_536, 4, 4 + 65 * 65_536, 5, 5 + 256 * 7, 5 + 256 + 65_536, -23];
-        for code in past_each_field {
+        let past_each_field = [3, 6, 1 + 256, 2 + 65_536, 4, 4 + 65 * 65_536, 5, 5 + 256 * 11, 5 + 256 + 65_536, -23];
+        let positions_elsewhere = [SECOND, 4 + 65_536 + SECOND, 5 + 256 + SECOND, 5 + 256 * 7 + SECOND];
+        let no_edges = [5 + 256 * 8, 5 + 256 * 8 + 2 * FIRST + 2 * SECOND, 5 + 256 * 10 + 2 * FIRST + SECOND];
+        let past_each_ring =
+            [5 + 256 * 7 + 331_778 * FIRST, 5 + 256 * 8 + 331_778 * SECOND, 5 + 256 * 9 + (FIRST << 23)];
+        for code in past_each_field.into_iter().chain(positions_elsewhere).chain(no_edges).chain(past_each_ring) {
             assert!(catch_unwind(|| Answer::from_code(code)).is_err(), "code {code}");
         }
     }

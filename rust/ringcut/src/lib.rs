@@ -37,10 +37,12 @@ compile_error!(
 
 mod answer;
 pub mod raw;
+mod reason;
 mod refusal;
 mod room;
 
-pub use answer::{Answer, Edge, Reason};
+pub use answer::Answer;
+pub use reason::{Edge, Issue, Reason};
 pub use refusal::Refusal;
 pub use room::{room_for_ring, MOST_FRAME_OUTPUT};
 
@@ -113,7 +115,9 @@ pub struct PolygonBuffers<'a> {
 ///
 /// An answer: 1 byte (0 nothing, 1 whole dropped, 2 whole unchanged, 3 listed); guard count, 2 bytes; number of listed parts,
 /// 2 bytes. Each listed part: index from 0, 2 bytes; 1 byte (2 unchanged, 4 cut, 5 overlay); the overlay's
-/// [reason](Reason::number) or 0, 1 byte; if cut, ring count and rings as in a frame.
+/// [reason](Reason::number) or 0, 1 byte; if cut, ring count and rings as in a frame; if overlay, two positions, 2 bytes each: of
+/// reasons 7 and 9 the repeated [corner](Issue::Repeated) and 0, of 8 and 10 the lower and the higher [edge](Issue::Crossing), of
+/// 1 to 6 zeros.
 ///
 /// ```
 /// use ringcut::{cut_frame, MOST_FRAME_OUTPUT};
@@ -153,7 +157,7 @@ pub fn cut_frame(frame: &[u8], out: &mut [u8]) -> Result<usize, Refusal> {
 /// as it was.
 ///
 /// ```
-/// use ringcut::{cut_polygon, room_for_ring, Answer, Bounds, Edge, Flags, PolygonBuffers, Reason};
+/// use ringcut::{cut_polygon, room_for_ring, Answer, Bounds, Edge, Flags, Issue, PolygonBuffers, Reason};
 ///
 /// const ROOM: usize = room_for_ring(5);
 /// let (mut scratch, mut order) = ([0.0; 2 * ROOM], [0; ROOM]);
@@ -175,7 +179,9 @@ pub fn cut_frame(frame: &[u8], out: &mut [u8]) -> Result<usize, Refusal> {
 /// assert_eq!(cut(Flags::default(), &[2., 2., 8., 2., 8., 8., 2., 8., 2., 2.]), Ok(Answer::Unchanged));
 /// // A bow tie.
 /// let bow_tie = [2., 2., 8., 8., 8., 2., 2., 8., 2., 2.];
-/// assert_eq!(cut(Flags::default(), &bow_tie), Ok(Answer::Overlay(Reason::Input)));
+/// let crossing = Reason::Input(Issue::Crossing { lower: 0, higher: 2 });
+/// assert_eq!(cut(Flags::default(), &bow_tie), Ok(Answer::Overlay(crossing)));
+/// assert_eq!(crossing.to_string(), "edges 0 and 2 cross");
 /// assert_eq!(cut(both, &bow_tie), Ok(Answer::Unchanged));
 /// // Across the east bound: its cut has an edge along it.
 /// let across = [5., 5., 15., 5., 15., 8., 5., 8., 5., 5.];

@@ -74,7 +74,8 @@ pub fn ring(ring: &[f64], bounds: Bounds, lent: RingBuffers) -> i64 {
     }
 }
 
-/// The answer, 256 times an overlay's reason and 65,536 times a cut's rings, or minus the refusal. Any number but 0 sets a flag.
+/// The answer, 2^8 times an overlay's reason, 2^16 times a cut's rings or an overlay's first position and 2^40 times its second, or
+/// minus the refusal. Any number but 0 sets a flag.
 #[inline]
 pub fn polygon(
     assume_simple: u8,

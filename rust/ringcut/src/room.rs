@@ -5,6 +5,9 @@
 /// them, in nine parts.
 pub const MOST_FRAME_OUTPUT: usize = 50_077;
 
+/// No cut ring has more coordinates: the longest ring that a call takes has 65,536.
+pub(crate) const MOST_CUT: usize = room_for_ring(65_536);
+
 /// Document 01's B: the room, in coordinates, that a ring of `n` coordinates asks for, cut or not. `n` grown by half,
 /// rounded down, four times, plus 2; none for 0.
 ///

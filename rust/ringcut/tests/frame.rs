@@ -1,5 +1,5 @@
-//! The frame call: document 01's worked cases and the repository's examples, every refusal, outputs exact, one short and
-//! larger.
+//! The frame call: document 01's worked cases, an overlay's reasons with their positions, the repository's examples, every refusal,
+//! outputs exact, one short and larger.
 
 use std::fs;
 
@@ -39,6 +39,19 @@ fn answer(frame: &[u8], room: usize) -> Result<Vec<u8>, Refusal> {
     answered.map(|_| out)
 }
 
+/// The answer to a frame of one polygon of one ring.
+fn polygon(flags: u8, ring: &[f64]) -> Vec<u8> {
+    answer(&frame(3, flags, &[&[ring]]), MOST_FRAME_OUTPUT).unwrap()
+}
+
+/// An answer that lists part 0 as an overlay: its reason, and two positions.
+fn overlay(reason: u8, first: u16, second: u16) -> Vec<u8> {
+    let mut answer = vec![3, 0, 0, 1, 0, 0, 0, 5, reason];
+    answer.extend(first.to_le_bytes());
+    answer.extend(second.to_le_bytes());
+    answer
+}
+
 fn refusal(frame: &[u8]) -> Option<Refusal> {
     answer(frame, MOST_FRAME_OUTPUT).err()
 }
@@ -50,24 +63,48 @@ fn from_hex(line: &str) -> Option<Vec<u8>> {
 
 #[test]
 fn worked_frames() {
-    let overlay = |reason| vec![3, 0, 0, 1, 0, 0, 0, 5, reason];
-    let polygon = |flags, ring| answer(&frame(3, flags, &[&[ring]]), MOST_FRAME_OUTPUT).unwrap();
     for flags in 0..4 {
         assert_eq!(polygon(flags, SQUARE), [2, 0, 0, 0, 0]);
     }
     for flags in 0..3 {
-        assert_eq!(polygon(flags, ACROSS_EAST), overlay(4));
+        assert_eq!(polygon(flags, ACROSS_EAST), overlay(4, 0, 0));
     }
     let mut cut = vec![3, 0, 0, 1, 0, 0, 0, 4, 0, 1, 0, 5, 0];
     cut.extend([5., 5., 10., 5., 10., 8., 5., 8., 5., 5.].into_iter().flat_map(f64::to_le_bytes));
     assert_eq!(polygon(3, ACROSS_EAST), cut);
-    assert_eq!(polygon(0, BOW_TIE), overlay(1));
+    assert_eq!(polygon(0, BOW_TIE), overlay(8, 0, 2));
     assert_eq!(polygon(1, BOW_TIE), [2, 0, 0, 0, 0]);
     assert_eq!(polygon(0, &[2., 2., 1e150, 2., 2., 2.]), [1, 1, 0, 0, 0]);
     assert_eq!(polygon(0, &[20., 20., 30., 20., 30., 30., 20., 20.]), [0; 5]);
     assert_eq!(polygon(0, &[20., 20., f64::NAN, 20., 30., 30., 20., 20.]), [1, 1, 0, 0, 0]);
     assert_eq!(answer(&frame(6, 0, &[&[BOW_TIE]]), MOST_FRAME_OUTPUT).unwrap(), [2, 0, 0, 0, 0]);
     assert_eq!(answer(&frame(6, 0, &[]), 5).unwrap(), [0; 5]);
+}
+
+#[test]
+fn an_overlay_ends_with_two_positions() {
+    for flags in 0..4 {
+        assert_eq!(polygon(flags, &[2., 2., 8., 2., 2., 2.]), overlay(1, 0, 0));
+        assert_eq!(polygon(flags, &[4., 15., 6., 15., 5., 10., 4., 15.]), overlay(2, 0, 0));
+        assert_eq!(polygon(flags, &[2., 2., 8., 2., 8., 8., 8., 8., 2., 2.]), overlay(7, 2, 0));
+        assert_eq!(polygon(flags, &[10., 2., 20., 2., 20., 8., 10., 8., 10., 2.]), overlay(9, 0, 0));
+    }
+    // Edges 1 and 3 cross too.
+    assert_eq!(polygon(0, &[2., 6., 3., 7., 4., 2., 6., 7., 3., 5., 2., 8., 2., 6.]), overlay(8, 0, 4));
+    assert_eq!(polygon(0, &[5., 3., -4., 6., 9., 2., 2., 4., 5., 3.]), overlay(10, 0, 3));
+}
+
+/// An overlay between parts of the two other kinds.
+#[test]
+fn other_listed_parts_have_no_positions() {
+    let repeated: &[f64] = &[5., 9., 6., 15., 6., 15., 5., 15., 5., 9.];
+    let parts: &[&[&[f64]]] = &[&[SQUARE], &[repeated], &[ACROSS_EAST]];
+    let mut expected = vec![3, 0, 0, 3, 0];
+    expected.extend([0, 0, 2, 0]);
+    expected.extend([1, 0, 5, 7, 1, 0, 0, 0]);
+    expected.extend([2, 0, 4, 0, 1, 0, 5, 0]);
+    expected.extend([5., 5., 10., 5., 10., 8., 5., 8., 5., 5.].into_iter().flat_map(f64::to_le_bytes));
+    assert_eq!(answer(&frame(6, 3, parts), MOST_FRAME_OUTPUT).unwrap(), expected);
 }
 
 /// The lines that the program `ringcut` answers; 10, for a line that is no frame, is the program's alone.

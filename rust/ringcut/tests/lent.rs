@@ -4,7 +4,8 @@
 mod room;
 
 use ringcut::{
-    cut_polygon, cut_ring, room_for_ring, Answer, Bounds, Edge, Flags, PolygonBuffers, Reason, Refusal, RingBuffers,
+    cut_polygon, cut_ring, room_for_ring, Answer, Bounds, Edge, Flags, Issue, PolygonBuffers, Reason, Refusal,
+    RingBuffers,
 };
 use room::Room;
 
@@ -135,7 +136,8 @@ fn assert_left(case: &str, flags: u8, rings: Rings, closed: &[usize], answer: An
 fn an_answer_without_rings_leaves_zeros_from_the_front() {
     let square: &[f64] = &[2., 2., 8., 2., 8., 8., 2., 8., 2., 2.];
     let bow_tie: &[f64] = &[2., 2., 8., 8., 8., 2., 2., 8., 2., 2.];
-    let (issue, issue_of_cut) = (Answer::Overlay(Reason::Input), Answer::Overlay(Reason::Cut));
+    let crossing = Answer::Overlay(Reason::Input(Issue::Crossing { lower: 0, higher: 2 }));
+    let repeated_in_cut = Answer::Overlay(Reason::Cut(Issue::Repeated { corner: 0 }));
     let along = |edge| Answer::Overlay(Reason::Bridge(edge));
     let cases: [(&str, u8, Rings, &[usize], Answer); 18] = [
         ("no coordinate", 0, &[&[], &[]], &[0, 0], Answer::Nothing),
@@ -150,9 +152,9 @@ fn an_answer_without_rings_leaves_zeros_from_the_front() {
         ("inside", 0, &[square], &[5], Answer::Unchanged),
         ("open and inside", 0, &[&square[..8]], &[5], Answer::Unchanged),
         ("inside with a hole", 0, &[square, &[3., 3., 4., 3., 4., 4.]], &[5, 4], Answer::Unchanged),
-        ("an issue", 0, &[bow_tie], &[5], issue),
-        ("open, an issue", 0, &[&bow_tie[..8]], &[5], issue),
-        ("an issue of the cut", 3, &[&[10., 2., 20., 2., 20., 8., 10., 8., 10., 2.]], &[5], issue_of_cut),
+        ("an issue", 0, &[bow_tie], &[5], crossing),
+        ("open, an issue", 0, &[&bow_tie[..8]], &[5], crossing),
+        ("an issue of the cut", 3, &[&[10., 2., 20., 2., 20., 8., 10., 8., 10., 2.]], &[5], repeated_in_cut),
         ("cut along Left", 0, &[&[-5., 5., 5., 5., 5., 8., -5., 8.]], &[5], along(Edge::Left)),
         ("cut along Right", 0, &[&[5., 5., 15., 5., 15., 8., 5., 8., 5., 5.]], &[5], along(Edge::Right)),
         ("cut along Bottom", 1, &[&[5., -5., 8., -5., 8., 5., 5., 5.]], &[5], along(Edge::Bottom)),
@@ -215,7 +217,7 @@ fn a_cut_leaves_zeros_behind_its_rings() {
 #[test]
 fn the_zeros_end_where_the_room_does() {
     let cases: [(&[f64], usize, usize, Answer); 4] = [
-        (&[5., 5.], 6, 6, Answer::Overlay(Reason::Input)),
+        (&[5., 5.], 6, 6, Answer::Overlay(Reason::Input(Issue::Short))),
         // A NaN equals nothing, not even itself: closed, a ring of this one coordinate has two.
         (&[f64::NAN, 5.], 6, 22, Answer::Dropped),
         (&[20., 2., 28., 2., 28., 8., 20., 8.], 42, 48, Answer::Nothing),

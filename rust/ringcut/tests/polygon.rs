@@ -1,9 +1,9 @@
-//! The slice call: document 01's worked polygons, every refusal, and the lent slices exact, one short and larger, with what
-//! a call leaves in them.
+//! The slice call: document 01's worked polygons, every reason with its positions, every refusal, and the lent slices exact, one
+//! short and larger, with what a call leaves in them.
 
 mod room;
 
-use ringcut::{cut_polygon, Answer, Bounds, Edge, Flags, PolygonBuffers, Reason, Refusal};
+use ringcut::{cut_polygon, Answer, Bounds, Edge, Flags, Issue, PolygonBuffers, Reason, Refusal};
 use room::Room;
 
 const BOUNDS: Bounds = Bounds { west: 0., south: 0., east: 10., north: 10. };
@@ -84,15 +84,19 @@ fn answer(number: u8, ring: &[f64]) -> Answer {
 fn worked_polygons() {
     let across_east = [5., 5., 15., 5., 15., 8., 5., 8., 5., 5.];
     let bow_tie = [2., 2., 8., 8., 8., 2., 2., 8., 2., 2.];
-    let (input, cut_reason) = (Answer::Overlay(Reason::Input), Answer::Overlay(Reason::Cut));
+    let input = |issue| Answer::Overlay(Reason::Input(issue));
+    let repeated = Issue::Repeated { corner: 0 };
     for number in 0..4 {
         assert_eq!(answer(number, &[2., 2., 8., 2., 8., 8., 2., 8., 2., 2.]), Answer::Unchanged);
-        assert_eq!(answer(number, &[2., 2., 8., 2., 2., 2.]), input);
-        assert_eq!(answer(number, &[2., 2., 2., 2., 8., 2., 8., 8., 2., 2.]), input);
+        assert_eq!(answer(number, &[2., 2., 8., 2., 2., 2.]), input(Issue::Short));
+        assert_eq!(answer(number, &[2., 2., 2., 2., 8., 2., 8., 8., 2., 2.]), input(repeated));
         assert_eq!(answer(number, &[2., 2., 8., 2., 8., 8., 2., 2., 2., 2.]), Answer::Unchanged);
-        assert_eq!(answer(number, &[10., 2., 20., 2., 20., 8., 10., 8., 10., 2.]), cut_reason);
+        assert_eq!(
+            answer(number, &[10., 2., 20., 2., 20., 8., 10., 8., 10., 2.]),
+            Answer::Overlay(Reason::Cut(repeated))
+        );
         assert_eq!(answer(number, &[2., 2., 1e150, 2., 2., 2.]), Answer::Dropped);
-        assert_eq!(answer(number, &[2., 2., 9e149, 2., 2., 2.]), input);
+        assert_eq!(answer(number, &[2., 2., 9e149, 2., 2., 2.]), input(Issue::Short));
         assert_eq!(answer(number, &[20., 20., 30., 20., 30., 30., 20., 20.]), Answer::Nothing);
     }
     for at in 0..8 {
@@ -106,8 +110,75 @@ fn worked_polygons() {
     }
     let rings = vec![vec![5., 5., 10., 5., 10., 8., 5., 8., 5., 5.]];
     assert_eq!(cut(flags(3), &across_east, &[5], Room::of_polygon(&[5])), Ok((Answer::Cut { rings: 1 }, rings)));
-    assert_eq!(answer(0, &bow_tie), input);
+    assert_eq!(answer(0, &bow_tie), input(Issue::Crossing { lower: 0, higher: 2 }));
     assert_eq!(answer(1, &bow_tie), Answer::Unchanged);
+}
+
+/// One ring, closed or not, in slices that are as long as it asks or longer.
+fn reason(number: u8, ring: &[f64]) -> Reason {
+    let n = ring.len() / 2;
+    match cut(flags(number), ring, &[n as u32], Room::of_polygon(&[n + 1])) {
+        Ok((Answer::Overlay(reason), _)) => reason,
+        other => panic!("flags {number}, {ring:?}: {other:?}"),
+    }
+}
+
+#[test]
+fn a_repeated_corner_is_the_first_of_the_earliest_pair() {
+    let repeated = |corner| Reason::Input(Issue::Repeated { corner });
+    for number in 0..4 {
+        assert_eq!(reason(number, &[2., 2., 8., 2., 8., 2., 8., 8., 2., 8., 2., 8., 2., 2.]), repeated(1));
+        // Closed by the call: the repeat is not in the last edge, which may be as short.
+        assert_eq!(reason(number, &[2., 2., 8., 2., 8., 8., 2., 8., 2., 8.]), repeated(3));
+        // Two repeats of one corner.
+        assert_eq!(reason(number, &[2., 2., 8., 2., 8., 8., 8., 8., 8., 8., 2., 2.]), repeated(2));
+        assert_eq!(
+            reason(number, &[10., 2., 20., 2., 20., 8., 10., 8., 10., 2.]),
+            Reason::Cut(Issue::Repeated { corner: 0 })
+        );
+    }
+}
+
+#[test]
+fn a_crossing_is_the_first_of_all_pairs_by_its_lower_and_then_its_higher_edge() {
+    let crossing = |lower, higher| Issue::Crossing { lower, higher };
+    // Edges 1 and 3 cross too.
+    let two = [2., 6., 3., 7., 4., 2., 6., 7., 3., 5., 2., 8., 2., 6.];
+    for number in [0, 2] {
+        assert_eq!(reason(number, &two), Reason::Input(crossing(0, 4)));
+        assert_eq!(reason(number, &two[..12]), Reason::Input(crossing(0, 4)));
+        // Nothing crosses until the bounds cut it.
+        assert_eq!(reason(number, &[5., 3., -4., 6., 9., 2., 2., 4., 5., 3.]), Reason::Cut(crossing(0, 3)));
+    }
+    for number in [1, 3] {
+        assert_eq!(answer(number, &two), Answer::Unchanged);
+    }
+}
+
+#[test]
+fn short_comes_before_repeated_and_repeated_before_crossing() {
+    let bow_tie_with_a_repeat = [2., 2., 8., 8., 8., 2., 2., 8., 2., 8., 2., 2.];
+    for number in 0..4 {
+        assert_eq!(reason(number, &[5., 5., 5., 5., 5., 5.]), Reason::Input(Issue::Short));
+        assert_eq!(reason(number, &bow_tie_with_a_repeat), Reason::Input(Issue::Repeated { corner: 3 }));
+        // A triangle that touches the north bound: its cut is the corner there, three times.
+        assert_eq!(reason(number, &[4., 15., 6., 15., 5., 10., 4., 15.]), Reason::Cut(Issue::Short));
+    }
+}
+
+/// A zigzag over the west bound, whose cut has three corners for each tooth, and behind it a spike, whose cut goes to the bound and back.
+#[test]
+fn a_position_can_take_more_than_16_bits() {
+    let teeth = 30_000;
+    let mut ring = Vec::new();
+    for tooth in 0..teeth {
+        let y = 1. + 8. * tooth as f64 / teeth as f64;
+        ring.extend([5., y, -5., y + 4. / teeth as f64]);
+    }
+    ring.extend([5., 9.5, -5., 9.5, 5., 9.5, 8., 9.5, 8., 1.]);
+    for number in [1, 3] {
+        assert_eq!(reason(number, &ring), Reason::Cut(Issue::Repeated { corner: 3 * teeth + 1 }));
+    }
 }
 
 #[test]
