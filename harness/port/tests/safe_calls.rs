@@ -7,6 +7,7 @@ use compare::calls::styles;
 use compare::campaign::{self, Checked};
 use compare::frames::kinds;
 use formats::calls::{RingCall, SliceCall};
+use formats::reason::Reason;
 use generator::Specimen;
 use port::calls::{lent, named};
 use ringcut::{cut_frame, cut_polygon, cut_ring, Answer, Flags, Refusal, RingBuffers};
@@ -24,7 +25,10 @@ fn answer_code(answer: Answer) -> i64 {
         Answer::Dropped => 1,
         Answer::Unchanged => 2,
         Answer::Cut { rings } => 4 + 65_536 * rings as i64,
-        Answer::Overlay(reason) => 5 + 256 * i64::from(reason.number()),
+        Answer::Overlay(reason) => {
+            let (first, second) = reason.positions();
+            5 + Reason { number: reason.number(), first: first as u32, second: second as u32 }.code()
+        }
     }
 }
 
