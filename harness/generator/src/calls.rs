@@ -2,16 +2,20 @@
 
 use formats::calls::{RingCall, SliceCall, MOST_COORDINATES};
 use formats::room::most_cut;
-use formats::{closed_length, flat, Part, Ring};
+use formats::{closed_length, flat, Bounds, Part, Ring};
 
 use crate::holes::{beyond_a_corner, with_holes};
 use crate::numbers::any_bits;
 use crate::rng::Rng;
 use crate::scene::{lone_coordinate, Scene, Style};
+use crate::tangles::tangle;
 
 /// Keep the calls of a seed apart from its frames; each style has its own stream.
 const RING_STREAM: u64 = 200;
 const SLICE_STREAM: u64 = 300;
+
+/// The most vertices of a tangle in a call: more than a frame has room for, and few enough to look at every pair of edges.
+const LONGEST_TANGLE: usize = 700;
 
 /// How many holes a polygon of a slice call has: mostly few, as more of them seldom leave it finite or inside.
 const HOLES: [usize; 10] = [0, 0, 0, 0, 1, 1, 2, 3, 4, 5];
@@ -38,9 +42,11 @@ pub fn slice_call(style: Style, seed: u64, index: u64) -> SliceCall {
     let scene = Scene::new(style, rng);
     let long = is_long(rng);
     let mut part = match rng.below(16) {
+        _ if long && rng.once_in(2) => vec![sawtooth(scene.buffered_bounds(), rng)],
         _ if long => long_part(rng),
         0 => vec![beyond_a_corner(scene.buffered_bounds(), rng)],
         1 | 2 => with_holes(scene.buffered_bounds(), rng),
+        3 | 4 if style == Style::Tangled => vec![tangle(LONGEST_TANGLE, rng)],
         _ => scene.part_with(rng.pick(&HOLES), rng),
     };
     if rng.once_in(50) {
@@ -111,6 +117,21 @@ pub fn zigzag(coordinates: usize, rng: &mut Rng) -> Ring {
     let mut ring: Ring = (0..coordinates).map(|k| ((k % 7) as f64, (k % 5) as f64)).collect();
     ring[coordinates - 1] = if rng.once_in(2) { ring[0] } else { (8.0, 8.0) };
     ring
+}
+
+/// A ring of as many coordinates as a call may have, in and out of the east bound at every vertex but one late in it, which is on
+/// that bound: the cut has half as many vertices again, and there the first one that is repeated. It ends inside, not closed.
+fn sawtooth([west, south, east, north]: Bounds, rng: &mut Rng) -> Ring {
+    let vertices = MOST_COORDINATES - 1;
+    let reach = (east - west) / 4.0;
+    let step = (north - south) / (2 * vertices) as f64;
+    let on_bound = 2 * rng.between(30_000, 32_000) as usize;
+    let across = |k: usize| match k {
+        _ if k == on_bound => east,
+        _ if k.is_multiple_of(2) => east - reach,
+        _ => east + reach,
+    };
+    (0..vertices).map(|k| (across(k), south + (k + vertices / 2) as f64 * step)).collect()
 }
 
 /// What half of the long calls are lent: all that they need takes much of a run's time.

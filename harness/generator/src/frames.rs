@@ -21,7 +21,7 @@ pub enum Kind {
 }
 
 impl Kind {
-    pub const ALL: [Kind; 11] = [
+    pub const ALL: [Kind; 12] = [
         Kind::Drawn(Style::Grid),
         Kind::Drawn(Style::Outlines),
         Kind::Drawn(Style::Near),
@@ -33,6 +33,7 @@ impl Kind {
         Kind::Parts,
         Kind::Damaged,
         Kind::Limits,
+        Kind::Drawn(Style::Tangled),
     ];
 
     pub fn name(self) -> &'static str {
@@ -45,6 +46,7 @@ impl Kind {
             Kind::Drawn(Style::Tiles) => "tiles",
             Kind::Drawn(Style::Long) => "long",
             Kind::Drawn(Style::Collinear) => "collinear",
+            Kind::Drawn(Style::Tangled) => "tangled",
             Kind::Parts => "parts",
             Kind::Damaged => "damaged",
             Kind::Limits => "limits",

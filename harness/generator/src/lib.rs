@@ -15,6 +15,7 @@ mod outlines;
 mod passes;
 mod rng;
 mod scene;
+mod tangles;
 
 pub use bounds::bounds;
 pub use calls::{ring_call, slice_call};

@@ -9,6 +9,7 @@ use crate::collinear::collinear;
 use crate::numbers::{any_bits, any_bounds, finite_bits, grid, huge, near, near_offset, order, seldom_huge};
 use crate::outlines::{crossed_last_segment, outline, star, teeth};
 use crate::rng::Rng;
+use crate::tangles::tangle;
 
 #[derive(Clone, Copy, Debug, PartialEq, Eq)]
 pub enum Style {
@@ -28,10 +29,12 @@ pub enum Style {
     Long,
     /// Edges of one slanted line, off it by the rounding of their coordinates only.
     Collinear,
+    /// Crossings and repeated corners at any place of rings around 32 edges and longer, before or after the cut.
+    Tangled,
 }
 
 impl Style {
-    pub const ALL: [Style; 8] = [
+    pub const ALL: [Style; 9] = [
         Style::Grid,
         Style::Outlines,
         Style::Near,
@@ -40,6 +43,7 @@ impl Style {
         Style::Tiles,
         Style::Long,
         Style::Collinear,
+        Style::Tangled,
     ];
 }
 
@@ -56,7 +60,9 @@ impl Scene {
         let finite = !rng.once_in(4);
         let (mut bounds, mut buffer) = match style {
             Style::Grid => ([0.0, 0.0, rng.between(1, 5) as f64, 4.0], rng.pick(&[0.0, 0.0, 0.0, 1.0, 0.5, -1.0])),
-            Style::Outlines | Style::Long => ([0.0, 0.0, 10.0, 10.0], rng.pick(&[0.0, 0.0, 0.0, 1.0, -0.5, 2.0])),
+            Style::Outlines | Style::Long | Style::Tangled => {
+                ([0.0, 0.0, 10.0, 10.0], rng.pick(&[0.0, 0.0, 0.0, 1.0, -0.5, 2.0]))
+            }
             Style::Near => ([0.0, 0.0, 4.0, 4.0], rng.pick(&[0.0, 0.0, 1.0, 1e-10, 5e-11])),
             Style::Huge => ([0.0, 0.0, 10.0, 10.0], rng.pick(&[0.0, 0.0, 0.0, 1.0, 1e150, 1e308])),
             Style::Bits => bits_bounds(finite, rng),
@@ -114,6 +120,7 @@ impl Scene {
             Style::Tiles => self.area(rng),
             Style::Long => long(rng),
             Style::Collinear => collinear(rng),
+            Style::Tangled => tangle(LONGEST_RING, rng),
         };
         if ring.len() < LONGEST_RING && rng.once_in(6) {
             repeat_a_vertex(&mut ring, rng);

@@ -13,7 +13,7 @@ const MOST: usize = 317;
 
 #[test]
 fn frames_agree() {
-    frames::compare(1, 15_000).assert_agreed(11 * 15_000);
+    frames::compare(1, 15_000).assert_agreed(12 * 15_000);
 }
 
 /// In and out at every vertex, over all four bounds; not closed.

@@ -8,7 +8,7 @@ use port::probe;
 
 #[test]
 fn passes_agree() {
-    passes::compare(1, 10_000).assert_agreed(8 * 10_000);
+    passes::compare(1, 10_000).assert_agreed(9 * 10_000);
 }
 
 #[test]

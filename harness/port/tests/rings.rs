@@ -10,7 +10,7 @@ use port::{probe, rings};
 
 #[test]
 fn ring_calls_agree() {
-    rings::compare(1, 15_000).assert_agreed(8 * 15_000);
+    rings::compare(1, 15_000).assert_agreed(9 * 15_000);
 }
 
 /// A call on a zigzag of so many numbers, scratch slice and output so much longer or shorter than they have to be.

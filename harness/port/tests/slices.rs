@@ -34,7 +34,7 @@ fn overlay(number: u8, first: u32, second: u32) -> SliceAnswer {
 
 #[test]
 fn slice_calls_agree() {
-    slices::compare(1, 15_000).assert_agreed(8 * 15_000);
+    slices::compare(1, 15_000).assert_agreed(9 * 15_000);
 }
 
 #[test]
