@@ -70,7 +70,11 @@ impl Reading {
 
     /// The first of the earliest two neighbours that are near, the last segment excepted.
     fn repeat(&self, ring: &[Vertex]) -> Option<usize> {
-        let excepted = usize::from(!self.makes(Mistake::LastRepeatIsIssue));
+        let excepted = match () {
+            _ if self.makes(Mistake::LastRepeatIsIssue) => 0,
+            _ if self.makes(Mistake::ExceptsBeforeClosing) => 2,
+            _ => 1,
+        };
         let segments = ring.len().saturating_sub(1 + excepted);
         let mut repeats = ring.windows(2).take(segments).map(|ends| self.near_vertices(ends[0], ends[1]));
         if self.makes(Mistake::LastRepeatFound) {
@@ -83,7 +87,10 @@ impl Reading {
     pub fn crossing_pair(&self, ring: &[Vertex]) -> Option<(usize, usize)> {
         let edges: Vec<Edge> = ring.windows(2).map(|ends| Edge::new(ends[0], ends[1])).collect();
         if self.makes(Mistake::FirstHitOfSweep) && edges.len() > SCANNED {
-            return self.first_hit_of_sweep(&edges);
+            return self.swept_pairs(&edges).next();
+        }
+        if self.makes(Mistake::LowestLowerOfSweep) && edges.len() > SCANNED {
+            return self.swept_pairs(&edges).min_by_key(|&(lower, _)| lower);
         }
         if self.makes(Mistake::HigherMajor) {
             return self.crossing_pairs(&edges).min_by_key(|&(lower, higher)| (higher, lower));
@@ -106,19 +113,19 @@ impl Reading {
         (0..edges.len()).find_map(|lower| Some((lower, lowest_across(lower)?)))
     }
 
+    /// Every pair that crosses, the lower edge first.
     fn crossing_pairs<'a>(&'a self, edges: &'a [Edge]) -> impl Iterator<Item = (usize, usize)> + 'a {
         let pairs = (0..edges.len()).flat_map(move |higher| (0..higher).map(move |lower| (lower, higher)));
         pairs.filter(|&(lower, higher)| self.cross(&edges[lower], &edges[higher]))
     }
 
-    /// The pair that is met first where edges are taken by their lowest x.
-    fn first_hit_of_sweep(&self, edges: &[Edge]) -> Option<(usize, usize)> {
+    /// The same, as they are met where edges are taken by their lowest x.
+    fn swept_pairs<'a>(&'a self, edges: &'a [Edge]) -> impl Iterator<Item = (usize, usize)> + 'a {
         let mut order: Vec<usize> = (0..edges.len()).collect();
         order.sort_by(|&a, &b| edges[a].low.x.total_cmp(&edges[b].low.x));
-        order.iter().enumerate().find_map(|(place, &a)| {
-            let b = order[place + 1..].iter().copied().find(|&b| self.cross(&edges[a], &edges[b]))?;
-            Some((a.min(b), a.max(b)))
-        })
+        let places = (0..order.len()).flat_map(move |a| (a + 1..edges.len()).map(move |b| (a, b)));
+        let pairs = places.map(move |(a, b)| (order[a].min(order[b]), order[a].max(order[b])));
+        pairs.filter(|&(lower, higher)| self.cross(&edges[lower], &edges[higher]))
     }
 
     fn cross(&self, a: &Edge, b: &Edge) -> bool {

@@ -180,12 +180,16 @@ mistakes! {
         // Which pair and which corner.
         /// Tells the pair that a sweep by lowest x meets first.
         FirstHitOfSweep,
+        /// Of the pairs with the lowest lower number tells the one that such a sweep meets first.
+        LowestLowerOfSweep,
         /// Tells the first pair by higher and then by lower number.
         HigherMajor,
         /// Tells the last of the pairs that cross.
         LastCrossingFound,
         /// Looks for the pair before the ring is closed, and at the closing edge only where there is none.
         ClosingEdgeLast,
+        /// Excepts the last segment of the ring before it is closed as well.
+        ExceptsBeforeClosing,
         /// Tells the last of the repeated corners.
         LastRepeatFound,
         /// Tells the second of the two neighbours.
