@@ -7,7 +7,7 @@ use generator::{Kind, Style};
 use reading::{Flags, Lent, Reading, Slices};
 
 use crate::campaign::{self, Campaign};
-use crate::frames::refusal_label;
+use crate::frames::{reason_label, refusal_label};
 
 pub fn styles() -> Vec<(&'static str, Style)> {
     Style::ALL.iter().map(|&style| (Kind::Drawn(style).name(), style)).collect()
@@ -43,8 +43,16 @@ pub fn compare_slice_calls(seed: u64, count: u64) -> Campaign {
         if let Some(difference) = call.after(&oracle).difference(&reading) {
             return Err(format!("{call}: oracle and reading differ in {difference}"));
         }
-        Ok(slice_label(&oracle))
+        Ok(slice_label_with_reason(&oracle))
     })
+}
+
+/// A slice call's answer in a word, an overlay by its reason.
+pub fn slice_label_with_reason(answer: &Result<SliceAnswer, Refusal>) -> &'static str {
+    match answer {
+        Ok(SliceAnswer::Overlay(reason)) => reason_label(reason.number),
+        _ => slice_label(answer),
+    }
 }
 
 pub fn slice_label(answer: &Result<SliceAnswer, Refusal>) -> &'static str {

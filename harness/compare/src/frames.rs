@@ -59,7 +59,7 @@ fn shown(answer: &Answer) -> String {
     answer.as_ref().map_or_else(|refusal| format!("refusal {refusal}"), |bytes| hex(bytes))
 }
 
-/// An answer in a word; a list is named after its first part.
+/// An answer in a word or two; a list is named after its first part, an overlay after its reason.
 pub fn label(answer: &Answer) -> &'static str {
     match answer {
         Err(refusal) => refusal_label(*refusal),
@@ -70,16 +70,27 @@ pub fn label(answer: &Answer) -> &'static str {
             _ => match bytes[7] {
                 2 => "part unchanged",
                 4 => "cut",
-                _ => "overlay",
+                _ => reason_label(bytes[8]),
             },
         },
     }
 }
 
-/// The same, with the reason of a first part that is an overlay.
-pub fn label_with_reason(answer: &Answer) -> String {
-    let reason = answer.as_ref().ok().and_then(|bytes| bytes.get(8)).filter(|&&reason| reason > 0);
-    format!("{} {reason:?}", label(answer))
+/// Document 02's reasons 1 to 10.
+pub fn reason_label(number: u8) -> &'static str {
+    const LABELS: [&str; 10] = [
+        "reason 1",
+        "reason 2",
+        "reason 3",
+        "reason 4",
+        "reason 5",
+        "reason 6",
+        "reason 7",
+        "reason 8",
+        "reason 9",
+        "reason 10",
+    ];
+    LABELS[usize::from(number) - 1]
 }
 
 pub fn refusal_label(refusal: u8) -> &'static str {

@@ -3,11 +3,11 @@
 
 use std::collections::BTreeMap;
 
-use formats::calls::{RingCall, SliceAnswer, SliceCall, MOST_COORDINATES};
+use formats::calls::{RingCall, SliceCall, MOST_COORDINATES};
 use formats::vectors::{encode_rings, encode_slices, marks, RingVector, SliceVector, MARK, MOST_LENT, WHOLE_MARK};
 use generator::Style;
 
-use crate::calls::{ring_label, styles};
+use crate::calls::{ring_label, slice_label_with_reason, styles};
 use crate::frames::{self, kinds};
 use crate::hex;
 use crate::worked::{self, Beside};
@@ -51,8 +51,8 @@ pub fn lines(seed: u64, count: u64) -> Vec<u8> {
         let mut kept = Kept::new(count);
         for index in 0..TRIED {
             let frame = generator::frame(kind, seed, index).frame;
-            let answer = frames::label_with_reason(&oracle::answer(&frame, usize::MAX));
-            if kept.keeps(answer, frame.len() <= SHORT_FRAME) {
+            let answer = frames::label(&oracle::answer(&frame, usize::MAX));
+            if kept.keeps(answer.to_string(), frame.len() <= SHORT_FRAME) {
                 input.extend(hex(&frame).bytes());
                 input.push(b'\n');
             }
@@ -94,11 +94,11 @@ pub fn slices(seed: u64, count: u64) -> Vec<u8> {
     let sampled = |style, index| {
         let (call, answer) = answered_slice_call(generator::slice_call(style, seed, index));
         let lent = [call.scratch.len(), call.order.len(), call.out.len(), call.out_lengths.len()];
-        let code = answer.as_ref().map_or_else(|refusal| -i64::from(*refusal), SliceAnswer::code);
+        let rings = answer.as_ref().map_or(0, |answer| answer.cut_rings().len());
         Sampled {
             numbers: call.coords.len(),
             longest: lent.into_iter().fold(0, usize::max),
-            answer: code.to_string(),
+            answer: format!("{}, {rings} rings", slice_label_with_reason(&answer)),
             vector: (call, answer),
         }
     };
@@ -141,11 +141,15 @@ fn worked_rings() -> Vec<RingCall> {
     calls
 }
 
+/// The same, and every reason with its positions.
 fn worked_slices() -> Vec<SliceCall> {
     let mut calls = vec![worked::lone_nan()];
     for (_, flags, part) in worked::polygon_of_each_answer() {
         let exact = worked::slice_call(flags, &part, Beside::default());
         calls.extend(spare(exact.out.len()).map(|beside| worked::slice_call(flags, &part, beside)));
+    }
+    for (_, flags, ring) in worked::exterior_of_each_reason() {
+        calls.push(worked::slice_call(flags[0], &[ring], Beside::default()));
     }
     calls
 }

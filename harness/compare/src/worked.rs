@@ -1,11 +1,14 @@
-//! Calls that are worked by hand on the bounds 0, 0, 10, 10: one of each answer, and the two that document 02's point 4 is
-//! most easily misread on.
+//! Calls that are worked by hand on the bounds 0, 0, 10, 10: one of each answer and of each reason, and those that document 02's
+//! points 1 and 4 are most easily misread on.
 
 use formats::calls::{RingCall, SliceCall};
+use formats::reason::Reason;
 use formats::room::most_cut;
 use formats::{closed_length, flat, Bounds, Coord, Part, Ring};
 
 pub const BOUNDS: Bounds = [0.0, 0.0, 10.0, 10.0];
+
+pub const EVERY_FLAG: &[u8] = &[0, 1, 2, 3];
 
 pub const INSIDE: [Coord; 5] = [(2., 2.), (8., 2.), (8., 8.), (2., 8.), (2., 2.)];
 pub const ACROSS_EAST: [Coord; 5] = [(5., 5.), (15., 5.), (15., 8.), (5., 8.), (5., 5.)];
@@ -120,6 +123,56 @@ pub fn polygon_of_each_answer() -> Vec<(&'static str, u8, Part)> {
         ("overlay", 0, vec![BOW_TIE.to_vec(), INSIDE.to_vec()]),
         ("overlay", 3, vec![vec![(10., 2.), (20., 2.), (20., 8.), (10., 8.)]]),
     ]
+}
+
+/// Exteriors with the flags that they are tried with and the reason that an overlay is wanted for.
+pub fn exterior_of_each_reason() -> Vec<(Reason, &'static [u8], Ring)> {
+    let reason = |number: u8, first: u32, second: u32| Reason { number, first, second };
+    let (crossings_told, bridges_told) = (&[0, 2], &[0, 1, 2]);
+    let two_crossings = vec![(2., 6.), (3., 7.), (4., 2.), (6., 7.), (3., 5.), (2., 8.), (2., 6.)];
+    vec![
+        (reason(1, 0, 0), EVERY_FLAG, vec![(2., 2.), (8., 2.), (2., 2.)]),
+        // Also near each other, but short comes first.
+        (reason(1, 0, 0), EVERY_FLAG, vec![(2., 2.), (2., 2.), (2., 2.)]),
+        (reason(7, 0, 0), EVERY_FLAG, vec![(2., 2.), (2., 2.), (8., 2.), (8., 8.), (2., 2.)]),
+        (reason(7, 2, 0), EVERY_FLAG, vec![(2., 2.), (8., 2.), (8., 8.), (8., 8.), (2., 8.), (2., 8.), (2., 2.)]),
+        // Not closed, so that the last segment is the one that closes it.
+        (reason(7, 2, 0), EVERY_FLAG, vec![(2., 2.), (8., 2.), (8., 8.), (8., 8.)]),
+        // Edges cross as well, but repeated comes first.
+        (reason(7, 3, 0), EVERY_FLAG, vec![(2., 2.), (8., 8.), (8., 2.), (2., 8.), (2., 8.), (2., 2.)]),
+        (reason(8, 0, 2), crossings_told, BOW_TIE.to_vec()),
+        // Edges 0 and 4 cross, and edges 1 and 3.
+        (reason(8, 0, 4), crossings_told, two_crossings.clone()),
+        (reason(8, 0, 4), crossings_told, unclosed(two_crossings)),
+        // The edge that closes it crosses edge 1, and edges 2 and 4 cross, which have higher numbers.
+        (reason(8, 1, 5), crossings_told, vec![(2., 2.), (2., 8.), (6., 4.), (9., 9.), (9., 4.), (5., 9.)]),
+        // A corner that touches a bound from outside: the cut has it three times.
+        (reason(2, 0, 0), EVERY_FLAG, vec![(5., 10.), (8., 12.), (2., 12.), (5., 10.)]),
+        (reason(9, 0, 0), EVERY_FLAG, vec![(10., 2.), (20., 2.), (20., 8.), (10., 8.), (10., 2.)]),
+        // The cut has corner 1 twice, where the way out begins on the bound.
+        (reason(9, 1, 0), EVERY_FLAG, vec![(2., 2.), (10., 4.), (12., 5.), (2., 8.)]),
+        // Corner 3 lies on edge 0; cut at Left, that edge misses it by a rounding.
+        (reason(10, 0, 3), crossings_told, vec![(5., 3.), (-4., 6.), (9., 2.), (2., 4.), (5., 3.)]),
+        // The same from its last corner on, not closed.
+        (reason(10, 1, 4), crossings_told, vec![(2., 4.), (5., 3.), (-4., 6.), (9., 2.)]),
+        (reason(3, 0, 0), bridges_told, vec![(5., 5.), (-5., 5.), (-5., 8.), (5., 8.)]),
+        (reason(4, 0, 0), bridges_told, ACROSS_EAST.to_vec()),
+        (reason(5, 0, 0), bridges_told, vec![(5., 5.), (5., -5.), (8., -5.), (8., 5.)]),
+        (reason(6, 0, 0), bridges_told, vec![(5., 5.), (5., 15.), (8., 15.), (8., 5.)]),
+    ]
+}
+
+/// A ring of as many coordinates as a call may have whose cut repeats corner 89,999, with flag 1. It is in and out of the east
+/// bound at every vertex: vertex 2 k is cut to corner 3 k, and has a corner of the bound on either side. Vertex 60,000 lies on the
+/// bound itself.
+pub fn late_repeat() -> (Reason, Ring) {
+    let across = |k: u32| match k {
+        60_000 => 10.,
+        _ if k.is_multiple_of(2) => 9.,
+        _ => 11.,
+    };
+    let ring = (0..65_535).map(|k| (across(k), 1. + f64::from(k) / 8_192.)).collect();
+    (Reason { number: 9, first: 89_999, second: 0 }, ring)
 }
 
 /// A ring around a centre, closed; no two edges cross.

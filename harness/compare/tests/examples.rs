@@ -64,7 +64,7 @@ fn every_answer_is_shown() {
     let whole = ["nothing", "nothing; guard count 2", "dropped; guard count 1", "unchanged"];
     let listed = ["part unchanged", "cut", "cut with a hole", "some listed, some counted"];
     let mut every: BTreeSet<String> = whole.into_iter().chain(listed).map(String::from).collect();
-    every.extend((1..=6).map(|reason| format!("overlay, reason {reason}")));
+    every.extend((1..=10).map(|reason| format!("overlay, reason {reason}")));
     every.extend((10..=18).map(|refusal| format!("refused, {refusal}")));
     assert_eq!(shown, every);
 }

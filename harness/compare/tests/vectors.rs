@@ -1,5 +1,6 @@
 //! The lines that the program replays have every answer: the four kinds, every reason and every refusal it can give. The calls
-//! that are replayed have every answer with an output that is exact, longer by one and as long as it may be.
+//! that are replayed have every answer with an output that is exact, longer by one and as long as it may be, and every reason.
+//! Reasons that tell positions are there with other ones than 0.
 
 use std::collections::BTreeSet;
 
@@ -20,7 +21,13 @@ fn lines_have_every_answer() {
     assert_eq!(answers, every.collect::<Vec<_>>().iter().map(String::as_str).collect());
     // The first listed part's kind and reason.
     let parts: BTreeSet<&str> = printed.lines().filter_map(|line| line.get(14..18)).collect();
-    assert_eq!(parts, BTreeSet::from(["0200", "0400", "0501", "0502", "0503", "0504", "0505", "0506"]));
+    let overlays = (1..=10).map(|reason: u8| format!("05{reason:02x}"));
+    let every: Vec<String> = ["0200", "0400"].into_iter().map(String::from).chain(overlays).collect();
+    assert_eq!(parts, every.iter().map(String::as_str).collect());
+    for reason in ["0507", "0508", "0509", "050a"] {
+        let told = |line: &str| line.get(14..18) == Some(reason) && line[18..22] != *"0000";
+        assert!(printed.lines().any(told), "{reason} has position 0 alone");
+    }
 }
 
 /// Whether the output is exactly as long as asked, longer by one, or as long as it may be.
@@ -56,17 +63,22 @@ fn ring_calls_have_every_answer_in_every_room() {
 #[test]
 fn slice_calls_have_every_answer_in_every_room() {
     let vectors = decode_slices(&vectors::slices(1, 2));
-    let mut met = BTreeSet::new();
+    let (mut met, mut reasons) = (BTreeSet::new(), BTreeSet::new());
     for ((call, answer), written) in &vectors {
         let lent = [call.scratch.len(), call.order.len(), call.out.len(), call.out_lengths.len()];
         assert!(lent.iter().all(|&length| length <= MOST_LENT));
         assert_eq!(*written, if answer.is_ok() { call.room() } else { 0 });
         let label = match answer {
-            Ok(SliceAnswer::Overlay(Reason { number: 2.., .. })) => "overlay behind a cut",
+            Ok(SliceAnswer::Overlay(Reason { number: 2..=6 | 9 | 10, .. })) => "overlay behind a cut",
             _ => slice_label(answer),
         };
         met.extend(answer.as_ref().ok().and(room(call.out.len(), call.room())).map(|room| (label, room)));
+        if let Ok(SliceAnswer::Overlay(reason)) = answer {
+            reasons.insert((reason.number, reason.first > 0));
+        }
     }
+    let every_reason = (1..=10).map(|number| (number, false)).chain((7..=10).map(|number| (number, true)));
+    assert_eq!(reasons, every_reason.collect());
     let answers = ["nothing", "dropped", "unchanged", "cut", "overlay", "overlay behind a cut"];
     assert_eq!(met, in_every_room(&answers));
     let lone_nan = worked::lone_nan();

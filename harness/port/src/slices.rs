@@ -1,6 +1,6 @@
 //! The slice call: the port against the Rust's `clip_polygon`, every lent number checked.
 
-use compare::calls::{slice_label, styles};
+use compare::calls::{slice_label, slice_label_with_reason, styles};
 use compare::campaign::{self, Campaign, Checked};
 use formats::calls::{SliceAfter, SliceAnswer, SliceCall};
 use formats::Refusal;
@@ -13,7 +13,10 @@ const SET: [u8; 4] = [1, 2, 128, 255];
 /// `count` slice calls of each style.
 pub fn compare(seed: u64, count: u64) -> Campaign {
     campaign::run("port slice calls", seed, count, &styles(), |style, index| {
-        check(&generator::slice_call(style, seed, index), SET[index as usize % SET.len()])
+        let call = generator::slice_call(style, seed, index);
+        let expected = oracle::slice_call(&call);
+        check_against(&call, SET[index as usize % SET.len()], &expected)?;
+        Ok(slice_label_with_reason(&expected))
     })
 }
 
