@@ -175,6 +175,16 @@ pub fn late_repeat() -> (Reason, Ring) {
     (Reason { number: 9, first: 89_999, second: 0 }, ring)
 }
 
+/// A ring whose cut crosses itself at edges 98,283 and 98,286, without flag 1. It is in and out of the north bound at 65,521
+/// vertices, the last of which is cut to corner 98,280. Behind that stand two corners on the south bound, and then the ring of reason
+/// 10 above with x and y swapped and halved, which changes no rounding, left by a way between two of its edges.
+pub fn late_crossing() -> (Reason, Ring) {
+    let across = |k: u32| if k.is_multiple_of(2) { 9. } else { 11. };
+    let mut ring: Ring = (0..65_521).map(|k| (1. + f64::from(k) / 8_192., across(k))).collect();
+    ring.extend([(9.5, -5.), (0.5, -5.), (1.5, 2.5), (3., -2.), (1., 4.5), (2., 1.), (1.22, 3.5), (0.9, 4.5)]);
+    (Reason { number: 10, first: 98_283, second: 98_286 }, ring)
+}
+
 /// A ring around a centre, closed; no two edges cross.
 pub fn regular(coordinates: usize, centre: Coord, radius: f64) -> Ring {
     let edges = coordinates - 1;

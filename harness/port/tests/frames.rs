@@ -1,12 +1,12 @@
 //! The frame entry of the port against the Rust, the share that every test run takes: random and damaged frames, and rings of
 //! every length that a frame can hold, as its length picks the working arrays.
 
+use compare::worked::{exterior_of_each_reason, BOUNDS};
+use formats::answer::{Answer, Listed, ListedPart};
 use formats::frame::{Frame, MULTIPOLYGON, POLYGON};
 use formats::Ring;
 use generator::Specimen;
 use port::frames;
-
-const BOUNDS: [f64; 4] = [0.0, 0.0, 10.0, 10.0];
 
 /// The most coordinates of a frame's one ring.
 const MOST: usize = 317;
@@ -49,6 +49,19 @@ fn every_length_of_a_ring_agrees() {
     }
     assert_eq!(frames::check(&specimen(POLYGON, 3, zigzag(MOST))), Ok("cut"));
     assert_eq!(frames::check(&specimen(POLYGON, 3, zigzag(MOST + 1))), Ok("11"));
+}
+
+/// Worked by hand, each with exactly the room that it asks for.
+#[test]
+fn every_reason_tells_its_positions() {
+    for (reason, flags, ring) in exterior_of_each_reason() {
+        let parts = vec![ListedPart { index: 0, listed: Listed::Overlay(reason) }];
+        let answer = Ok(Answer::Listed { guard_count: 0, parts }.encode());
+        for &flags in flags {
+            let Specimen { frame, room } = specimen(POLYGON, flags, ring.clone());
+            assert_eq!(frames::check_in(&frame, room, &answer), Ok(()), "flags {flags}, {ring:?}");
+        }
+    }
 }
 
 /// An answer, a refusal and a byte of the output that are not the port's are each noticed.

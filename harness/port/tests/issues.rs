@@ -29,6 +29,23 @@ fn every_length_about_the_scan_limit_agrees() {
     }
 }
 
+/// One pair of neighbours swapped, from the first vertex to the last, and then many behind it: whatever the sweep
+/// meets first, the pair with the lowest numbers is told.
+#[test]
+fn crossings_at_any_place_of_a_long_ring_agree() {
+    for edges in [33, 64, 317, 1_024, 3_000] {
+        for swapped in [1, edges / 4, edges / 2, 3 * edges / 4, edges - 2] {
+            let mut ring = regular(edges);
+            ring.swap(swapped, swapped + 1);
+            assert_eq!(issues::check(&ring), Ok("crossing"), "{edges} edges, {swapped} swapped");
+            for further in (swapped + 2..edges - 1).step_by(2).take(edges / 4) {
+                ring.swap(further, further + 1);
+            }
+            assert_eq!(issues::check(&ring), Ok("crossing"), "{edges} edges, many swapped from {swapped} on");
+        }
+    }
+}
+
 #[test]
 fn work_slices_one_short_are_not_used() {
     let numbers: Vec<f64> = regular(40).iter().flat_map(|&(x, y)| [x, y]).collect();

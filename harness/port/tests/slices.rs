@@ -3,8 +3,8 @@
 //! worked polygons.
 
 use compare::worked::{
-    self, polygon_of_each_answer, regular, slice_call as lent, unclosed, unwritten, Beside, ACROSS_EAST, APART,
-    BOW_TIE, INSIDE,
+    self, exterior_of_each_reason, late_crossing, late_repeat, polygon_of_each_answer, regular, slice_call as lent,
+    unclosed, unwritten, Beside, ACROSS_EAST, APART, BOW_TIE, EVERY_FLAG, INSIDE,
 };
 use formats::calls::{SliceAfter, SliceAnswer, SliceCall, MOST_COORDINATES};
 use formats::frame::MOST_RINGS;
@@ -460,7 +460,6 @@ fn assert_worked(flags: &[u8], ring: &[Coord], expected: SliceAnswer) {
 fn worked_polygons() {
     use SliceAnswer::{Cut, Dropped, Nothing, Unchanged};
 
-    const EVERY_FLAG: &[u8] = &[0, 1, 2, 3];
     assert_worked(EVERY_FLAG, &INSIDE, Unchanged);
     let cut: Ring = vec![(5., 5.), (10., 5.), (10., 8.), (5., 8.), (5., 5.)];
     assert_worked(&[3], &ACROSS_EAST, Cut(vec![cut]));
@@ -484,6 +483,22 @@ fn worked_polygons() {
         }
         assert_worked(EVERY_FLAG, &ring, Dropped);
     }
+}
+
+#[test]
+fn every_reason_tells_its_positions() {
+    for (reason, flags, ring) in exterior_of_each_reason() {
+        assert_worked(flags, &ring, SliceAnswer::Overlay(reason));
+    }
+}
+
+/// Only the cut of a long ring has corners and edges with such numbers.
+#[test]
+fn positions_over_65_535_are_told() {
+    let (repeat, ring) = late_repeat();
+    assert_worked(&[1, 3], &ring, SliceAnswer::Overlay(repeat));
+    let (crossing, ring) = late_crossing();
+    assert_worked(&[0, 2], &ring, SliceAnswer::Overlay(crossing));
 }
 
 /// A cut ring is closed by the cutter, and once more as the polygon holds it: that shows where its first coordinate holds a
