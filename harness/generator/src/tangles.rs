@@ -26,7 +26,7 @@ pub fn tangle(most: usize, rng: &mut Rng) -> Ring {
         2 => knotted(vertices, rng),
         3 => tangled_stretch(vertices, rng),
         4 => spiked(vertices, rng),
-        _ => touched_line(vertices, rng),
+        _ => touched_lines(vertices, rng),
     };
     let start = rng.below(ring.len());
     ring.rotate_left(start);
@@ -86,20 +86,24 @@ fn spiked(vertices: usize, rng: &mut Rng) -> Ring {
 
 /// One edge straight through the bounds, and a way back on one side of it with corners that lie on it exactly, since all are
 /// whole multiples of a power of two. Where the edge is cut it is moved by a rounding, so that it may cross the edges at such a
-/// corner, which it only touched.
-fn touched_line(vertices: usize, rng: &mut Rng) -> Ring {
-    let touches = (vertices - 2) / 2;
+/// corner, which it only touched. A second such edge may touch the corners on the other side of the way back.
+fn touched_lines(vertices: usize, rng: &mut Rng) -> Ring {
+    let has_second = vertices > 8 && rng.once_in(2);
+    let touches = if has_second { (vertices - 7) / 2 } else { (vertices - 2) / 2 };
+    let end = (touches + 1) as f64;
     let (dx, dy) = (rng.pick(&[3.0, 5.0, 7.0, 11.0, 13.0]), rng.pick(&[1.0, 2.0, -1.0, -2.0]));
-    // The line is some 18 long and begins and ends beyond a bound, or inside it.
-    let scale = (18.0 / (dx * (touches + 1) as f64)).log2().floor().exp2();
+    // The line is some 9 to 18 long and begins and ends beyond a bound, or inside it.
+    let scale = (18.0 / (dx * end)).log2().floor().exp2();
     let (x, y) = (rng.between(-6, 2) as f64, rng.between(2, 8) as f64);
     let height = rng.pick(&[0.25, 0.5, 1.0, 4.0]);
-    let on_line = |place: f64| (x + place * scale * dx, y + place * scale * dy);
-    let mut ring = vec![on_line(0.0), on_line((touches + 1) as f64)];
+    let at = |place: f64, above: f64| (x + place * scale * dx, y + place * scale * dy + above * height);
+    let mut ring = vec![at(0.0, 0.0), at(end, 0.0)];
     for touch in (1..=touches).rev() {
-        let (above_x, above_y) = on_line(touch as f64 + 0.5);
-        ring.push((above_x, above_y + height));
-        ring.push(on_line(touch as f64));
+        ring.extend([at(touch as f64 + 0.5, 1.0), at(touch as f64, 0.0)]);
+    }
+    if has_second {
+        // Behind it a way around both lines to where the first begins.
+        ring.extend([at(0.0, 1.0), at(end, 1.0), at(end, 2.0), at(0.0, 2.0), (x - 1.0, y)]);
     }
     turned(ring, rng)
 }
