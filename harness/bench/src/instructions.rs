@@ -7,6 +7,7 @@ use std::ffi::OsString;
 use std::process::{Command, Stdio};
 
 use crate::frames::{self, CASES, SIZES};
+use crate::issues;
 use crate::lines::{self, Input};
 use crate::rings::{self, OUTLINES};
 use crate::slices;
@@ -27,6 +28,12 @@ pub fn measure() {
     for (s, size) in SIZES.iter().enumerate() {
         for (c, case) in CASES.iter().enumerate() {
             print_row("frame entry", size.name, case.name, of_a_call("frame", s, c));
+        }
+    }
+    for (v, vertices) in VERTICES.iter().enumerate() {
+        let size = format!("{} edges", whole(*vertices as f64));
+        for (o, (name, _)) in issues::OUTLINES.iter().enumerate() {
+            print_row("issue check", &size, name, of_a_call("issue", v, o));
         }
     }
     for (v, vertices) in VERTICES.iter().enumerate() {
@@ -82,7 +89,7 @@ fn collected(program: &Command, input: Stdio) -> f64 {
     count.unwrap_or_else(|| panic!("callgrind counted nothing: {said}"))
 }
 
-/// Makes calls of one side, which callgrind counts: frame, ring or slice, the side, the places of size and case, and how many.
+/// Makes calls of one side, which callgrind counts: frame, issue, ring or slice, the side, the places of size and case, and how many.
 pub fn make_calls(arguments: &[String]) {
     let [call, side, numbers @ ..] = arguments else {
         panic!("no call and no side are named");
@@ -96,6 +103,12 @@ pub fn make_calls(arguments: &[String]) {
         "frame" => {
             let mut sides = frames::Sides::new(&SIZES[size], &CASES[case]);
             let one_call = if is_rust { frames::Sides::rust } else { frames::Sides::port };
+            (0..times).for_each(|_| one_call(&mut sides));
+        }
+        "issue" => {
+            let (_, outline) = issues::OUTLINES[case];
+            let mut sides = issues::Sides::new(&outline(VERTICES[size]));
+            let one_call = if is_rust { issues::Sides::rust } else { issues::Sides::port };
             (0..times).for_each(|_| one_call(&mut sides));
         }
         "ring" => {

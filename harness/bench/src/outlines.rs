@@ -6,6 +6,9 @@ use geo::Coord;
 
 pub const BOUNDS: [f64; 4] = [0.0, 0.0, 10.0, 10.0];
 
+/// A ring of so many vertices.
+pub type Outline = fn(usize) -> Vec<Coord<f64>>;
+
 /// Vertices around a centre, by the distance of each.
 fn around(n: usize, centre: (f64, f64), distance: impl Fn(usize) -> f64) -> Vec<Coord<f64>> {
     let vertex = |k: usize| {

@@ -10,12 +10,9 @@ use port::{calls, probe};
 use tylertoo::sutherland_hodgman::opened::clip_ring;
 use tylertoo::tile::TileBounds;
 
-use crate::outlines::{half_outside, inside, zigzag, BOUNDS};
+use crate::outlines::{half_outside, inside, zigzag, Outline, BOUNDS};
 use crate::table::{whole, Clearing, Row};
 use crate::timing::medians_in_step;
-
-/// A ring of so many vertices.
-type Outline = fn(usize) -> Vec<Coord<f64>>;
 
 pub const OUTLINES: [(&str, Outline); 3] = [("inside", inside), ("half outside", half_outside), ("zigzag", zigzag)];
 
