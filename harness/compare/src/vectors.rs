@@ -4,6 +4,7 @@
 use std::collections::BTreeMap;
 
 use formats::calls::{RingCall, SliceCall, MOST_COORDINATES};
+use formats::frame::{Frame, POLYGON};
 use formats::vectors::{encode_rings, encode_slices, marks, RingVector, SliceVector, MARK, MOST_LENT, WHOLE_MARK};
 use generator::Style;
 
@@ -43,8 +44,8 @@ impl Kept {
     }
 }
 
-/// Input of the program: frames of each kind, up to `count` for each answer, and lines that are right and wrong. The last one
-/// has no newline.
+/// Input of the program: frames of each kind, up to `count` for each answer, worked ones of each reason, and lines that are right
+/// and wrong. The last one has no newline.
 pub fn lines(seed: u64, count: u64) -> Vec<u8> {
     let mut input = Vec::new();
     for (_, kind) in kinds() {
@@ -53,23 +54,31 @@ pub fn lines(seed: u64, count: u64) -> Vec<u8> {
             let frame = generator::frame(kind, seed, index).frame;
             let answer = frames::label(&oracle::answer(&frame, usize::MAX));
             if kept.keeps(answer.to_string(), frame.len() <= SHORT_FRAME) {
-                input.extend(hex(&frame).bytes());
-                input.push(b'\n');
+                push_line(&mut input, hex(&frame).as_bytes());
             }
         }
+    }
+    for (_, flags, ring) in worked::exterior_of_each_reason() {
+        let parts = vec![vec![ring]];
+        let frame = Frame { kind: POLYGON, flags: flags[0], bounds: worked::BOUNDS, buffer: 0.0, parts };
+        push_line(&mut input, hex(&frame.encode()).as_bytes());
     }
     let mut kept = Kept::new(10 * count);
     for index in 0..TRIED {
         for line in generator::lines(seed, index).split(|&byte| byte == b'\n') {
             let refusal = oracle::lines(line).get(..2).map(<[u8]>::to_vec);
             if kept.keeps(format!("{refusal:?}, long: {}", line.len() > 10_000), line.len() <= SHORT_LINE) {
-                input.extend(line);
-                input.push(b'\n');
+                push_line(&mut input, line);
             }
         }
     }
     input.extend(b"03");
     input
+}
+
+fn push_line(input: &mut Vec<u8>, line: &[u8]) {
+    input.extend(line);
+    input.push(b'\n');
 }
 
 /// Ring calls of each style, up to `count` for each answer, worked ones, and one of too many coordinates.
