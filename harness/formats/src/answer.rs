@@ -107,7 +107,7 @@ fn encode_position(position: u32, bytes: &mut Vec<u8>) {
 fn decode_reason(number: u8, cursor: &mut Cursor) -> Option<Reason> {
     let (first, second) = (cursor.count().ok()? as u32, cursor.count().ok()? as u32);
     let reason = Reason { number, first, second };
-    reason.is_told().then_some(reason)
+    reason.is_possible().then_some(reason)
 }
 
 fn encode_ring(ring: &Ring, bytes: &mut Vec<u8>) {

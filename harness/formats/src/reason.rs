@@ -18,7 +18,7 @@ impl Reason {
     }
 
     /// Whether there is such a reason: its number is one, positions that don't apply are 0, and the lower of two edges is first.
-    pub fn is_told(&self) -> bool {
+    pub fn is_possible(&self) -> bool {
         match self.number {
             1..=6 => self.first == 0 && self.second == 0,
             7 | 9 => self.second == 0,
@@ -78,13 +78,15 @@ mod tests {
 
     #[test]
     fn positions_that_do_not_apply_are_no_reason() {
-        let is_told = |number: u8, first: u32, second: u32| Reason { number, first, second }.is_told();
-        assert!((1..=6).all(|number| is_told(number, 0, 0) && !is_told(number, 1, 0) && !is_told(number, 0, 1)));
+        let is_possible = |number: u8, first: u32, second: u32| Reason { number, first, second }.is_possible();
+        assert!(
+            (1..=6).all(|number| is_possible(number, 0, 0) && !is_possible(number, 1, 0) && !is_possible(number, 0, 1))
+        );
         for (repeated, crossing) in [(7, 8), (9, 10)] {
-            assert!(is_told(repeated, 0, 0) && is_told(repeated, 3, 0) && !is_told(repeated, 3, 4));
-            assert!(is_told(crossing, 0, 2) && !is_told(crossing, 0, 0) && !is_told(crossing, 4, 2));
+            assert!(is_possible(repeated, 0, 0) && is_possible(repeated, 3, 0) && !is_possible(repeated, 3, 4));
+            assert!(is_possible(crossing, 0, 2) && !is_possible(crossing, 0, 0) && !is_possible(crossing, 4, 2));
         }
-        assert!(!is_told(0, 0, 0) && !is_told(11, 0, 0));
+        assert!(!is_possible(0, 0, 0) && !is_possible(11, 0, 0));
     }
 
     /// 331,777 is the highest position that there is, and needs more than 16 bits.

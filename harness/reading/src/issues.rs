@@ -70,10 +70,12 @@ impl Reading {
 
     /// The first of the earliest two neighbours that are near, the last segment excepted.
     fn repeat(&self, ring: &[Vertex]) -> Option<usize> {
-        let excepted = match () {
-            _ if self.makes(Mistake::LastRepeatIsIssue) => 0,
-            _ if self.makes(Mistake::ExceptsBeforeClosing) => 2,
-            _ => 1,
+        let excepted = if self.makes(Mistake::LastRepeatIsIssue) {
+            0
+        } else if self.makes(Mistake::ExceptsBeforeClosing) {
+            2
+        } else {
+            1
         };
         let segments = ring.len().saturating_sub(1 + excepted);
         let mut repeats = ring.windows(2).take(segments).map(|ends| self.near_vertices(ends[0], ends[1]));
