@@ -60,6 +60,33 @@ extern "C" {
 #define RINGCUT_MOST_FRAME_OUTPUT 50077
 
 /*
+ * Why an overlay is wanted, in a frame's answer and in a slice call's code. With 7 to 10 two positions tell where, with the
+ * others the positions are 0. The corners of an exterior are its coordinates, numbered from 0 as they stand, the one that closes
+ * it last; edge k runs from corner k to corner k + 1.
+ *
+ * A corner is repeated where it and the next differ by less than 1e-10 in x and in y; only the last edge may be so short. The
+ * first position is the first such corner, the second is 0. Where edges cross, the first position is the lower edge and the
+ * second the higher one: of all pairs that cross, the one with the lowest lower number, and of those the one with the lowest
+ * higher number. With assume_simple edges that cross are not looked for. A short exterior is told before a repeated corner, and
+ * that before edges that cross.
+ *
+ * The positions of 9 and 10 are those of the cut exterior, which the answer doesn't bring: there a corner may have another number
+ * than in the exterior that was lent.
+ */
+enum ringcut_reason {
+    RINGCUT_SHORT = 1,        /* the exterior has fewer than 4 corners, the closing one counted */
+    RINGCUT_CUT_SHORT = 2,    /* the cut exterior has */
+    RINGCUT_ALONG_LEFT = 3,   /* an edge of the cut exterior runs along the left bound */
+    RINGCUT_ALONG_RIGHT = 4,  /* along the right bound */
+    RINGCUT_ALONG_BOTTOM = 5, /* along the bottom bound */
+    RINGCUT_ALONG_TOP = 6,    /* along the top bound */
+    RINGCUT_REPEATED = 7,     /* a corner of the exterior is repeated */
+    RINGCUT_CROSSING = 8,     /* two edges of the exterior cross */
+    RINGCUT_CUT_REPEATED = 9, /* a corner of the cut exterior is repeated */
+    RINGCUT_CUT_CROSSING = 10 /* two edges of the cut exterior cross */
+};
+
+/*
  * Cuts a polygon or a multipolygon. Answers how many bytes of out the answer takes.
  *
  * A frame, numbers little-endian: kind, 1 byte (3 polygon, 6 multipolygon); flags, 1 byte (1 assume_simple,
@@ -67,8 +94,9 @@ extern "C" {
  * count, 2 bytes, exterior first. Each ring: coordinate count, 2 bytes; x and y of each, 8 bytes each.
  *
  * An answer: 1 byte (0 nothing, 1 whole dropped, 2 whole unchanged, 3 listed); guard count, 2 bytes; number of listed parts,
- * 2 bytes. Each listed part: index from 0, 2 bytes; 1 byte (2 unchanged, 4 cut, 5 overlay); an overlay's reason or 0, 1 byte;
- * if cut, ring count and rings as in a frame. NaN is written with bits 7ff8000000000000.
+ * 2 bytes. Each listed part: index from 0, 2 bytes; 1 byte (2 unchanged, 4 cut, 5 overlay); an overlay's ringcut_reason or 0,
+ * 1 byte; if cut, ring count and rings as in a frame; if overlay, its first and its second position, 2 bytes each. NaN is written
+ * with bits 7ff8000000000000.
  *
  * out needs 5 bytes and, for each part, 6, 2 for each ring and 16 * RINGCUT_ROOM of its coordinates. A ring whose last
  * coordinate doesn't equal its first is closed, which makes one more; a NaN equals nothing.
@@ -101,9 +129,12 @@ enum ringcut_answer {
  * in lengths. Any number but 0 sets a flag. The bounds are widened by buffer on each side. Answers
  *
  *   a ringcut_answer
- *   + 256 * the reason of an overlay: 1 an issue of the exterior, 2 an issue of the cut exterior, 3 to 6 an edge of the cut
- *     exterior along the left, right, bottom or top bound
- *   + 65536 * the count of a cut's rings.
+ *   + 2^8 * the ringcut_reason of an overlay
+ *   + 2^16 * the count of a cut's rings, or an overlay's first position
+ *   + 2^40 * an overlay's second position.
+ *
+ * So code & 0xff is the answer, code >> 8 & 0xff the reason, code >> 16 & 0xffffff the count or the first position and code >> 40
+ * the second, unless the code is negative: then it is a refusal.
  *
  * A ring whose last coordinate doesn't equal its first is closed, and the closing one counts in what follows and in 20; a NaN
  * equals nothing, so that even a single coordinate with a NaN counts as two. With S the largest RINGCUT_ROOM of its rings, and A
