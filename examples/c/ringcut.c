@@ -1,14 +1,17 @@
 /*
- * Cuts one polygon and prints the rings that are left of it: a rectangle that crosses the east bound of the tile 0, 0, 10, 10,
- * with a hole that crosses it too. In the repository's root, with the library built by `rt staticlib ringcut_calls`:
+ * Cuts three polygons to the tile 0, 0, 10, 10 and prints the rings that are left of each, or why it wants an overlay, with the corners
+ * or edges that are the reason. In the repository's root, with the library built by `rt staticlib ringcut_calls`:
  *
  *   cc -std=c11 -Wall -Wextra -I include examples/c/ringcut.c target/staticlib/libringcut_calls.a -o target/ringcut-in-c
  *   target/ringcut-in-c
  *
- * It prints the exterior and the hole:
+ * It prints the exterior and the hole of a rectangle across the east bound, then a corner that was sent twice, then two edges that
+ * cross:
  *
  *   (5,5)(10,5)(10,8)(5,8)(5,5)
  *   (6,6)(10,6)(10,7)(6,7)(6,6)
+ *   (8,7): corner 3 is repeated
+ *   (2,6)(3,7) and (3,5)(2,8): edges 0 and 4 cross
  */
 
 #include <inttypes.h>
@@ -19,40 +22,105 @@
 #define COUNT(array) (sizeof(array) / sizeof *(array))
 
 enum {
-    RINGS = 2,
-    COORDINATES = 5, /* of each ring, the closing one counted */
+    RINGS = 2,       /* that a polygon here has at most */
+    COORDINATES = 8, /* that a ring here has at most, the closing one counted */
     ROOM = RINGCUT_ROOM(COORDINATES)
 };
 
+static void print_corner(const double *ring, int64_t corner)
+{
+    printf("(%g,%g)", ring[2 * corner], ring[2 * corner + 1]);
+}
+
+/* All rings here are lent closed, so the last edge too has both of its corners in the ring. */
+static void print_edge(const double *ring, int64_t edge)
+{
+    print_corner(ring, edge);
+    print_corner(ring, edge + 1);
+}
+
+static void print_rings(const double *coords, const uint32_t *lengths, int64_t rings)
+{
+    for (int64_t ring = 0; ring < rings; ring++) {
+        for (uint32_t corner = 0; corner < lengths[ring]; corner++)
+            print_corner(coords, corner);
+        printf("\n");
+        coords += 2 * lengths[ring];
+    }
+}
+
+/* The positions of a cut exterior are said and not shown: the answer brings no rings with them. */
+static void print_reason(int64_t code, const double *exterior)
+{
+    static const char *const without_positions[] = {
+        [RINGCUT_SHORT] = "the exterior has fewer than 4 corners, the closing one counted",
+        [RINGCUT_CUT_SHORT] = "the cut exterior has fewer than 4 corners, the closing one counted",
+        [RINGCUT_ALONG_LEFT] = "an edge of the cut exterior runs along the left bound",
+        [RINGCUT_ALONG_RIGHT] = "an edge of the cut exterior runs along the right bound",
+        [RINGCUT_ALONG_BOTTOM] = "an edge of the cut exterior runs along the bottom bound",
+        [RINGCUT_ALONG_TOP] = "an edge of the cut exterior runs along the top bound"
+    };
+    int64_t reason = code >> 8 & 0xff, first = code >> 16 & 0xffffff, second = code >> 40;
+
+    switch (reason) {
+    case RINGCUT_REPEATED:
+        print_corner(exterior, first);
+        printf(": corner %" PRId64 " is repeated\n", first);
+        break;
+    case RINGCUT_CROSSING:
+        print_edge(exterior, first);
+        printf(" and ");
+        print_edge(exterior, second);
+        printf(": edges %" PRId64 " and %" PRId64 " cross\n", first, second);
+        break;
+    case RINGCUT_CUT_REPEATED:
+        printf("corner %" PRId64 " of the cut is repeated\n", first);
+        break;
+    case RINGCUT_CUT_CROSSING:
+        printf("edges %" PRId64 " and %" PRId64 " of the cut cross\n", first, second);
+        break;
+    default:
+        printf("%s\n", without_positions[reason]);
+    }
+}
+
+/* Cuts with both flags set or with none, and prints what is answered. 0 where the call was refused. */
+static int cut(uint8_t flags, const double *coords, size_t coords_len, const uint32_t *lengths, size_t lengths_len)
+{
+    double scratch[2 * ROOM], out[2 * RINGS * ROOM];
+    uint32_t order[ROOM], out_lengths[RINGS];
+
+    int64_t code = ringcut_polygon(flags, flags, 0, 0, 10, 10, 0, coords, coords_len, lengths, lengths_len, scratch,
+                                   COUNT(scratch), order, COUNT(order), out, COUNT(out), out_lengths, COUNT(out_lengths));
+    if (code < 0) {
+        fprintf(stderr, "refused: %" PRId64 "\n", -code);
+        return 0;
+    }
+    switch (code & 0xff) {
+    case RINGCUT_CUT:
+        print_rings(out, out_lengths, code >> 16);
+        break;
+    case RINGCUT_OVERLAY:
+        print_reason(code, coords);
+        break;
+    default:
+        printf("%s\n", (code & 0xff) == RINGCUT_UNCHANGED ? "unchanged" : "nothing to show");
+    }
+    return 1;
+}
+
 int main(void)
 {
-    static const double coords[] = {
+    static const double across[] = {
         5, 5, 15, 5, 15, 8, 5, 8, 5, 5, /* exterior */
         6, 6, 12, 6, 12, 7, 6, 7, 6, 6  /* hole */
     };
-    static const uint32_t lengths[RINGS] = {COORDINATES, COORDINATES};
-    double scratch[2 * ROOM], out[2 * RINGS * ROOM];
-    uint32_t order[ROOM], out_lengths[RINGS];
-    const uint8_t assume_simple = 1, skip_boundary_fallback = 1;
+    static const double repeated[] = {2, 3, 5, 1.5, 8, 3, 8, 7, 8, 7, 5, 8.5, 2, 7, 2, 3};
+    static const double crossing[] = {2, 6, 3, 7, 4, 2, 6, 7, 3, 5, 2, 8, 2, 6};
+    static const uint32_t of_across[] = {5, 5}, of_repeated[] = {8}, of_crossing[] = {7};
 
-    int64_t code = ringcut_polygon(assume_simple, skip_boundary_fallback, 0, 0, 10, 10, 0, coords, COUNT(coords), lengths,
-                                   COUNT(lengths), scratch, COUNT(scratch), order, COUNT(order), out, COUNT(out),
-                                   out_lengths, COUNT(out_lengths));
-    if (code < 0) {
-        fprintf(stderr, "refused: %" PRId64 "\n", -code);
-        return 1;
-    }
-    if (code % 256 != RINGCUT_CUT) {
-        fprintf(stderr, "not cut\n");
-        return 1;
-    }
-    const double *coordinate = out;
-    for (int64_t ring = 0; ring < code / 65536; ring++) {
-        for (uint32_t n = 0; n < out_lengths[ring]; n++) {
-            printf("(%g,%g)", coordinate[0], coordinate[1]);
-            coordinate += 2;
-        }
-        printf("\n");
-    }
-    return 0;
+    int answered = cut(1, across, COUNT(across), of_across, COUNT(of_across))
+                   && cut(0, repeated, COUNT(repeated), of_repeated, COUNT(of_repeated))
+                   && cut(0, crossing, COUNT(crossing), of_crossing, COUNT(of_crossing));
+    return answered ? 0 : 1;
 }
