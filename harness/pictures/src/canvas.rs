@@ -23,6 +23,9 @@ text{font-family:system-ui,-apple-system,'Segoe UI',Helvetica,Arial,'DejaVu Sans
 .unchanged{fill:#8250df;fill-opacity:.25;stroke:#8250df;stroke-width:2.5}
 .overlay{fill:url(#hatch);stroke:none}
 .hatch{stroke:#bc4c00;stroke-width:1.5}
+.repeated{fill:none;stroke:#bf3989;stroke-width:3}
+.crossing{fill:none;stroke:#bf3989;stroke-width:4}
+.mark{font-weight:700;fill:#bf3989;paint-order:stroke;stroke:#fff;stroke-width:4px}
 @media(prefers-color-scheme:dark){
 text{fill:#e6edf3}
 .small{fill:#9198a1}
@@ -35,6 +38,8 @@ text{fill:#e6edf3}
 .corner{fill:#3fb950}
 .unchanged{fill:#bc8cff;stroke:#bc8cff}
 .hatch{stroke:#f0883e}
+.repeated,.crossing{stroke:#f778ba}
+.mark{fill:#f778ba;stroke:#0d1117}
 }
 ";
 
@@ -77,9 +82,14 @@ impl Canvas {
         self.put(format_args!("<path class=\"{class}\" fill-rule=\"evenodd\" d=\"{path}\"/>\n"));
     }
 
-    pub fn dot(&mut self, class: &str, coord: Coord) {
-        let (x, y) = self.place(coord);
-        self.put(format_args!("<circle class=\"{class}\" cx=\"{x}\" cy=\"{y}\" r=\"3\"/>\n"));
+    pub fn circle(&mut self, class: &str, centre: Coord, radius: f64) {
+        let (x, y) = self.place(centre);
+        self.put(format_args!("<circle class=\"{class}\" cx=\"{x}\" cy=\"{y}\" r=\"{radius}\"/>\n"));
+    }
+
+    pub fn line(&mut self, class: &str, (from, to): (Coord, Coord)) {
+        let ((x, y), (to_x, to_y)) = (self.place(from), self.place(to));
+        self.put(format_args!("<path class=\"{class}\" d=\"M{x} {y}L{to_x} {to_y}\"/>\n"));
     }
 
     /// A rectangle by its upper left and its width and height.

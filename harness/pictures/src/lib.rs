@@ -2,6 +2,7 @@
 //! examples/frames.hex and examples/answers.hex, which other tests hold to the Rust.
 
 mod canvas;
+mod marks;
 mod scene;
 
 use std::fs;
@@ -13,13 +14,15 @@ use formats::frame::Frame;
 use formats::from_hex;
 
 /// The lines that are drawn, from 1, with the picture's name and title.
-const PICTURES: [(usize, &str, &str); 6] = [
+const PICTURES: [(usize, &str, &str); 8] = [
     (5, "holes", "Two holes: one cut, one left out"),
     (7, "buffer", "A rectangle, cut at the tile with its buffer"),
     (8, "corner", "A lake over the north-east corner"),
     (9, "comb-cut", "A comb, cut: one ring, joined along the bound"),
     (10, "comb-overlay", "The comb again: the overlay's to cut in two"),
     (21, "parts", "Parts inside, across, touching and apart"),
+    (36, "repeated", "A corner that was sent twice"),
+    (37, "crossing", "Edges that cross: of two pairs the first"),
 ];
 
 /// The repository's folder of examples.

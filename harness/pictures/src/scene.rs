@@ -5,13 +5,18 @@ use formats::frame::Frame;
 use formats::{Bounds, Coord, Ring};
 
 use crate::canvas::{Canvas, WIDTH};
+use crate::marks;
 
 /// Degrees around what is drawn.
 const MARGIN: f64 = 1.0;
 
-/// Pixels for the title above and for each row of the legend below.
-const HEAD: f64 = 56.0;
+/// Pixels for the title above, for each line of the answer's words below it and for each row of the legend.
+const TITLE: f64 = 38.0;
+const LINE: f64 = 18.0;
 const ROW: f64 = 22.0;
+
+/// Characters of the answer's words that a line has room for.
+const LINE_LENGTH: usize = 72;
 
 /// Pixels between the drawing and the legend.
 const GAP: f64 = 6.0;
@@ -20,17 +25,20 @@ const GAP: f64 = 6.0;
 const COLUMNS: usize = 3;
 
 /// What an entry of the legend shows and says.
-type Entry = (&'static str, &'static str);
+pub type Entry = (&'static str, &'static str);
 
 pub fn draw(title: &str, frame: &Frame, answer: &Answer) -> String {
     let widened = rectangle(buffered(frame));
     let [west, south, east, north] = around(widened.iter().chain(frame.parts.iter().flatten().flatten()));
     let left = (WIDTH - Canvas::pixels(east - west)) / 2.0;
-    let mut canvas = Canvas::new(left, HEAD, west, north);
+    let words = in_lines(&in_short(frame.flags, answer));
+    let head = TITLE + LINE * words.len() as f64;
+    let mut canvas = Canvas::new(left, head, west, north);
 
     canvas.text("title", "middle", (WIDTH / 2.0, 26.0), title);
-    let words = format!("flags {}; answer: {}", frame.flags, in_short(answer));
-    canvas.text("answer", "middle", (WIDTH / 2.0, 46.0), &words);
+    for (n, line) in words.iter().enumerate() {
+        canvas.text("answer", "middle", (WIDTH / 2.0, 46.0 + LINE * n as f64), line.trim_end());
+    }
 
     let mut legend = vec![("input", "input outline"), ("tile", "tile")];
     canvas.area("tile", &[rectangle(frame.bounds)]);
@@ -40,9 +48,10 @@ pub fn draw(title: &str, frame: &Frame, answer: &Answer) -> String {
     }
     legend.extend(draw_answer(&mut canvas, frame, answer));
     draw_input(&mut canvas, frame);
+    legend.extend(marks::draw(&mut canvas, frame, listed(answer)));
     label_tile(&mut canvas, frame.bounds);
 
-    let bottom = HEAD + Canvas::pixels(north - south) + GAP;
+    let bottom = head + Canvas::pixels(north - south) + GAP;
     let rows = draw_legend(&mut canvas, bottom, &legend);
     canvas.finish(title, bottom + rows as f64 * ROW + 4.0)
 }
@@ -60,7 +69,7 @@ fn draw_answer(canvas: &mut Canvas, frame: &Frame, answer: &Answer) -> Vec<Entry
         legend.push((class, words));
         canvas.area(class, rings);
         if class == "cut" {
-            rings.iter().flatten().for_each(|&coord| canvas.dot("corner", coord));
+            rings.iter().flatten().for_each(|&coord| canvas.circle("corner", coord, 3.0));
         }
     }
     legend
@@ -101,16 +110,29 @@ fn label_tile(canvas: &mut Canvas, [west, south, east, north]: Bounds) {
     }
 }
 
-/// The answer without a cut's coordinates, which are drawn.
-fn in_short(answer: &Answer) -> String {
+/// The flags, and the answer without a cut's coordinates, which are drawn.
+fn in_short(flags: u8, answer: &Answer) -> String {
     let part = |part: &ListedPart| match part.listed {
         Listed::Cut(_) => format!("part {} cut", part.index),
         _ => part.to_string(),
     };
-    match listed(answer) {
+    let words = match listed(answer) {
         [] => answer.to_string(),
         parts => parts.iter().map(part).collect::<Vec<_>>().join("; "),
+    };
+    format!("flags {flags}; answer: {words}")
+}
+
+/// Words that are joined by semicolons, in as few lines as have room for them; a line is broken behind a semicolon.
+fn in_lines(words: &str) -> Vec<String> {
+    let mut lines: Vec<String> = Vec::new();
+    for piece in words.split_inclusive("; ") {
+        match lines.last_mut() {
+            Some(line) if line.len() + piece.trim_end().len() <= LINE_LENGTH => line.push_str(piece),
+            _ => lines.push(piece.to_string()),
+        }
     }
+    lines
 }
 
 fn listed(answer: &Answer) -> &[ListedPart] {
@@ -129,7 +151,7 @@ fn rectangle([west, south, east, north]: Bounds) -> Ring {
     vec![(west, south), (east, south), (east, north), (west, north)]
 }
 
-fn bounds_of<'a>(coords: impl Iterator<Item = &'a Coord>) -> Bounds {
+pub fn bounds_of<'a>(coords: impl Iterator<Item = &'a Coord>) -> Bounds {
     coords.fold([f64::INFINITY, f64::INFINITY, f64::NEG_INFINITY, f64::NEG_INFINITY], |[w, s, e, n], &(x, y)| {
         [w.min(x), s.min(y), e.max(x), n.max(y)]
     })
