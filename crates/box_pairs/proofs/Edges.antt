@@ -55,7 +55,8 @@ module _ (s : List Float) (n : ℕ) (room : 2 * (n + 1) ≤ length s) where
   edges-front i j li lj =
       rw (at-front i (omega arith), at-front (i + 1) (omega arith), at-front j (omega arith), at-front (j + 1) (omega arith))
 
-  pub lesser-front : (i j m : ℕ) → i < n → j < n → lesser s i j m ≡ cond (ltb (pairNumber i j) m && edgesCross (front s (n + 1)) i j) (pairNumber i j) m
+  pub lesser-front : (i j m : ℕ) → i < n → j < n → lesser s i j m ≡ cond (ltb (pairNumber i j) m && edgesCross (front s (n + 1)) i j)
+      (pairNumber i j) m
   unfolding lesser
   lesser-front i j m li lj = rw (edges-front i j li lj)
 

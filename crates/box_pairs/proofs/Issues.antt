@@ -35,9 +35,16 @@ few (p ∷ []) h = refl
 few (p ∷ q ∷ []) h = refl
 few (p ∷ q ∷ s ∷ l) h = absurd (omega arith)
 
-pub one-more : (l : List Coord) (k : ℕ) (z : Coord) → k + 2 < length l → repeated (drop k l) ≡ degenerate (getD l k z) (getD l (k + 1) z) || repeated (drop (k + 1) l)
+pub one-more : (l : List Coord) (k : ℕ) (z : Coord) → k + 2 < length l → repeated (drop k l) ≡ degenerate (getD l k z) (getD l (k + 1) z) ||
+    repeated (drop (k + 1) l)
 unfolding repeated
-one-more l k z h = rw (add-one k, drop-cons l k z (omega arith), drop-cons l (suc k) z (omega arith), drop-cons l (suc (suc k)) z (omega arith))
+one-more l k z h = rw (
+  add-one k,
+  drop-cons l k z (omega arith),
+  drop-cons l (suc k) z (omega arith),
+  drop-cons l (suc (suc k)) z
+      (omega arith),
+)
 
 -- the same of the place
 few-place : (j : ℕ) (l : List Coord) → length l ≤ 2 → repeatedFrom j l ≡ Positions.None
@@ -50,7 +57,14 @@ few-place j (p ∷ q ∷ s ∷ l) h = absurd (omega arith)
 one-more-place : (j : ℕ) (l : List Coord) (k : ℕ) (z : Coord) → k + 2 < length l
     → repeatedFrom j (drop k l) ≡ cond (degenerate (getD l k z) (getD l (k + 1) z)) (Positions.At j) (repeatedFrom (j + 1) (drop (k + 1) l))
 unfolding repeatedFrom
-one-more-place j l k z h = rw (add-one j, add-one k, drop-cons l k z (omega arith), drop-cons l (suc k) z (omega arith), drop-cons l (suc (suc k)) z (omega arith))
+one-more-place j l k z h = rw (
+  add-one j,
+  add-one k,
+  drop-cons l k z (omega arith),
+  drop-cons l (suc k) z (omega arith),
+  drop-cons l
+      (suc (suc k)) z (omega arith),
+)
 
 abbrev pub isPosition : Position → Bool
 isPosition Positions.None = false
@@ -64,7 +78,8 @@ place-verdict j (p ∷ []) = refl
 place-verdict j (p ∷ q ∷ []) = refl
 place-verdict j (p ∷ q ∷ s ∷ l) = go (degenerate p q) (place-verdict (suc j) (q ∷ s ∷ l))
   where
-    go : (b : Bool) → isPosition (repeatedFrom (suc j) (q ∷ s ∷ l)) ≡ repeated (q ∷ s ∷ l) → isPosition (cond b (Positions.At j) (repeatedFrom (suc j) (q ∷ s ∷ l))) ≡ b || repeated (q ∷ s ∷ l)
+    go : (b : Bool) → isPosition (repeatedFrom (suc j) (q ∷ s ∷ l)) ≡ repeated (q ∷ s ∷ l) → isPosition
+        (cond b (Positions.At j) (repeatedFrom (suc j) (q ∷ s ∷ l))) ≡ b || repeated (q ∷ s ∷ l)
     go true h = refl
     go false h = h
 
@@ -73,10 +88,12 @@ repeated-first l = place-verdict 0 l
 
 module _ (s : List Float) (n : ℕ) (room : 2 * n ≤ length s) where
   pub repeated-next : (k : ℕ) → k + 2 < n
-      → repeatedFrom k (drop k (front s n)) ≡ cond (degenerate (coordAt s k) (coordAt s (k + 1))) (Positions.At k) (repeatedFrom (k + 1) (drop (k + 1) (front s n)))
+      → repeatedFrom k (drop k (front s n)) ≡ cond (degenerate (coordAt s k) (coordAt s (k + 1))) (Positions.At k)
+      (repeatedFrom (k + 1) (drop (k + 1) (front s n)))
   repeated-next k l =
       let z : Coord = record { x = nan; y = nan } in
-      one-more-place k (front s n) k z (omega (arith, length-front s n room)) ∙ rw (front-at s n k z room (omega arith), front-at s n (k + 1) z room (omega arith))
+      one-more-place k (front s n) k z (omega (arith, length-front s n room)) ∙
+      rw (front-at s n k z room (omega arith), front-at s n (k + 1) z room (omega arith))
 
   pub repeated-end : (k : ℕ) → n ≤ k + 2 → repeatedFrom k (drop k (front s n)) ≡ Positions.None
   repeated-end k l = few-place k (drop k (front s n)) (omega (arith, length-drop k (front s n), length-front s n room))

@@ -95,7 +95,8 @@ fn note_lows(ring: &[f64], work: &mut [f64], edges: usize)
     }
 }
 
-// The slot of the first edge that crosses one in a later slot, by a sweep over the first `edges` edges in the order of their lowest x, which
+// The slot of the first edge that crosses one in a later slot, by a sweep over the first `edges` edges in the order of their lowest x,
+// which
 // stand in `lows`: past the first that starts beyond an edge's end no other meets it. Where no two edges cross, `edges`.
 fn sweep_sorted(ring: &[f64], lows: &[f64], order: &[u32], edges: usize) -> usize
     requires { ⌜ HasEdges edges (now ring) × (edges ≤ length (now lows)) ⌝ }

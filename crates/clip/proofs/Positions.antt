@@ -64,7 +64,8 @@ cut-within flags b r = some (ltb 0 (length (clipRing b r)))
         (overlayIfBridge (bridgeUnlessSkipped flags b (cutExterior b r)) (Routes.Cut (length (cutExterior b r))))) Routes.Nothing)
     some false = tt
     some true = if-issue (B (length r)) (hasIssue issue) (Reasons.Cut issue) _
-        (issue-within (B (length r)) 2 9 10 issue (issue-below (B (length r)) (flags .«assume_simple») (cutExterior b r) (cut-fits-room b r)))
+        (issue-within (B (length r)) 2 9 10 issue
+        (issue-below (B (length r)) (flags .«assume_simple») (cutExterior b r) (cut-fits-room b r)))
         (bridged (bridgeUnlessSkipped flags b (cutExterior b r)))
 
 -- what the exterior decides tells no position past the room for cutting it

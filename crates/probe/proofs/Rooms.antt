@@ -47,7 +47,8 @@ pub issue-fits : (ring : List Float) (b : Bool) → length ring / 2 < most → I
 issue-fits ring b l =
     issue-below most b (front ring (length ring / 2)) (omega (arith, length-front ring (length ring / 2) (omega arith)))
 
-pub pair-fits : (ring : List Float) (n : ℕ) (x : Pair) → n < most → 2 * n ≤ length ring → (n ≡ 0 → ⊥) → x ≡ firstPair (front ring (n - 1 + 1))
+pub pair-fits : (ring : List Float) (n : ℕ) (x : Pair) → n < most → 2 * n ≤ length ring → (n ≡ 0 → ⊥) → x ≡ firstPair
+    (front ring (n - 1 + 1))
     → PairBelow most x
 pair-fits ring n x l room some e =
     let q : n - 1 + 1 ≡ n = omega arith in

@@ -24,8 +24,10 @@ same-length-2 c = search needs
 
 returns-2 : tie.Need-returns-2
 returns-2 c =
-    let e = c .before .before .before .before .before .before .first-pair .ensures in
-    (rw (c .before .before .before .before .before .before .before .before .before .if1 .left, ← e .0, c .enum-told .given .1), (e .1 .0, e .1 .1 .scanned))
+    let e = c .before .before .before .before .before .before .first-pair .ensures in (
+      rw (c .before .before .before .before .before .before .before .before .before .if1 .left, ← e .0, c .enum-told .given .1),
+      (e .1 .0, e .1 .1 .scanned),
+    )
 
 same-length-3 : tie.Need-same-length-3
 same-length-3 c = search needs
@@ -35,8 +37,10 @@ same-length-4 c = search needs
 
 returns-3 : tie.Need-returns-3
 returns-3 c =
-    let e = c .before .before .before .before .before .before .before .first-pair .ensures in
-    (rw (c .before .before .before .before .before .before .before .before .before .before .if1 .left, ← e .0, c .before .i .given .1), (e .1 .0, e .1 .1 .scanned))
+    let e = c .before .before .before .before .before .before .before .first-pair .ensures in (
+      rw (c .before .before .before .before .before .before .before .before .before .before .if1 .left, ← e .0, c .before .i .given .1),
+      (e .1 .0, e .1 .1 .scanned),
+    )
 
 pub find-crossing-spec : {M : Type 1} → statement M
 find-crossing-spec =

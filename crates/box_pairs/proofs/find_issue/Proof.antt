@@ -7,8 +7,10 @@ use Rattle.box_pairs.proofs.find_issue.Tie as tie
 
 returns : tie.Need-returns
 returns c =
-    let s = c .before .before .before .before in
-    (sym (issue-short (s .args .ring .now) (s .args .n) (s .pre .ring-room) (s .args .assume-simple) (c .if1 .taken)), (record { past-work = refl; past-order = refl }, λ t. (refl, refl)))
+    let s = c .before .before .before .before in (
+      sym (issue-short (s .args .ring .now) (s .args .n) (s .pre .ring-room) (s .args .assume-simple) (c .if1 .taken)),
+      (record { past-work = refl; past-order = refl }, λ t. (refl, refl)),
+    )
 
 first-repeated-requires : tie.Need-first-repeated-requires
 first-repeated-requires c κs = search needs
@@ -25,7 +27,9 @@ find-crossing-requires c κs = search needs
 returns-2 : tie.Need-returns-2
 returns-2 c =
     let s = c .before .before .before .before .before .before .before .before in (
-      sym (issue-long (s .args .ring .now) (s .args .n) (s .pre .ring-room) (s .args .assume-simple) (c .before .before .before .before .if1 .left) ∙ rw (← c .before .before .before .first-repeated .ensures, c .before .k .given .1)),
+      sym (issue-long (s .args .ring .now) (s .args .n) (s .pre .ring-room) (s .args .assume-simple)
+          (c .before .before .before .before .if1 .left) ∙
+          rw (← c .before .before .before .first-repeated .ensures, c .before .k .given .1)),
       (record { past-work = refl; past-order = refl }, λ t. (refl, refl)),
     )
 
@@ -39,8 +43,13 @@ returns-3 : tie.Need-returns-3
 returns-3 c =
     let s = c .before .before .before .before .before .before .before .before .before .before .before .before .before .before in
     let e = c .before .before .before .before .find-crossing .ensures in (
-      e .0 ∙ sym (issue-long (s .args .ring .now) (s .args .n) (s .pre .ring-room) (s .args .assume-simple) (c .before .before .before .before .before .before .before .before .before .before .if1 .left)
-          ∙ rw (← c .before .before .before .before .before .before .before .before .before .first-repeated .ensures, c .before .before .before .before .before .before .before .enum-told .given .1)),
+      e .0 ∙ sym (issue-long (s .args .ring .now) (s .args .n) (s .pre .ring-room) (s .args .assume-simple)
+          (c .before .before .before .before .before .before .before .before .before .before .if1 .left)
+          ∙ rw (
+            ← c .before .before .before .before .before .before .before .before .before .first-repeated .ensures,
+            c .before .before
+                .before .before .before .before .before .enum-told .given .1,
+          )),
       e .1,
     )
 

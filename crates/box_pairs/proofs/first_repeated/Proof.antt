@@ -20,7 +20,8 @@ abbrev μ-loop : tie.MeasureT-loop
 
 -- the verdict on the neighbours k and k + 1
 verdict : (c : tie.After-is-degenerate Inv-loop μ-loop)
-    → c .is-degenerate .result ≡ degenerate (coordAt (c .before .before .before .before .before .before .args .ring .now) (c .before .before .before .before .loop .k))
+    → c .is-degenerate .result ≡ degenerate
+    (coordAt (c .before .before .before .before .before .before .args .ring .now) (c .before .before .before .before .loop .k))
     (coordAt (c .before .before .before .before .before .before .args .ring .now) (c .before .before .before .before .loop .k + 1))
 verdict c = c .is-degenerate .ensures ∙ rw (c .before .before .coord-at .ensures, c .before .coord-at2 .ensures)
 
@@ -49,7 +50,8 @@ returns : tie.Need-returns Inv-loop μ-loop
 returns c =
     let l = c .before .before .before .before .before .loop in
     let s = c .before .before .before .before .before .before .before in
-    sym (l .inv .1 ∙ repeated-next (s .args .ring .now) (s .args .n) (s .pre .0) (l .k) (c .before .before .before .before .loop-test .taken) ∙ rw (← verdict (c .before), c .if1 .taken))
+    sym (l .inv .1 ∙ repeated-next (s .args .ring .now) (s .args .n) (s .pre .0) (l .k)
+    (c .before .before .before .before .loop-test .taken) ∙ rw (← verdict (c .before), c .if1 .taken))
 
 add-k : tie.Need-add-k Inv-loop μ-loop
 add-k c = search needs

@@ -28,18 +28,24 @@ abbrev ring-of : tie.Start Inv-loop μ-loop → List Coord
 ring-of s = front (s .args .ring .now) (s .args .edges + 1)
 
 sweeps : (o : tie.After-maximum Inv-loop μ-loop)
-    → Sweeps (λ i. key (lowX (ring-of (o .before .before .before .before .before .before .before)) i)) (o .before .before .before .before .before .before .before .args .edges)
-    (stops (ring-of (o .before .before .before .before .before .before .before))) (edgesCross (ring-of (o .before .before .before .before .before .before .before)))
+    → Sweeps (λ i. key (lowX (ring-of (o .before .before .before .before .before .before .before)) i))
+    (o .before .before .before .before .before .before .before .args .edges)
+    (stops (ring-of (o .before .before .before .before .before .before .before)))
+    (edgesCross (ring-of (o .before .before .before .before .before .before .before)))
 sweeps o =
     let s = o .before .before .before .before .before .before .before in
-    edge-sweeps (s .args .ring .now) (s .args .edges) (s .pre .0 .0) (λ i. o .before .before .before .before .before .before .shared-slice-known .given i)
+    edge-sweeps (s .args .ring .now) (s .args .edges) (s .pre .0 .0)
+    (λ i. o .before .before .before .before .before .before .shared-slice-known .given i)
 
 -- the test that breaks the loop off
 stop-test : (o : tie.After-maximum Inv-loop μ-loop) (q : ℕ)
     → q < o .before .before .before .before .before .before .before .args .edges
     → lt (o .maximum .result)
-    (getD (o .before .before .before .before .before .before .before .args .lows .now) (getD (o .before .before .before .before .before .before .before .args .order .now) q 0) nan)
-    ≡ atSlots (stops (ring-of (o .before .before .before .before .before .before .before))) (o .before .before .before .before .before .before .before .args .order .now) (o .before .before .before .before .before .before .before .args .p) q
+    (getD (o .before .before .before .before .before .before .before .args .lows .now)
+    (getD (o .before .before .before .before .before .before .before .args .order .now) q 0) nan)
+    ≡ atSlots (stops (ring-of (o .before .before .before .before .before .before .before)))
+    (o .before .before .before .before .before .before .before .args .order .now)
+    (o .before .before .before .before .before .before .before .args .p) q
 stop-test o q l =
     let s = o .before .before .before .before .before .before .before in
     let below = s .pre .1 .0 .positions .below in
@@ -58,13 +64,29 @@ cast-i : tie.Need-cast-i Inv-loop μ-loop
 cast-i c = omega (arith, c .shared-slice-known4 .given (c .before .before .before .before .args .p))
 
 coord-at-requires : tie.Need-coord-at-requires Inv-loop μ-loop
-coord-at-requires c κs = omega (arith, c .before .before .before .before .pre .0 .0, c .before .before .before .before .pre .1 .0 .positions .below (c .before .before .before .before .args .p) (c .before .before .before .before .pre .0 .3))
+coord-at-requires c κs = omega (
+  arith,
+  c .before .before .before .before .pre .0 .0,
+  c .before .before .before .before .pre .1 .0 .positions
+      .below (c .before .before .before .before .args .p) (c .before .before .before .before .pre .0 .3),
+)
 
 add-coord-at : tie.Need-add-coord-at Inv-loop μ-loop
-add-coord-at c = omega (arith, c .before .before .before .before .before .pre .0 .0, c .before .before .before .before .before .pre .1 .0 .positions .below (c .before .before .before .before .before .args .p) (c .before .before .before .before .before .pre .0 .3))
+add-coord-at c = omega (
+  arith,
+  c .before .before .before .before .before .pre .0 .0,
+  c .before .before .before .before .before .pre .1 .0
+      .positions .below (c .before .before .before .before .before .args .p) (c .before .before .before .before .before .pre .0 .3),
+)
 
 coord-at-requires-2 : tie.Need-coord-at-requires-2 Inv-loop μ-loop
-coord-at-requires-2 c κs = omega (arith, c .before .before .before .before .before .pre .0 .0, c .before .before .before .before .before .pre .1 .0 .positions .below (c .before .before .before .before .before .args .p) (c .before .before .before .before .before .pre .0 .3))
+coord-at-requires-2 c κs = omega (
+  arith,
+  c .before .before .before .before .before .pre .0 .0,
+  c .before .before .before .before .before
+      .pre .1 .0 .positions .below (c .before .before .before .before .before .args .p)
+      (c .before .before .before .before .before .pre .0 .3),
+)
 
 maximum-requires : tie.Need-maximum-requires Inv-loop μ-loop
 maximum-requires c κs = search needs
@@ -87,10 +109,22 @@ cast-j : tie.Need-cast-j Inv-loop μ-loop
 cast-j c = omega (arith, c .shared-slice-known5 .given (c .before .before .loop .q))
 
 mul-if1 : tie.Need-mul-if1 Inv-loop μ-loop
-mul-if1 c = omega (arith, c .before .before .before .before .before .before .before .before .before .before .pre .0 .1, c .before .before .before .before .before .before .before .before .before .before .pre .1 .0 .positions .below (c .before .before .loop .q) (c .before .loop-test .taken))
+mul-if1 c = omega (
+  arith,
+  c .before .before .before .before .before .before .before .before .before .before .pre .0 .1,
+  c .before .before
+      .before .before .before .before .before .before .before .before .pre .1 .0 .positions .below (c .before .before .loop .q)
+      (c .before .loop-test .taken),
+)
 
 shared-slice-read-if1 : tie.Need-shared-slice-read-if1 Inv-loop μ-loop
-shared-slice-read-if1 c = omega (arith, c .before .before .before .before .before .before .before .before .before .before .before .pre .0 .1, c .before .before .before .before .before .before .before .before .before .before .before .pre .1 .0 .positions .below (c .before .before .before .loop .q) (c .before .before .loop-test .taken))
+shared-slice-read-if1 c = omega (
+  arith,
+  c .before .before .before .before .before .before .before .before .before .before .before .pre .0
+      .1,
+  c .before .before .before .before .before .before .before .before .before .before .before .pre .1 .0 .positions .below
+      (c .before .before .before .loop .q) (c .before .before .loop-test .taken),
+)
 
 lesser-requires : tie.Need-lesser-requires Inv-loop μ-loop
 lesser-requires c κs =

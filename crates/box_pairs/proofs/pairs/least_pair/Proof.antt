@@ -57,7 +57,8 @@ returns-2 : tie.Need-returns-2 Inv-loop μ-loop
 returns-2 c =
     let l = c .before .before .loop in
     let s = c .before .before .before .before .before .before in
-    let sweeps = edge-sweeps (s .args .ring .now) (s .args .edges) (s .pre .0 .0) (λ i. c .before .before .before .before .before .shared-slice-known .given i) in
+    let sweeps = edge-sweeps (s .args .ring .now) (s .args .edges) (s .pre .0 .0)
+    (λ i. c .before .before .before .before .before .shared-slice-known .given i) in
     c .pair-of .ensures
     ∙ rows-done (λ i. key (lowX (ring-of s) i)) (s .args .edges) (stops (ring-of s)) (edgesCross (ring-of s)) sweeps
     (s .args .order .now) (s .pre .1 .0 .positions) (s .pre .1 .0 .sorted)

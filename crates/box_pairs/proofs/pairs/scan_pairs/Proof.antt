@@ -1,4 +1,5 @@
--- `pairs::scan_pairs` meets its contract. Each loop says that no pair passed is a crossing one; so the one it stops at is the first. Assumes nothing.
+-- `pairs::scan_pairs` meets its contract. Each loop says that no pair passed is a crossing one; so the one it stops at is the first.
+-- Assumes nothing.
 use mathlib.Core.Path.{_≡_, refl, sym, _∙_}
 use mathlib.Core.Logic.{⊎-elim}
 use mathlib.Core.Bool.{false}
@@ -35,8 +36,11 @@ add-j c = search needs
 loop-holds : tie.Need-loop-holds Inv-loop μ-loop Inv-pairs μ-pairs
 loop-holds c =
     let o = c .before in
-    let s = c .before .before .before in
-    (o .pairs .inv .0, inner-start (edgesCross (front (s .args .ring .now) (s .args .edges + 1))) (s .args .edges) (o .pairs .i) (c .pairs-test .taken))
+    let s = c .before .before .before in (
+      o .pairs .inv .0,
+      inner-start (edgesCross (front (s .args .ring .now) (s .args .edges + 1))) (s .args .edges) (o .pairs .i)
+          (c .pairs-test .taken),
+    )
 
 may-meet-in-y-requires : tie.Need-may-meet-in-y-requires Inv-loop μ-loop Inv-pairs μ-pairs
 may-meet-in-y-requires c κs = search needs
@@ -61,10 +65,15 @@ loop-again c =
     let l = c .before .before .before .loop in
     let o = c .before .before .before .before .before in
     let s = c .before .before .before .before .before .before .before in
-    let is = edges-front (s .args .ring .now) (s .args .edges) (s .pre .0) (o .pairs .i) (l .j) (c .before .before .before .before .pairs-test .taken) (c .before .before .loop-test .taken) in
+    let is = edges-front (s .args .ring .now) (s .args .edges) (s .pre .0) (o .pairs .i) (l .j)
+    (c .before .before .before .before .pairs-test .taken) (c .before .before .loop-test .taken) in
     let miss : edgesCross (front (s .args .ring .now) (s .args .edges + 1)) (o .pairs .i) (l .j) ≡ false =
-    ⊎-elim (λ w. sym is ∙ (sym (w .1 .ensures) ∙ w .2 .left)) (λ w. sym is ∙ never-meet _ _ _ (sym (c .before .may-meet-in-y .ensures) ∙ w .left)) (c .if1 .came) in
-    (l .inv .0, inner-next (edgesCross (front (s .args .ring .now) (s .args .edges + 1))) (s .args .edges) (o .pairs .i) (l .j) (c .before .before .loop-test .taken) (l .inv .1) miss)
+    ⊎-elim (λ w. sym is ∙ (sym (w .1 .ensures) ∙ w .2 .left))
+    (λ w. sym is ∙ never-meet _ _ _ (sym (c .before .may-meet-in-y .ensures) ∙ w .left)) (c .if1 .came) in (
+      l .inv .0,
+      inner-next (edgesCross (front (s .args .ring .now) (s .args .edges + 1))) (s .args .edges) (o .pairs .i) (l .j)
+          (c .before .before .loop-test .taken) (l .inv .1) miss,
+    )
 
 add-i : tie.Need-add-i Inv-loop μ-loop Inv-pairs μ-pairs
 add-i c = search needs
@@ -78,7 +87,8 @@ pairs-again c =
     let o = c .before .before .before in
     let s = c .before .before .before .before .before in (
       l .inv .0,
-      outer-next (edgesCross (front (s .args .ring .now) (s .args .edges + 1))) (s .args .edges) (o .pairs .i) (c .before .before .pairs-test .taken)
+      outer-next (edgesCross (front (s .args .ring .now) (s .args .edges + 1))) (s .args .edges) (o .pairs .i)
+          (c .before .before .pairs-test .taken)
           (o .pairs .inv .1)
           (λ q a b. l .inv .1 .clear q a (omega (arith, c .loop-test .left))),
     )
@@ -88,7 +98,8 @@ returns c =
     let o = c .before in
     let s = c .before .before .before in
     o .pairs .inv .0
-    ∙ scan-none (edgesCross (front (s .args .ring .now) (s .args .edges + 1))) (s .args .edges) (λ p l. o .pairs .inv .1 .clear p (omega (arith, c .pairs-test .left)))
+    ∙ scan-none (edgesCross (front (s .args .ring .now) (s .args .edges + 1))) (s .args .edges)
+    (λ p l. o .pairs .inv .1 .clear p (omega (arith, c .pairs-test .left)))
     ∙ sym (first-front (s .args .ring .now) (s .args .edges) (s .pre .0))
 
 returns-2 : tie.Need-returns-2 Inv-loop μ-loop Inv-pairs μ-pairs
@@ -96,10 +107,12 @@ returns-2 c =
     let l = c .before .before .before .before .before .loop in
     let o = c .before .before .before .before .before .before .before in
     let s = c .before .before .before .before .before .before .before .before .before in
-    let is = edges-front (s .args .ring .now) (s .args .edges) (s .pre .0) (o .pairs .i) (l .j) (c .before .before .before .before .before .before .pairs-test .taken)
+    let is = edges-front (s .args .ring .now) (s .args .edges) (s .pre .0) (o .pairs .i) (l .j)
+    (c .before .before .before .before .before .before .pairs-test .taken)
     (c .before .before .before .before .loop-test .taken) in
     sym (first-front (s .args .ring .now) (s .args .edges) (s .pre .0)
-    ∙ sym (scan-here (edgesCross (front (s .args .ring .now) (s .args .edges + 1))) (s .args .edges) (o .pairs .i) (l .j) (l .inv .1 .after) (c .before .before .before .before .loop-test .taken)
+    ∙ sym (scan-here (edgesCross (front (s .args .ring .now) (s .args .edges + 1))) (s .args .edges) (o .pairs .i) (l .j) (l .inv .1 .after)
+    (c .before .before .before .before .loop-test .taken)
     (o .pairs .inv .1 .clear) (l .inv .1 .clear)
     (sym is ∙ (sym (c .before .edges-cross .ensures) ∙ c .if2 .taken))))
 

@@ -20,8 +20,12 @@ enum-known-route c = search needs
 overlay-or-dropped-requires : tie.Need-overlay-or-dropped-requires
 overlay-or-dropped-requires c κs =
     let a = c .before .before .before .before .before .before .before .before .before .args in
-    let p = c .before .before .before .before .before .before .before .before .before .pre in
-    (p .within, p .accepted, overlay-room (partAt (now (a .frame)) (a .at)) _ _ (some-rings (now (a .frame)) (a .at) (p .within) (p .accepted)) (p .output))
+    let p = c .before .before .before .before .before .before .before .before .before .pre in (
+      p .within,
+      p .accepted,
+      overlay-room (partAt (now (a .frame)) (a .at)) _ _
+          (some-rings (now (a .frame)) (a .at) (p .within) (p .accepted)) (p .output),
+    )
 
 enum-known-route-2 : tie.Need-enum-known-route-2
 enum-known-route-2 c = search needs

@@ -62,12 +62,18 @@ same-length c = search needs
 returns-2 : tie.Need-returns-2
 unfolding overlayOrDropped
 returns-2 c =
-    let a = c .before .before .before .before .before .before .before .before .before .before .before .before .before .before .before .before .before .before .before .args in
+    let a = c .before .before .before .before .before .before .before .before .before .before .before .before .before .before .before
+    .before .before .before .before .args in
     let e : anyHugeRing (partAt (now (a .frame)) (a .at)) ≡ false =
-    sym (c .before .before .before .before .before .before .before .before .before .before .before .before .before .before .before .before .part-has-huge .ensures ∙ huge-in (readPart (drop (a .at) (now (a .frame))))) ∙ c .before .before .before .before .before .before .before .before .before .before .before .before .before .before .before .if1 .left in (
+    sym (c .before .before .before .before .before .before .before .before .before .before .before .before .before .before .before .before
+    .part-has-huge .ensures ∙ huge-in (readPart (drop (a .at) (now (a .frame))))) ∙ c .before .before .before .before .before .before
+    .before .before .before .before .before .before .before .before .before .if1 .left in (
       rw e (ap (λ (k : ℕ). Listed k) (omega (arith, overlay-length (a .index) (a .reason)))),
-      rw e (overlay-written (a .index) (a .reason) _ (c .before .before .before .before .before .before .before .before .before .before .before .before .before .before .reason-detail .ensures) (a .to) (now (a .out)) _ _ _
-          (c .before .before .before .before .before .before .before .before .before .before .before .before .put-part .ensures) (c .before .before .before .before .before .before .before .put-count .ensures) (c .before .before .put-count2 .ensures)),
+      rw e (overlay-written (a .index) (a .reason) _
+          (c .before .before .before .before .before .before .before .before .before .before .before .before .before .before .reason-detail
+          .ensures) (a .to) (now (a .out)) _ _ _
+          (c .before .before .before .before .before .before .before .before .before .before .before .before .put-part .ensures)
+          (c .before .before .before .before .before .before .before .put-count .ensures) (c .before .before .put-count2 .ensures)),
     )
 
 pub overlay-or-dropped-spec : {M : Type 1} → statement M

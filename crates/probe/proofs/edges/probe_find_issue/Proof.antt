@@ -20,7 +20,9 @@ find-issue-requires c κs =
 issue-code-requires : tie.Need-issue-code-requires
 issue-code-requires c κs =
     let s = c .before .before .before .before .before .before .before .before .before .before .before .before .before .before .args in
-    let few = few-of (length (s .ring .now) / 2) (s .work .now) (s .order .now) (sym (c .before .before .before .before .before .before .before .before .has-room .ensures) ∙ c .before .before .before .before .before .before .before .if1 .taken) in
+    let few = few-of (length (s .ring .now) / 2) (s .work .now) (s .order .now)
+    (sym (c .before .before .before .before .before .before .before .before .has-room .ensures) ∙ c .before .before .before .before .before
+    .before .before .if1 .taken) in
     rw (c .before .before .before .before .find-issue .ensures .0) (issue-fits (s .ring .now) _ few)
 
 same-length : tie.Need-same-length

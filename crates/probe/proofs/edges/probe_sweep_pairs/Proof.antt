@@ -24,14 +24,21 @@ sub-sweep-pairs c = search needs
 sweep-pairs-requires : tie.Need-sweep-pairs-requires
 sweep-pairs-requires c κs =
     let s = c .before .before .before .before .before .before .before .before .before .before .args in
-    one-edge-less (λ n. IssueRoom n (s .ring .now) (s .work .now) (s .order .now)) (length (s .ring .now) / 2) (c .before .before .before .before .before .before .if1 .left)
-    (room-of (s .ring .now) (s .work .now) (s .order .now) (sym (c .before .before .before .has-room .ensures) ∙ c .before .before .if2 .taken))
+    one-edge-less (λ n. IssueRoom n (s .ring .now) (s .work .now) (s .order .now)) (length (s .ring .now) / 2)
+    (c .before .before .before .before .before .before .if1 .left)
+    (room-of (s .ring .now) (s .work .now) (s .order .now)
+    (sym (c .before .before .before .has-room .ensures) ∙ c .before .before .if2 .taken))
 
 pair-code-requires : tie.Need-pair-code-requires
 pair-code-requires c κs =
-    let s = c .before .before .before .before .before .before .before .before .before .before .before .before .before .before .before .args in
-    let few = few-of (length (s .ring .now) / 2) (s .work .now) (s .order .now) (sym (c .before .before .before .before .before .before .before .before .has-room .ensures) ∙ c .before .before .before .before .before .before .before .if2 .taken) in
-    pair-fits (s .ring .now) (length (s .ring .now) / 2) _ few (omega arith) (c .before .before .before .before .before .before .before .before .before .before .before .if1 .left) (c .before .before .before .before .sweep-pairs .ensures .0)
+    let s = c .before .before .before .before .before .before .before .before .before .before .before .before .before .before .before .args
+    in
+    let few = few-of (length (s .ring .now) / 2) (s .work .now) (s .order .now)
+    (sym (c .before .before .before .before .before .before .before .before .has-room .ensures) ∙ c .before .before .before .before .before
+    .before .before .if2 .taken) in
+    pair-fits (s .ring .now) (length (s .ring .now) / 2) _ few (omega arith)
+    (c .before .before .before .before .before .before .before .before .before .before .before .if1 .left)
+    (c .before .before .before .before .sweep-pairs .ensures .0)
 
 same-length : tie.Need-same-length
 same-length c = search needs
@@ -42,9 +49,18 @@ same-length-2 c = search needs
 returns-2 : tie.Need-returns-2
 unfolding sweepAnswer
 returns-2 c =
-    let s = c .before .before .before .before .before .before .before .before .before .before .before .before .before .before .before .before .args .ring .now in
-    rw (ne-eqb _ _ (c .before .before .before .before .before .before .before .before .before .before .before .before .if1 .left), ← c .before .before .before .before .before .before .before .before .before .has-room .ensures, c .before .before .before .before .before .before .before .before .if2 .taken)
-    (c .pair-code .ensures ∙ same-pair s (length s / 2) _ (c .before .before .before .before .before .before .before .before .before .before .before .before .if1 .left) (c .before .before .before .before .before .sweep-pairs .ensures .0))
+    let s = c .before .before .before .before .before .before .before .before .before .before .before .before .before .before .before
+    .before .args .ring .now in
+    rw (
+      ne-eqb _ _ (c .before .before .before .before .before .before .before .before .before .before .before .before .if1 .left),
+      ← c
+          .before .before .before .before .before .before .before .before .before .has-room .ensures,
+      c .before .before .before .before .before
+          .before .before .before .if2 .taken,
+    )
+    (c .pair-code .ensures ∙ same-pair s (length s / 2) _
+    (c .before .before .before .before .before .before .before .before .before .before .before .before .if1 .left)
+    (c .before .before .before .before .before .sweep-pairs .ensures .0))
 
 same-length-3 : tie.Need-same-length-3
 same-length-3 c = search needs
