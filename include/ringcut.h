@@ -60,8 +60,8 @@ extern "C" {
 #define RINGCUT_MOST_FRAME_OUTPUT 50077
 
 /*
- * Why an overlay is wanted, in a frame's answer and in a slice call's code. With 7 to 10 two positions tell where, with the
- * others the positions are 0. The corners of an exterior are its coordinates, numbered from 0 as they stand, the one that closes
+ * Why an overlay is wanted, in a frame's answer and in a slice call's code. With 7 to 10 positions tell where; those that
+ * don't apply are 0. The corners of an exterior are its coordinates, numbered from 0 as they stand, the one that closes
  * it last; edge k runs from corner k to corner k + 1.
  *
  * A corner is repeated where it and the next differ by less than 1e-10 in x and in y; only the last edge may be so short. The

@@ -17,7 +17,8 @@ use Rattle.box_pairs.specs.declared.pairs.Pair.{Pair}
 use Rattle.box_pairs.specs.declared.pairs.Pair.the-variants.{None, At}
 use Rattle.box_pairs.specs.Contracts.{Positions, InOrder, Clear, Passed, atSlots}
 use Rattle.box_pairs.specs.Contracts.{pairNumber, noPair, pairOf, Held, NotBelow, LeastBefore}
-use Rattle.box_pairs.specs.Pairs.{anyPair, firstInRow, orElse, firstFrom}
+use Rattle.box_pairs.specs.Contracts.{anyPair}
+use Rattle.box_pairs.specs.Pairs.{firstInRow, orElse, firstFrom}
 use Rattle.box_pairs.proofs.Sweep.{Sweeps, pair-here, pair-none}
 
 -- ---- what the definition gives

@@ -15,14 +15,15 @@ use Rattle.tile.specs.declared.Coord.{Coord}
 use Rattle.tile.specs.Contracts.{coordAt}
 use Rattle.tile.proofs.Rings.{front-at, length-front}
 use Rattle.box_pairs.specs.declared.Issue.the-variants.{Sound, Short}
-use Rattle.box_pairs.specs.declared.Position.{Position}
-use Rattle.box_pairs.specs.declared.Position.the-variants as Positions
+use Rattle.box_pairs.specs.declared.Repeat.{Repeat}
+use Rattle.box_pairs.specs.declared.Repeat.the-variants as Repeats
 use Rattle.box_pairs.specs.declared.pairs.Pair.{Pair}
-use Rattle.box_pairs.specs.declared.pairs.Pair.the-variants as Pairs
+use Rattle.box_pairs.specs.declared.pairs.Pair.the-variants.{None, At}
 use Rattle.box_pairs.specs.Cross.{degenerate}
 use Rattle.box_pairs.specs.Contracts.{front, PairBelow, IssueBelow}
-use Rattle.box_pairs.specs.Pairs.{selfIntersecting, firstPair}
-use Rattle.box_pairs.specs.Issue.{repeated, repeatedFrom, firstRepeated, crossingAt, crossingOf, repeatedOr, issueOf, hasIssue}
+use Rattle.box_pairs.specs.Contracts.{repeated, selfIntersecting}
+use Rattle.box_pairs.specs.Pairs.{firstPair}
+use Rattle.box_pairs.specs.Issue.{repeatedFrom, firstRepeated, crossingAt, crossingOf, repeatedOr, issueOf, hasIssue}
 use Rattle.box_pairs.proofs.First.{isPair}
 use Rattle.box_pairs.proofs.Edges.{crossing-first, pair-below}
 
@@ -47,7 +48,7 @@ one-more l k z h = rw (
 )
 
 -- the same of the place
-few-place : (j : ℕ) (l : List Coord) → length l ≤ 2 → repeatedFrom j l ≡ Positions.None
+few-place : (j : ℕ) (l : List Coord) → length l ≤ 2 → repeatedFrom j l ≡ Repeats.None
 unfolding repeatedFrom
 few-place j [] h = refl
 few-place j (p ∷ []) h = refl
@@ -55,7 +56,7 @@ few-place j (p ∷ q ∷ []) h = refl
 few-place j (p ∷ q ∷ s ∷ l) h = absurd (omega arith)
 
 one-more-place : (j : ℕ) (l : List Coord) (k : ℕ) (z : Coord) → k + 2 < length l
-    → repeatedFrom j (drop k l) ≡ cond (degenerate (getD l k z) (getD l (k + 1) z)) (Positions.At j) (repeatedFrom (j + 1) (drop (k + 1) l))
+    → repeatedFrom j (drop k l) ≡ cond (degenerate (getD l k z) (getD l (k + 1) z)) (Repeats.At j) (repeatedFrom (j + 1) (drop (k + 1) l))
 unfolding repeatedFrom
 one-more-place j l k z h = rw (
   add-one j,
@@ -66,36 +67,36 @@ one-more-place j l k z h = rw (
       (suc (suc k)) z (omega arith),
 )
 
-abbrev pub isPosition : Position → Bool
-isPosition Positions.None = false
-isPosition (Positions.At k) = true
+abbrev pub isRepeat : Repeat → Bool
+isRepeat Repeats.None = false
+isRepeat (Repeats.At k) = true
 
 -- there is a first place exactly where neighbours repeat
-place-verdict : (j : ℕ) (l : List Coord) → isPosition (repeatedFrom j l) ≡ repeated l
+place-verdict : (j : ℕ) (l : List Coord) → isRepeat (repeatedFrom j l) ≡ repeated l
 unfolding repeated repeatedFrom
 place-verdict j [] = refl
 place-verdict j (p ∷ []) = refl
 place-verdict j (p ∷ q ∷ []) = refl
 place-verdict j (p ∷ q ∷ s ∷ l) = go (degenerate p q) (place-verdict (suc j) (q ∷ s ∷ l))
   where
-    go : (b : Bool) → isPosition (repeatedFrom (suc j) (q ∷ s ∷ l)) ≡ repeated (q ∷ s ∷ l) → isPosition
-        (cond b (Positions.At j) (repeatedFrom (suc j) (q ∷ s ∷ l))) ≡ b || repeated (q ∷ s ∷ l)
+    go : (b : Bool) → isRepeat (repeatedFrom (suc j) (q ∷ s ∷ l)) ≡ repeated (q ∷ s ∷ l) → isRepeat
+        (cond b (Repeats.At j) (repeatedFrom (suc j) (q ∷ s ∷ l))) ≡ b || repeated (q ∷ s ∷ l)
     go true h = refl
     go false h = h
 
-pub repeated-first : (l : List Coord) → isPosition (firstRepeated l) ≡ repeated l
+pub repeated-first : (l : List Coord) → isRepeat (firstRepeated l) ≡ repeated l
 repeated-first l = place-verdict 0 l
 
 module _ (s : List Float) (n : ℕ) (room : 2 * n ≤ length s) where
   pub repeated-next : (k : ℕ) → k + 2 < n
-      → repeatedFrom k (drop k (front s n)) ≡ cond (degenerate (coordAt s k) (coordAt s (k + 1))) (Positions.At k)
+      → repeatedFrom k (drop k (front s n)) ≡ cond (degenerate (coordAt s k) (coordAt s (k + 1))) (Repeats.At k)
       (repeatedFrom (k + 1) (drop (k + 1) (front s n)))
   repeated-next k l =
       let z : Coord = record { x = nan; y = nan } in
       one-more-place k (front s n) k z (omega (arith, length-front s n room)) ∙
       rw (front-at s n k z room (omega arith), front-at s n (k + 1) z room (omega arith))
 
-  pub repeated-end : (k : ℕ) → n ≤ k + 2 → repeatedFrom k (drop k (front s n)) ≡ Positions.None
+  pub repeated-end : (k : ℕ) → n ≤ k + 2 → repeatedFrom k (drop k (front s n)) ≡ Repeats.None
   repeated-end k l = few-place k (drop k (front s n)) (omega (arith, length-drop k (front s n), length-front s n room))
 
   -- ---- the cases
@@ -114,29 +115,29 @@ pub issue-verdict : (b : Bool) (r : List Coord) → hasIssue (issueOf b r) ≡ l
 unfolding issueOf hasIssue
 issue-verdict b r = rw (← repeated-first r, ← crossing-first r) (go (ltb (length r) 4) (firstRepeated r) b (firstPair r))
   where
-    go : (t : Bool) (x : Position) (c : Bool) (y : Pair)
-        → hasIssue (cond t Short (repeatedOr x (cond c Sound (crossingAt y)))) ≡ t || (isPosition x || (not c && isPair y))
+    go : (t : Bool) (x : Repeat) (c : Bool) (y : Pair)
+        → hasIssue (cond t Short (repeatedOr x (cond c Sound (crossingAt y)))) ≡ t || (isRepeat x || (not c && isPair y))
     go true x c y = refl
-    go false (Positions.At k) c y = refl
-    go false Positions.None true y = refl
-    go false Positions.None false Pairs.None = refl
-    go false Positions.None false (Pairs.At i j) = refl
+    go false (Repeats.At k) c y = refl
+    go false Repeats.None true y = refl
+    go false Repeats.None false None = refl
+    go false Repeats.None false (At i j) = refl
 
 -- ---- the positions that are told
 
-abbrev position-of : ℕ → Position → ℕ
-position-of z Positions.None = z
-position-of z (Positions.At k) = k
+abbrev position-of : ℕ → Repeat → ℕ
+position-of z Repeats.None = z
+position-of z (Repeats.At k) = k
 
-position-below : (j : ℕ) (l : List Coord) (k : ℕ) → repeatedFrom j l ≡ Positions.At k → k < j + length l
+position-below : (j : ℕ) (l : List Coord) (k : ℕ) → repeatedFrom j l ≡ Repeats.At k → k < j + length l
 unfolding repeatedFrom
-position-below j [] k e = absurd (never-both refl (sym (ap isPosition e)))
-position-below j (p ∷ []) k e = absurd (never-both refl (sym (ap isPosition e)))
-position-below j (p ∷ q ∷ []) k e = absurd (never-both refl (sym (ap isPosition e)))
+position-below j [] k e = absurd (never-both refl (sym (ap isRepeat e)))
+position-below j (p ∷ []) k e = absurd (never-both refl (sym (ap isRepeat e)))
+position-below j (p ∷ q ∷ []) k e = absurd (never-both refl (sym (ap isRepeat e)))
 position-below j (p ∷ q ∷ s ∷ l) k e = go (degenerate p q) (λ h. position-below (suc j) (q ∷ s ∷ l) k h) e
   where
-    go : (b : Bool) → (repeatedFrom (suc j) (q ∷ s ∷ l) ≡ Positions.At k → k < suc j + length (q ∷ s ∷ l))
-        → cond b (Positions.At j) (repeatedFrom (suc j) (q ∷ s ∷ l)) ≡ Positions.At k → k < j + length (p ∷ q ∷ s ∷ l)
+    go : (b : Bool) → (repeatedFrom (suc j) (q ∷ s ∷ l) ≡ Repeats.At k → k < suc j + length (q ∷ s ∷ l))
+        → cond b (Repeats.At j) (repeatedFrom (suc j) (q ∷ s ∷ l)) ≡ Repeats.At k → k < j + length (p ∷ q ∷ s ∷ l)
     go true later h = let z : j ≡ k = ap (position-of j) h in omega arith
     go false later h = omega (arith, later h)
 
@@ -144,10 +145,10 @@ pub issue-below : (n : ℕ) (b : Bool) (r : List Coord) → length r ≤ n → I
 unfolding issueOf
 issue-below n b r l = go (ltb (length r) 4) (firstRepeated r) refl b (firstPair r) (pair-below n r l)
   where
-    go : (t : Bool) (x : Position) → firstRepeated r ≡ x → (c : Bool) (y : Pair) → PairBelow n y
+    go : (t : Bool) (x : Repeat) → firstRepeated r ≡ x → (c : Bool) (y : Pair) → PairBelow n y
         → IssueBelow n (cond t Short (repeatedOr x (cond c Sound (crossingAt y))))
     go true x e c y h = tt
-    go false (Positions.At k) e c y h = omega (arith, position-below 0 r k e)
-    go false Positions.None e true y h = tt
-    go false Positions.None e false Pairs.None h = tt
-    go false Positions.None e false (Pairs.At i j) h = h
+    go false (Repeats.At k) e c y h = omega (arith, position-below 0 r k e)
+    go false Repeats.None e true y h = tt
+    go false Repeats.None e false None h = tt
+    go false Repeats.None e false (At i j) h = h

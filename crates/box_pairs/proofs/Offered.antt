@@ -1,16 +1,18 @@
 -- Laws that this crate offers to those above it beside its contracts. By these they know the issue of an exterior; they unfold none of it.
 -- Assumes nothing.
-use mathlib.Core.Path.{_≡_, _∙_}
+use mathlib.Core.Path.{_≡_, refl, _∙_}
 use mathlib.Core.Bool.{Bool, true, false, _||_, or-false}
 use mathlib.Core.List.{List}
 use Prim.Native.Nat.{ℕ, _+_, _<_, _≤_}
 use lib.ListN.{length, getD, drop}
 use borrow.Author.Tests.{lt-ltb, le-ltb}
 use Rattle.tile.specs.declared.Coord.{Coord}
+use Rattle.box_pairs.specs.declared.Issue.the-variants.{Sound}
 use Rattle.box_pairs.specs.Contracts.{PairBelow, IssueBelow}
 use Rattle.box_pairs.specs.Cross.{degenerate}
 use Rattle.box_pairs.specs.Pairs.{firstPair}
-use Rattle.box_pairs.specs.Issue.{repeated, issueOf, hasIssue}
+use Rattle.box_pairs.specs.Contracts.{repeated}
+use Rattle.box_pairs.specs.Issue.{issueOf, hasIssue}
 use Rattle.box_pairs.proofs.Edges as edges
 use Rattle.box_pairs.proofs.Issues as issues
 
@@ -35,6 +37,12 @@ simple-short r h = rw (lt-ltb (length r) 4 h)
 -- of 4 or more it is only neighbours that repeat
 pub simple-long : (r : List Coord) → 4 ≤ length r → hasIssue (issueOf true r) ≡ repeated r
 simple-long r h = issues.issue-verdict true r ∙ rw (le-ltb (length r) 4 h) (or-false (repeated r))
+
+-- ---- an exterior without an issue
+
+pub sound-none : hasIssue Sound ≡ false
+unfolding hasIssue
+sound-none = refl
 
 -- ---- the positions that are told
 

@@ -8,7 +8,7 @@ use native.Mathlib.Decide.{ℕ-discrete, decLt}
 use native.Mathlib.Omega.{arith}
 use lib.ListN.{getD}
 use Rattle.box_pairs.specs.Contracts.{Positions, InOrder, Clear, Passed, atSlots}
-use Rattle.box_pairs.specs.Pairs.{anyBelow, anyPair}
+use Rattle.box_pairs.specs.Contracts.{anyBelow, anyPair}
 
 -- ---- the definition
 

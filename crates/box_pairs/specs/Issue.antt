@@ -1,5 +1,5 @@
 -- What is wrong with an exterior (document 01, "Unchanged"), and where (document 02, Point 1). Definitions only.
-use mathlib.Core.Bool.{Bool, true, false, cond, _||_}
+use mathlib.Core.Bool.{Bool, true, false, cond}
 use mathlib.Core.List.{List, [], _∷_}
 use Prim.Native.Nat.{ℕ, suc}
 use lib.Dec.{ltb}
@@ -7,38 +7,32 @@ use lib.ListN.{length}
 use Rattle.tile.specs.declared.Coord.{Coord}
 use Rattle.box_pairs.specs.declared.Issue.{Issue}
 use Rattle.box_pairs.specs.declared.Issue.the-variants.{Sound, Short, Repeated, Crossing}
-use Rattle.box_pairs.specs.declared.Position.{Position}
-use Rattle.box_pairs.specs.declared.Position.the-variants as Positions
+use Rattle.box_pairs.specs.declared.Repeat.{Repeat}
+use Rattle.box_pairs.specs.declared.Repeat.the-variants as Repeats
 use Rattle.box_pairs.specs.declared.pairs.Pair.{Pair}
-use Rattle.box_pairs.specs.declared.pairs.Pair.the-variants as Pairs
+use Rattle.box_pairs.specs.declared.pairs.Pair.the-variants.{None, At}
 use Rattle.box_pairs.specs.Cross.{degenerate}
 use Rattle.box_pairs.specs.Pairs.{firstPair}
 
--- "two neighbours differ by less than 1e-10 in x and in y, the last segment excepted"
-unfoldable pub repeated : List Coord → Bool
-repeated [] = false
-repeated (p ∷ []) = false
-repeated (p ∷ q ∷ []) = false
-repeated (p ∷ q ∷ s ∷ r) = degenerate p q || repeated (q ∷ s ∷ r)
-
--- the first of the earliest such neighbours, in a list whose first position is k
-unfoldable pub repeatedFrom : ℕ → List Coord → Position
-repeatedFrom k [] = Positions.None
-repeatedFrom k (p ∷ []) = Positions.None
-repeatedFrom k (p ∷ q ∷ []) = Positions.None
-repeatedFrom k (p ∷ q ∷ s ∷ r) = cond (degenerate p q) (Positions.At k) (repeatedFrom (suc k) (q ∷ s ∷ r))
+-- the first of the earliest two neighbours that "differ by less than 1e-10 in x and in y, the last segment excepted", in a list whose
+-- first position is k
+unfoldable pub repeatedFrom : ℕ → List Coord → Repeat
+repeatedFrom k [] = Repeats.None
+repeatedFrom k (p ∷ []) = Repeats.None
+repeatedFrom k (p ∷ q ∷ []) = Repeats.None
+repeatedFrom k (p ∷ q ∷ s ∷ r) = cond (degenerate p q) (Repeats.At k) (repeatedFrom (suc k) (q ∷ s ∷ r))
 
 -- "the position, from 0, of the first of the earliest such pair"
-abbrev pub firstRepeated : List Coord → Position
+abbrev pub firstRepeated : List Coord → Repeat
 firstRepeated r = repeatedFrom 0 r
 
-abbrev pub repeatedOr : Position → Issue → Issue
-repeatedOr Positions.None issue = issue
-repeatedOr (Positions.At k) issue = Repeated k
+abbrev pub repeatedOr : Repeat → Issue → Issue
+repeatedOr Repeats.None issue = issue
+repeatedOr (Repeats.At k) issue = Repeated k
 
 abbrev pub crossingAt : Pair → Issue
-crossingAt Pairs.None = Sound
-crossingAt (Pairs.At i j) = Crossing i j
+crossingAt None = Sound
+crossingAt (At i j) = Crossing i j
 
 -- "unless `assume_simple` is set, two edges cross"; "both edge numbers, from 0 and the lower first"
 abbrev pub crossingOf : Bool → List Coord → Issue

@@ -22,8 +22,8 @@ pub enum Issue {
     Crossing(u32, u32),
 }
 
-// A position in a ring, or none.
-pub enum Position {
+// The first of two neighbours that repeat, by its position, or none.
+pub enum Repeat {
     None,
     At(u32),
 }
@@ -41,7 +41,7 @@ pub fn has_issue(issue: Issue) -> bool
 }
 
 // The first of the n coordinates that is near the next, the last segment excepted.
-fn first_repeated(ring: &[f64], n: usize) -> Position
+fn first_repeated(ring: &[f64], n: usize) -> Repeat
     requires { ⌜ (2 * n ≤ length (now ring)) × (n < 2 ^ 32) ⌝ }
     ensures { λ r. ⌜ r ≡ firstRepeated (front (now (ring .entry)) n) ⌝ }
 {
@@ -50,11 +50,11 @@ fn first_repeated(ring: &[f64], n: usize) -> Position
         let p = coord_at(ring, k);
         let q = coord_at(ring, k + 1);
         if cross::is_degenerate(p, q) {
-            return Position::At(k as u32);
+            return Repeat::At(k as u32);
         }
         k += 1;
     }
-    Position::None
+    Repeat::None
 }
 
 // The crossing in the ring of n coordinates; it is not looked for where the ring is assumed to be simple.
@@ -97,7 +97,7 @@ pub fn find_issue(
         return Issue::Short;
     }
     match first_repeated(ring, n) {
-        Position::At(k) => Issue::Repeated(k),
-        Position::None => find_crossing(ring, n, assume_simple, work, order),
+        Repeat::At(k) => Issue::Repeated(k),
+        Repeat::None => find_crossing(ring, n, assume_simple, work, order),
     }
 }

@@ -6,7 +6,7 @@ ghost use lib.Dec.{ltb};
 ghost use lib.ListN.{length};
 ghost use Rattle.box_pairs.specs.Contracts as Contracts;
 ghost use Rattle.box_pairs.specs.Contracts.{front, HasEdges, Swept, IssueRoom, Unused};
-ghost use Rattle.box_pairs.specs.Pairs.{edgesCross, selfIntersecting, firstPair};
+ghost use Rattle.box_pairs.specs.Pairs.{edgesCross, firstPair};
 use super::cross::crosses;
 use super::cross::is_apart;
 use super::merge::sort;
@@ -23,15 +23,15 @@ pub enum Pair {
 // Up to this many edges, all pairs are scanned; more are swept.
 const SCAN_LIMIT: usize = 32;
 
-// What a pair's number has the lower edge number times.
-const LOWER: u64 = 4_294_967_296;
+// A pair's number is this times the lower edge number, plus the higher.
+const PAIR_BASE: u64 = 4_294_967_296;
 
 // The number of no pair: above that of each pair.
 const NO_PAIR: u64 = u64::MAX;
 
 // Above the numbers of the pairs whose lower edge is one of the first few. Where such a pair crosses, a scan of all pairs ends within the
 // rows of these edges.
-const FEW_ROWS: u64 = 4 * LOWER;
+const FEW_ROWS: u64 = 4 * PAIR_BASE;
 
 // Whether the boxes of the edges i and j may meet in y. It is kept small so that it can be inlined into the loops; that is not proved.
 fn may_meet_in_y(ring: &[f64], i: usize, j: usize) -> bool
@@ -62,15 +62,14 @@ pub fn scan_pairs(ring: &[f64], edges: usize) -> Pair
     requires { ⌜ HasEdges edges (now ring) × (edges < 2 ^ 32) ⌝ }
     ensures { λ r. ⌜ r ≡ firstPair (front (now (ring .entry)) (edges + 1)) ⌝ }
 {
-    let mut found = Pair::None;
     let mut i = 0usize;
+    let mut j = 0usize;
     'pairs: while i < edges {
-        let mut j = i + 1;
+        j = i + 1;
         while j < edges {
             // `edges_cross` repeats this test of y: for speed, as most pairs end at the inlined test.
             if may_meet_in_y(ring, i, j) {
                 if edges_cross(ring, i, j) {
-                    found = Pair::At(i as u32, j as u32);
                     break 'pairs;
                 }
             }
@@ -78,7 +77,10 @@ pub fn scan_pairs(ring: &[f64], edges: usize) -> Pair
         }
         i += 1;
     }
-    found
+    if i < edges {
+        return Pair::At(i as u32, j as u32);
+    }
+    Pair::None
 }
 
 // Notes the lowest x of each of the first `edges` edges.
@@ -95,13 +97,13 @@ fn note_lows(ring: &[f64], work: &mut [f64], edges: usize)
     }
 }
 
-// The slot of the first edge that crosses one in a later slot, by a sweep over the first `edges` edges in the order of their lowest x,
-// which
-// stand in `lows`: past the first that starts beyond an edge's end no other meets it. Where no two edges cross, `edges`.
+// A slot before which no edge crosses one in a later slot, and `edges` exactly where no two edges cross: by a sweep over the first `edges`
+// edges in the order of their lowest x, which stand in `lows`, as far as a pair that crosses. Past the first edge that starts beyond an
+// edge's end no other meets it.
 fn sweep_sorted(ring: &[f64], lows: &[f64], order: &[u32], edges: usize) -> usize
     requires { ⌜ HasEdges edges (now ring) × (edges ≤ length (now lows)) ⌝ }
     requires { ⌜ Swept edges (front (now ring) (edges + 1)) (now lows) (now order) ⌝ }
-    ensures { λ r. ⌜ ltb r edges ≡ selfIntersecting (front (now (ring .entry)) (edges + 1)) ⌝ }
+    ensures { λ r. ⌜ ltb r edges ≡ Contracts.selfIntersecting (front (now (ring .entry)) (edges + 1)) ⌝ }
     ensures { λ r. ⌜ Contracts.Passed (Contracts.atSlots (edgesCross (front (now (ring .entry)) (edges + 1))) (now (order .entry)))
         edges r ⌝ }
 {
@@ -136,9 +138,9 @@ fn pair_number(i: usize, j: usize) -> u64
     ensures { λ r. ⌜ r ≡ Contracts.pairNumber i j ⌝ }
 {
     if i < j {
-        return LOWER * (i as u64) + (j as u64);
+        return PAIR_BASE * (i as u64) + (j as u64);
     }
-    LOWER * (j as u64) + (i as u64)
+    PAIR_BASE * (j as u64) + (i as u64)
 }
 
 fn pair_of(number: u64) -> Pair
@@ -147,7 +149,7 @@ fn pair_of(number: u64) -> Pair
     if number == NO_PAIR {
         return Pair::None;
     }
-    Pair::At((number / LOWER) as u32, (number % LOWER) as u32)
+    Pair::At((number / PAIR_BASE) as u32, (number % PAIR_BASE) as u32)
 }
 
 // The number of the edges i and j if they cross and it is below `best`, else `best`. Once a crossing is known, most pairs end at the first
@@ -169,7 +171,14 @@ fn lesser(ring: &[f64], i: usize, j: usize, best: u64) -> u64
 }
 
 // The least of `best` and the numbers of the pairs that cross, of the edge in slot p with those in later slots, by the sweep's order.
-fn least_in_row(ring: &[f64], lows: &[f64], order: &[u32], edges: usize, p: usize, best: u64) -> u64
+fn least_at_slot(
+    ring: &[f64],
+    lows: &[f64],
+    order: &[u32],
+    edges: usize,
+    p: usize,
+    best: u64,
+) -> u64
     requires { ⌜ HasEdges edges (now ring) × (edges ≤ length (now lows)) × (edges < 2 ^ 32) × (p < edges) ⌝ }
     requires { ⌜ Swept edges (front (now ring) (edges + 1)) (now lows) (now order) ⌝ }
     requires { ⌜ Contracts.LeastBefore (edgesCross (front (now ring) (edges + 1))) (now order) edges p best ⌝ }
@@ -203,7 +212,7 @@ fn least_pair(ring: &[f64], lows: &[f64], order: &[u32], edges: usize, from: usi
     let mut best = NO_PAIR;
     let mut p = from;
     while p < edges {
-        best = least_in_row(ring, lows, order, edges, p, best);
+        best = least_at_slot(ring, lows, order, edges, p, best);
         if best < FEW_ROWS {
             return scan_pairs(ring, edges);
         }
@@ -221,9 +230,9 @@ pub fn sweep_pairs(ring: &[f64], edges: usize, work: &mut [f64], order: &mut [u3
 {
     note_lows(ring, work, edges);
     sort(work, order, edges);
-    let hit = sweep_sorted(ring, work, order, edges);
-    if hit < edges {
-        return least_pair(ring, work, order, edges, hit);
+    let slot = sweep_sorted(ring, work, order, edges);
+    if slot < edges {
+        return least_pair(ring, work, order, edges, slot);
     }
     Pair::None
 }

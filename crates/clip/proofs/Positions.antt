@@ -16,7 +16,7 @@ use Rattle.box_pairs.specs.declared.Issue.{Issue}
 use Rattle.box_pairs.specs.declared.Issue.the-variants.{Sound, Short, Repeated, Crossing}
 use Rattle.box_pairs.specs.Contracts.{IssueBelow}
 use Rattle.box_pairs.specs.Issue.{issueOf, hasIssue}
-use Rattle.box_pairs.proofs.Offered.{issue-below}
+use Rattle.box_pairs.proofs.Offered.{sound-none, issue-below}
 use Rattle.sutherland_hodgman.specs.Clip.{clipRing}
 use Rattle.sutherland_hodgman.specs.Growth.{B}
 use Rattle.sutherland_hodgman.proofs.Offered.{le-B}
@@ -31,10 +31,20 @@ use Rattle.clip.specs.declared.polygon.Route.{Route}
 use Rattle.clip.specs.declared.polygon.Route.the-variants as Routes
 use Rattle.clip.specs.Polygon.{overlayIfBridge, bridgeUnlessSkipped, cutExterior, routeCut, routeExterior, reasonDetail, edgeNumber}
 use Rattle.clip.specs.Polygon.{issueDetail, mergedNumber}
-use Rattle.clip.specs.Contracts.{Within, RouteWithin}
 use Rattle.clip.proofs.Cuts.{cut-fits-room}
 
 -- ---- positions
+
+-- the positions that a reason tells are at most n
+abbrev pub Within : ℕ → Reason → Type 0
+Within n reason = (reasonDetail reason .first ≤ n) × (reasonDetail reason .second ≤ n)
+
+-- and so are those of the route, where it is an overlay
+abbrev pub RouteWithin : ℕ → Route → Type 0
+RouteWithin n Routes.Nothing = Unit {0}
+RouteWithin n Routes.Unchanged = Unit {0}
+RouteWithin n (Routes.Cut m) = Unit {0}
+RouteWithin n (Routes.Overlay reason) = Within n reason
 
 issue-within : (n short repeated crossing : ℕ) (issue : Issue) → IssueBelow n issue
     → (issueDetail short repeated crossing issue .first ≤ n) × (issueDetail short repeated crossing issue .second ≤ n)
@@ -105,8 +115,7 @@ IsIssue (Reasons.Bridge edge) = Unit {0}
 merged-issue : (document short repeated crossing : ℕ) → mergedNumber short ≡ document → mergedNumber repeated ≡ document
     → mergedNumber crossing ≡ document → (issue : Issue) → hasIssue issue ≡ true
     → mergedNumber (issueDetail short repeated crossing issue .number) ≡ document
-unfolding hasIssue
-merged-issue document short repeated crossing hs hr hc Sound h = absurd (never-both h refl)
+merged-issue document short repeated crossing hs hr hc Sound h = absurd (never-both h sound-none)
 merged-issue document short repeated crossing hs hr hc Short h = hs
 merged-issue document short repeated crossing hs hr hc (Repeated k) h = hr
 merged-issue document short repeated crossing hs hr hc (Crossing i j) h = hc

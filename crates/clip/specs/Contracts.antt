@@ -11,10 +11,9 @@ use Rattle.tile.specs.declared.TileBounds.{TileBounds}
 use Rattle.tile.specs.Ring.{coords, closed, close}
 use Rattle.tile.specs.Contracts.{Stands}
 use Rattle.sutherland_hodgman.specs.Growth.{B, mostCoordinates}
-use Rattle.clip.specs.declared.polygon.Reason.{Reason}
 use Rattle.clip.specs.declared.polygon.Route.{Route}
 use Rattle.clip.specs.declared.polygon.Route.the-variants as Routes
-use Rattle.clip.specs.Polygon.{cutExterior, reasonDetail}
+use Rattle.clip.specs.Polygon.{cutExterior}
 
 -- A ring of n coordinates at the front of a slice can be closed and cut with a scratch slice and an output of these lengths. Its first
 -- coordinate holds no NaN, so that closing closes it.
@@ -36,14 +35,3 @@ CutStands b ring Routes.Nothing after = Unit {0}
 CutStands b ring Routes.Unchanged after = Unit {0}
 CutStands b ring (Routes.Cut n) after = Stands (cutExterior b ring) n after × (0 < n)
 CutStands b ring (Routes.Overlay reason) after = Unit {0}
-
--- the positions that a reason tells are at most n
-abbrev pub Within : ℕ → Reason → Type 0
-Within n reason = (reasonDetail reason .first ≤ n) × (reasonDetail reason .second ≤ n)
-
--- and so are those of the route, where it is an overlay
-abbrev pub RouteWithin : ℕ → Route → Type 0
-RouteWithin n Routes.Nothing = Unit {0}
-RouteWithin n Routes.Unchanged = Unit {0}
-RouteWithin n (Routes.Cut m) = Unit {0}
-RouteWithin n (Routes.Overlay reason) = Within n reason

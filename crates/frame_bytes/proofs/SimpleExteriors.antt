@@ -11,7 +11,8 @@ use lib.Seq.{drop-drop}
 use Rattle.tile.specs.declared.Coord.{Coord}
 use Rattle.tile.specs.Ring.{closed, close}
 use Rattle.box_pairs.specs.Cross.{degenerate}
-use Rattle.box_pairs.specs.Issue.{repeated, issueOf, hasIssue}
+use Rattle.box_pairs.specs.Contracts.{repeated}
+use Rattle.box_pairs.specs.Issue.{issueOf, hasIssue}
 use Rattle.box_pairs.proofs.Offered.{repeated-few, repeated-from, simple-short, simple-long}
 use Rattle.rings.specs.LentRings.{exterior}
 use Rattle.frame_bytes.specs.Frame.{Reading, refused, read, coordOf, coordsOf, readPart}

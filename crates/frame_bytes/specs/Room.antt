@@ -16,7 +16,8 @@ abbrev pub coordinateBytes : ℕ
 coordinateBytes = 16
 
 -- "for each part, 6 + 2 × rings + 16 × its sum of B": 16 is the bytes of a coordinate in an answer, a parameter since answers may come to
--- say more of one
+-- say more of one. A part has a ring, so that this is no less than the 8 bytes of an overlay: "The frame part of 22 already has room for
+-- them and stays."
 unfoldable pub partRoom : ℕ → List (List Coord) → ℕ
 partRoom size rings = 6 + 2 * length rings + size * total ringRoom rings
 

@@ -15,7 +15,7 @@ use binary64::bytes::write_u16;
 use tile::Coord;
 use tile::ring::coord_at;
 
-// The bytes of a listed part before the rings of a cut.
+// The bytes that every listed part begins with.
 pub const PART: usize = 4;
 
 pub fn put_count(out: &mut [u8], at: usize, n: usize)
@@ -60,7 +60,7 @@ pub fn put_header(out: &mut [u8], number: u8, guard: usize, parts: usize)
     put_count(out, 3, parts);
 }
 
-// What each listed part has: the rings of a cut stand behind it.
+// What each listed part begins with: the ring count and rings of a cut, or the positions of an overlay, stand behind it.
 pub fn put_part(out: &mut [u8], at: usize, index: usize, number: u8, reason: u8)
     requires { ⌜ at + 4 ≤ length (now out) ⌝ }
     ensures { λ _. ⌜ now (out .exit) ≡ sets (now (out .entry)) at (Encoding.countBytes index ++ (number ∷ reason ∷ [])) ⌝ }

@@ -3,7 +3,7 @@ ghost use mathlib.Core.Path.{_≡_};
 ghost use Prim.Native.Nat.{_+_, _*_, _≤_};
 ghost use lib.ListN.{length, drop};
 ghost use Rattle.tile.specs.Ring.{close};
-ghost use Rattle.box_pairs.specs.Issue.{repeated};
+ghost use Rattle.box_pairs.specs.Contracts.{repeated};
 ghost use Rattle.frame_bytes.specs.Frame as Frames;
 ghost use Rattle.frame_bytes.specs.Contracts as Contracts;
 ghost use Rattle.frame_bytes.specs.Contracts.{soundIfSimple};

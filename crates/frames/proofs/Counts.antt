@@ -21,9 +21,8 @@ use Rattle.clip.specs.declared.polygon.Flags.{Flags}
 use Rattle.clip.specs.declared.polygon.Route.{Route}
 use Rattle.clip.specs.declared.polygon.Route.the-variants as Routes
 use Rattle.clip.specs.Polygon as Polygon
-use Rattle.clip.specs.Contracts.{RouteWithin}
 use Rattle.clip.proofs.Cuts.{cut-fits-room, hole-fits-room}
-use Rattle.clip.proofs.Positions.{exterior-within}
+use Rattle.clip.proofs.Positions.{RouteWithin, exterior-within}
 use Rattle.frame_bytes.specs.Frame.{read, mostParts, mostInRing, polygonKind, headBytes, countOf, readRing, readPart, partCountOf, Frame}
 use Rattle.frame_bytes.specs.Frame.{readFrame}
 use Rattle.frame_bytes.proofs.Coordinates.{close-grows}

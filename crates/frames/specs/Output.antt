@@ -20,7 +20,8 @@ answerByte Unchanged = 2
 answerByte (Listed guard parts) = 3
 
 module _ (coordinate : Coord → List ℕ) where
-  -- how a listed part ends: "if cut, ring count and rings as above"; "A listed overlay part now ends with two 2-byte positions"
+  -- how a listed part ends: "if cut, ring count and rings as above"; "A listed overlay part now ends with two 2-byte positions", in which
+  -- each position fits (`counts-fit` in proofs/Counts.antt)
   abbrev pub partEnd : Polygon.Routed → List ℕ
   partEnd Polygon.nothing = []
   partEnd Polygon.dropped = []

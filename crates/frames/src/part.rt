@@ -145,10 +145,10 @@ fn overlay_or_dropped(
     }
     let detail = reason_detail(reason);
     put_part(out, to, index, OVERLAY, detail.number);
-    let positions = to + PART;
-    put_count(out, positions, detail.first as usize);
-    put_count(out, positions + COUNT, detail.second as usize);
-    PartAnswer::Listed(positions + COUNT + COUNT)
+    let first_at = to + PART;
+    put_count(out, first_at, detail.first as usize);
+    put_count(out, first_at + COUNT, detail.second as usize);
+    PartAnswer::Listed(first_at + COUNT + COUNT)
 }
 
 // What becomes of the part at `at` whose exterior has this route; a cut exterior stands at the front of b.

@@ -1,8 +1,7 @@
 // The issue finder of `box_pairs`, and its scan and sweep apart, so that they can be compared on one ring. Each answers with one number:
 // what it found, 2^8 times the first position and 2^32 times the second.
-// The issue finder and the sweep test the room of `work` and `order` first; the scan needs none and tests none. Where the room is short,
-// where
-// a ring has 2^24 coordinates or more, and for a scan or sweep of a ring of none, the highest number is answered.
+// The issue finder and the sweep test the room of `work` and `order` first; the scan needs none and tests none. The highest number is
+// answered where the room is short, where a ring has 2^24 coordinates or more, and by scan and sweep of a ring of none.
 // What the calls leave in `work` and `order` is left open here.
 ghost use mathlib.Core.Path.{_≡_};
 ghost use Prim.Native.Nat.{_<_, _^_};

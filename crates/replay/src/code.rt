@@ -4,6 +4,7 @@ ghost use Prim.Native.Nat.{_^_, _<_};
 ghost use Rattle.sutherland_hodgman.specs.RingCall.{ringCallCode};
 ghost use Rattle.slices.specs.SliceCall.{sliceCallCode};
 ghost use Rattle.replay.specs.Code.{bitsOf, isRefusal, ringNumbers, ringsWritten};
+use slices::call::FIRST_PLACE;
 use slices::call::SliceAnswer;
 use slices::call::answer_code;
 use sutherland_hodgman::call::Refusal;
@@ -75,5 +76,5 @@ pub fn rings_of(code: u64) -> usize
     if code % 256 != 4 {
         return 0;
     }
-    (code / 65536) as usize
+    (code / FIRST_PLACE) as usize
 }

@@ -1,11 +1,11 @@
--- The answer of a slice call and what it leaves; its number is small, as a cut has at most as many rings as the polygon, and tells the
--- guard count. Assumes nothing.
+-- The answer of a slice call and what it leaves; each field can be read from its number, which tells the
+-- guard count too. Assumes nothing.
 use mathlib.Core.Path.{_≡_, refl}
 use mathlib.Core.Bool.{Bool, true, false, cond}
 use mathlib.Core.List.{List, [], _∷_}
-use Prim.Native.Nat.{ℕ, suc, _^_, _<_, _≤_, zero-le}
+use Prim.Native.Nat.{ℕ, suc, _+_, _/_, _%_, _^_, _<_, _≤_, zero-le}
 use native.Mathlib.Omega.{arith}
-use lib.Dec.{lit≤}
+use lib.Dec.{lit<, lit≤}
 use lib.Ieee.{Float}
 use lib.IntN.{ℤ, pos}
 use lib.ListN.{length, replicate}
@@ -36,9 +36,8 @@ use Rattle.clip.specs.declared.polygon.Route.{Route}
 use Rattle.clip.specs.declared.polygon.Route.the-variants as Routes
 use Rattle.clip.specs.declared.polygon.PolygonAnswer.{PolygonAnswer}
 use Rattle.clip.specs.Polygon.{cutHole, unlessNone, cutHoles, cutRings, overlayOrDropped, routed, routeExterior, routeRect, route, Routed}
-use Rattle.clip.specs.Polygon.{nothing, dropped, unchanged, cut, overlay, issueDetail, reasonDetail, answerOf, told}
-use Rattle.clip.specs.Contracts.{RouteWithin}
-use Rattle.clip.proofs.Positions.{exterior-within}
+use Rattle.clip.specs.Polygon.{nothing, dropped, unchanged, cut, overlay, detail, issueDetail, reasonDetail, answerOf, told}
+use Rattle.clip.proofs.Positions.{RouteWithin, exterior-within}
 use Rattle.slices.specs.declared.call.SliceAnswer.{SliceAnswer}
 use Rattle.slices.specs.declared.call.SliceAnswer.the-variants.{Refused, Answered}
 use Rattle.slices.specs.declared.call.RoomCheck.{RoomCheck}
@@ -91,29 +90,53 @@ unfolding total
 exterior-most [] = omega arith
 exterior-most (r ∷ rings) = omega arith
 
--- a position is at most what the largest exterior has room for when it is cut, which has 20 bits
+-- the fields of an answer have the bits that its number has for them; a position is at most what the largest exterior has room for when it
+-- is cut, which has 20
+record Fields (answer : PolygonAnswer) : Type 0 where
+  number : told answer .number < 2 ^ 8
+  reason : told answer .reason .number < 2 ^ 8
+  rings-or-first : told answer .rings + told answer .reason .first < 2 ^ 24
+  second : told answer .reason .second < 2 ^ 20
+
+no-fields : (n : ℕ) → n < 2 ^ 8 → (rings : ℕ) → rings < 2 ^ 24 → (answer : PolygonAnswer) → told answer .number ≡ n
+    → told answer .reason ≡ detail 0 0 0 → told answer .rings ≡ rings → Fields answer
+no-fields n hn rings hr answer en ed er = record {
+  number = omega (arith, en);
+  reason = rw ed (lit< tt);
+  rings-or-first = rw (ed, er) (omega arith);
+  second = rw ed (lit< tt);
+}
+
 module _ (b : TileBounds) (rings : List (List Coord)) (few : length rings ≤ mostRings)
     (small : length (exterior rings) ≤ mostCoordinates) where
-  routed-below : (to : Route) → RouteWithin (B (length (exterior rings))) to → answerCode (answerOf (routed to b rings)) < 2 ^ 60
+  routed-fields : (to : Route) → RouteWithin (B (length (exterior rings))) to → Fields (answerOf (routed to b rings))
   unfolding overlayOrDropped
-  routed-below Routes.Nothing w = omega arith
-  routed-below Routes.Unchanged w = omega arith
-  routed-below (Routes.Cut n) w = omega (arith, rings-count b rings)
-  routed-below (Routes.Overlay reason) w = go (anyHugeRing rings)
+  routed-fields Routes.Nothing w = no-fields 0 (lit< tt) 0 (lit< tt) _ refl refl refl
+  routed-fields Routes.Unchanged w = no-fields 2 (lit< tt) 0 (lit< tt) _ refl refl refl
+  routed-fields (Routes.Cut n) w =
+      no-fields 4 (lit< tt) (length (cutRings b rings)) (omega (arith, rings-count b rings)) _ refl refl refl
+  routed-fields (Routes.Overlay reason) w = go (anyHugeRing rings)
     where
-      go : (t : Bool) → answerCode (answerOf (cond t dropped (overlay reason))) < 2 ^ 60
-      go true = omega arith
-      go false = omega (arith, reason-number reason, w .0, w .1, B-le (length (exterior rings)) small)
+      go : (t : Bool) → Fields (answerOf (cond t dropped (overlay reason)))
+      go true = no-fields 1 (lit< tt) 0 (lit< tt) _ refl refl refl
+      go false =
+          let most = B-le (length (exterior rings)) small in
+          record {
+            number = lit< tt;
+            reason = omega (arith, reason-number reason);
+            rings-or-first = omega (arith, w .0);
+            second = omega (arith, w .1);
+          }
 
-  route-below : (flags : Flags) → answerCode (answerOf (route flags b rings)) < 2 ^ 60
+  route-fields : (flags : Flags) → Fields (answerOf (route flags b rings))
   unfolding route routeRect
-  route-below flags = go (rectangle rings)
+  route-fields flags = go (rectangle rings)
     where
-      go : (r : Rect) → answerCode (answerOf (routeRect flags r b rings)) < 2 ^ 60
-      go Rects.Nothing = omega arith
-      go Rects.NotFinite = omega arith
+      go : (r : Rect) → Fields (answerOf (routeRect flags r b rings))
+      go Rects.Nothing = no-fields 0 (lit< tt) 0 (lit< tt) _ refl refl refl
+      go Rects.NotFinite = no-fields 1 (lit< tt) 0 (lit< tt) _ refl refl refl
       go (Rects.Box w s e n) =
-          routed-below (routeExterior flags (Rects.Box w s e n) b (exterior rings))
+          routed-fields (routeExterior flags (Rects.Box w s e n) b (exterior rings))
           (exterior-within flags (Rects.Box w s e n) b (exterior rings))
 
 -- ---- the call
@@ -142,15 +165,33 @@ passed (Fails r) to answer guards e = absurd (let z : _≡_ {A = ℕ} 0 1 = cc i
 passed Passes to answer guards e = (refl, cc)
 
 module _ (flags : Flags) (bounds : TileBounds) (buffer : Float) (s : List Float) (ns : List ℕ) (lent : PolygonSlices) where
-  pub answer-below : (answer : PolygonAnswer) (guards : ℕ) → sliceCallAnswer flags bounds buffer s ns lent ≡ Answered answer guards
-      → answerCode answer < 2 ^ 60
+  answer-fields : (answer : PolygonAnswer) (guards : ℕ) → sliceCallAnswer flags bounds buffer s ns lent ≡ Answered answer guards
+      → Fields answer
   unfolding sliceCallAnswer routeLent
-  answer-below answer guards e =
+  answer-fields answer guards e =
       let p = passed (sliceCallCheck s ns lent) (routeLent flags bounds buffer s ns) answer guards e in
       let m = passes-room ns s _ _ _ _ (p .0) .measurable in
       let few : length (closedRings ns s) ≤ mostRings = omega (arith, length-closed ns s, m .lent .few) in
       let small : length (exterior (closedRings ns s)) ≤ mostCoordinates = omega (arith, exterior-most (closedRings ns s), m .small) in
-      rw (← p .1) (route-below (buffered bounds buffer) (closedRings ns s) few small flags)
+      rw (← p .1) (route-fields (buffered bounds buffer) (closedRings ns s) few small flags)
+
+  pub answer-below : (answer : PolygonAnswer) (guards : ℕ) → sliceCallAnswer flags bounds buffer s ns lent ≡ Answered answer guards
+      → answerCode answer < 2 ^ 60
+  answer-below answer guards e =
+      let f = answer-fields answer guards e in omega (arith, f .number, f .reason, f .rings-or-first, f .second)
+
+  -- each field can be read from the number
+  pub answer-read : (answer : PolygonAnswer) (guards : ℕ) → sliceCallAnswer flags bounds buffer s ns lent ≡ Answered answer guards
+      → (answerCode answer % 2 ^ 8 ≡ told answer .number) × (answerCode answer / 2 ^ 8 % 2 ^ 8 ≡ told answer .reason .number)
+      × (answerCode answer / 2 ^ 16 % 2 ^ 24 ≡ told answer .rings + told answer .reason .first)
+      × (answerCode answer / 2 ^ 40 ≡ told answer .reason .second)
+  answer-read answer guards e =
+      let f = answer-fields answer guards e in (
+        omega (arith, f .number, f .reason, f .rings-or-first, f .second),
+        omega (arith, f .number, f .reason, f .rings-or-first, f .second),
+        omega (arith, f .number, f .reason, f .rings-or-first, f .second),
+        omega (arith, f .number, f .reason, f .rings-or-first, f .second),
+      )
 
   -- the number that is answered tells the guard count
   pub guards-told : (r : SliceAnswer) (code : ℤ) → r ≡ sliceCallAnswer flags bounds buffer s ns lent → code ≡ sliceCallCode r

@@ -117,8 +117,9 @@ sliceCallSlices flags bounds buffer coords lengths lent =
 
 -- ---- answers as numbers
 
--- number, reason, rings or first position, and second position in one number, which tells the guard count too (`guardsIn`): a cut has no
--- positions and an overlay no rings, so that these share a place
+-- number, reason, rings or first position, and second position in one number, which tells the guard count too (`guardsIn`). A cut has no
+-- positions and an overlay no rings, so that these share a place; of every answer each field can be read back (`answer-read` in
+-- proofs/Answers.antt).
 abbrev pub answerCode : PolygonAnswer → ℕ
 answerCode answer =
     let reason = told answer .reason in

@@ -34,6 +34,13 @@ use sutherland_hodgman::call::MOST_COORDINATES;
 use sutherland_hodgman::call::Refusal;
 use tile::TileBounds;
 
+// What an answer's number has the reason times, a cut's rings or an overlay's first position, and the second position.
+const REASON_PLACE: u64 = 256;
+
+pub const FIRST_PLACE: u64 = 65_536;
+
+const SECOND_PLACE: u64 = 1_099_511_627_776;
+
 // The answer of a slice call: a refusal, or what becomes of the polygon and its guard count.
 pub enum SliceAnswer {
     Refused(Refusal),
@@ -378,11 +385,11 @@ fn overlay_code(reason: Reason) -> u64
     requires { ⌜ answerCode (PolygonAnswer.Overlay reason) < 2 ^ 64 ⌝ }
     ensures { λ r. ⌜ r ≡ answerCode (PolygonAnswer.Overlay reason) ⌝ }
 {
-    let told = reason_detail(reason);
+    let detail = reason_detail(reason);
     OVERLAY as u64
-        + 256 * told.number as u64
-        + 65_536 * told.first as u64
-        + 1_099_511_627_776 * told.second as u64
+        + REASON_PLACE * detail.number as u64
+        + FIRST_PLACE * detail.first as u64
+        + SECOND_PLACE * detail.second as u64
 }
 
 // An answer as one number: what it is, 2^8 times the reason of an overlay, 2^16 times the count of a cut's rings or an overlay's first
@@ -395,7 +402,7 @@ pub fn answer_code(answer: PolygonAnswer) -> u64
         PolygonAnswer::Nothing => NOTHING as u64,
         PolygonAnswer::Dropped => DROPPED as u64,
         PolygonAnswer::Unchanged => UNCHANGED as u64,
-        PolygonAnswer::Cut(rings) => CUT as u64 + 65_536 * rings as u64,
+        PolygonAnswer::Cut(rings) => CUT as u64 + FIRST_PLACE * rings as u64,
         PolygonAnswer::Overlay(reason) => overlay_code(reason),
     }
 }

@@ -28,8 +28,8 @@ loop-holds c =
     let s = c .before .before .before in
     rows-start (edgesCross (ring-of s)) (s .args .order .now) (s .args .edges) (s .args .from) (s .pre .1 .1)
 
-least-in-row-requires : tie.Need-least-in-row-requires Inv-loop μ-loop
-least-in-row-requires c κs =
+least-at-slot-requires : tie.Need-least-at-slot-requires Inv-loop μ-loop
+least-at-slot-requires c κs =
     let s = c .before .before .before .before .before in
     ((s .pre .0 .0, s .pre .0 .1, s .pre .0 .2, c .loop-test .taken), (s .pre .1 .0, c .before .loop .inv))
 
@@ -48,7 +48,7 @@ loop-less : tie.Need-loop-less Inv-loop μ-loop
 loop-less c = search needs
 
 loop-again : tie.Need-loop-again Inv-loop μ-loop
-loop-again c = c .before .least-in-row .ensures
+loop-again c = c .before .least-at-slot .ensures
 
 pair-of-requires : tie.Need-pair-of-requires Inv-loop μ-loop
 pair-of-requires c κs = search needs
@@ -72,7 +72,7 @@ least-pair-spec =
     Inv-loop
     μ-loop
     loop-holds
-    least-in-row-requires
+    least-at-slot-requires
     scan-pairs-requires
     returns
     add-p

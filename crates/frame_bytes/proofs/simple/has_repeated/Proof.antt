@@ -8,7 +8,7 @@ use lib.ListN.{drop}
 use borrow.Author.Needs.{needs}
 use Rattle.tile.specs.Ring.{close}
 use Rattle.box_pairs.specs.Cross.{degenerate}
-use Rattle.box_pairs.specs.Issue.{repeated}
+use Rattle.box_pairs.specs.Contracts.{repeated}
 use Rattle.frame_bytes.specs.Frame.{coordOf, coordsOf}
 use Rattle.frame_bytes.proofs.Coordinates.{close-grows}
 use Rattle.frame_bytes.proofs.SimpleExteriors.{repeated-next, repeated-end}

@@ -32,8 +32,8 @@ reason-detail-requires c κs = search needs
 put-part-requires : tie.Need-put-part-requires
 put-part-requires c κs = search needs
 
-add-positions : tie.Need-add-positions
-add-positions c = search needs
+add-first-at : tie.Need-add-first-at
+add-first-at c = search needs
 
 cast-put-count : tie.Need-cast-put-count
 cast-put-count c = search needs
@@ -84,7 +84,7 @@ overlay-or-dropped-spec =
     returns
     reason-detail-requires
     put-part-requires
-    add-positions
+    add-first-at
     cast-put-count
     put-count-requires
     add-put-count

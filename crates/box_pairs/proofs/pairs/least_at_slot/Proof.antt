@@ -1,4 +1,4 @@
--- `pairs::least_in_row` meets its contract. The loop keeps a number of a crossing pair that is at most that of each crossing pair passed;
+-- `pairs::least_at_slot` meets its contract. The loop keeps a number of a crossing pair that is at most that of each crossing pair passed;
 -- where it breaks off, none follows. Assumes nothing.
 use mathlib.Core.Path.{_≡_, sym, ap₂, _∙_}
 use mathlib.Core.List.{List}
@@ -14,8 +14,8 @@ use Rattle.box_pairs.specs.Pairs.{edgesCross}
 use Rattle.box_pairs.proofs.Sweep.{Sweeps}
 use Rattle.box_pairs.proofs.First.{Row, row-start, row-next, rows-next, row-stop}
 use Rattle.box_pairs.proofs.Edges.{lesser-front, high-front, stops, edge-sweeps}
-use Rattle.box_pairs.proofs.pairs.least_in_row.Statement.{statement}
-use Rattle.box_pairs.proofs.pairs.least_in_row.Tie as tie
+use Rattle.box_pairs.proofs.pairs.least_at_slot.Statement.{statement}
+use Rattle.box_pairs.proofs.pairs.least_at_slot.Tie as tie
 
 abbrev Inv-loop : tie.InvT-loop
 Inv-loop ring lows order n p best i end least₀ q₀ least q = Row (edgesCross (front ring (n + 1))) order n p q least
@@ -171,8 +171,8 @@ returns-2 c =
     (s .args .order .now) (s .pre .1 .0 .positions) (s .pre .1 .0 .sorted)
     (s .args .p) (l .q) (l .least) taken (l .inv) (sym (stop-test o (l .q) taken) ∙ c .if1 .taken))
 
-pub least-in-row-spec : {M : Type 1} → statement M
-least-in-row-spec =
+pub least-at-slot-spec : {M : Type 1} → statement M
+least-at-slot-spec =
     tie.close
     (tie.spec
     Inv-loop
