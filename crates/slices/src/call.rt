@@ -34,7 +34,7 @@ use sutherland_hodgman::call::MOST_COORDINATES;
 use sutherland_hodgman::call::Refusal;
 use tile::TileBounds;
 
-// What an answer's number has the reason times, a cut's rings or an overlay's first position, and the second position.
+// By what an answer's number multiplies the reason; a cut's rings or an overlay's first position; an overlay's second position.
 const REASON_PLACE: u64 = 256;
 
 pub const FIRST_PLACE: u64 = 65_536;
