@@ -83,7 +83,11 @@ impl Canvas {
     }
 
     pub fn circle(&mut self, class: &str, centre: Coord, radius: f64) {
-        let (x, y) = self.place(centre);
+        self.dot(class, self.place(centre), radius);
+    }
+
+    /// A circle whose centre is given in pixels.
+    pub fn dot(&mut self, class: &str, (x, y): (f64, f64), radius: f64) {
         self.put(format_args!("<circle class=\"{class}\" cx=\"{x}\" cy=\"{y}\" r=\"{radius}\"/>\n"));
     }
 

@@ -12,9 +12,12 @@ use crate::scene::{bounds_of, Entry};
 const REPEATED: u8 = 7;
 const CROSSING: u8 = 8;
 
-/// Pixels around a repeated corner, and from a marked point to the number beside it.
-const RADIUS: f64 = 7.0;
+/// Pixels around a repeated corner, and from a marked point to the words beside it.
+pub const RADIUS: f64 = 7.0;
 const BESIDE: f64 = 16.0;
+
+/// The class of what is marked by a circle, in the legend too.
+pub const CIRCLED: &str = "repeated";
 
 /// Marks what the reasons of these parts tell.
 pub fn draw(canvas: &mut Canvas, frame: &Frame, parts: &[ListedPart]) -> Vec<Entry> {
@@ -25,7 +28,7 @@ pub fn draw(canvas: &mut Canvas, frame: &Frame, parts: &[ListedPart]) -> Vec<Ent
         match reason.number {
             REPEATED => {
                 mark_corner(canvas, exterior, reason.first as usize);
-                legend.push(("repeated", "repeated corner"));
+                legend.push((CIRCLED, "repeated corner"));
             }
             CROSSING => {
                 mark_edge(canvas, exterior, reason.first as usize);
@@ -42,19 +45,19 @@ pub fn draw(canvas: &mut Canvas, frame: &Frame, parts: &[ListedPart]) -> Vec<Ent
 fn mark_corner(canvas: &mut Canvas, exterior: &Ring, number: usize) {
     let middle = middle(exterior);
     for before in 0..number {
-        label(canvas, "small", corner(exterior, before), middle, before);
+        label(canvas, "small", corner(exterior, before), middle, &before.to_string());
     }
-    canvas.circle("repeated", corner(exterior, number), RADIUS);
-    label(canvas, "mark", corner(exterior, number), middle, number);
+    canvas.circle(CIRCLED, corner(exterior, number), RADIUS);
+    label(canvas, "mark", corner(exterior, number), middle, &number.to_string());
 }
 
-/// The edge with its number beyond the end that lies further out, where fewer lines are.
+/// The edge with its number beyond the end that lies further out, where fewer lines are. A bare number there would be the corner's.
 fn mark_edge(canvas: &mut Canvas, exterior: &Ring, number: usize) {
     let ends = (corner(exterior, number), corner(exterior, number + 1));
     canvas.line("crossing", ends);
     let middle = middle(exterior);
     let (inner, outer) = if distance(middle, ends.0) < distance(middle, ends.1) { ends } else { (ends.1, ends.0) };
-    label(canvas, "mark", outer, inner, number);
+    label(canvas, "mark", outer, inner, &format!("edge {number}"));
 }
 
 /// A corner of the closed exterior: the one behind the last that was sent is the first.
@@ -71,11 +74,11 @@ fn distance((x, y): Coord, (other_x, other_y): Coord) -> f64 {
     (other_x - x).hypot(other_y - y)
 }
 
-/// The number beside a point, in the direction that leads away from another.
-fn label(canvas: &mut Canvas, class: &str, point: Coord, away_from: Coord, number: usize) {
+/// Words beside a point, in the direction that leads away from another.
+fn label(canvas: &mut Canvas, class: &str, point: Coord, away_from: Coord, words: &str) {
     let (x, y) = canvas.place(point);
     let (from_x, from_y) = canvas.place(away_from);
     let length = distance((from_x, from_y), (x, y));
     let (right, down) = ((x - from_x) / length, (y - from_y) / length);
-    canvas.text(class, "middle", (x + BESIDE * right, y + BESIDE * down + 4.0), &number.to_string());
+    canvas.text(class, "middle", (x + BESIDE * right, y + BESIDE * down + 4.0), words);
 }

@@ -92,7 +92,10 @@ fn draw_legend(canvas: &mut Canvas, top: f64, legend: &[Entry]) -> usize {
     for (n, (class, words)) in legend.iter().enumerate() {
         let x = 24.0 + (n % COLUMNS) as f64 * (WIDTH - 24.0) / COLUMNS as f64;
         let y = top + (n / COLUMNS) as f64 * ROW;
-        canvas.swatch(class, (x, y), (20.0, 12.0));
+        match *class {
+            marks::CIRCLED => canvas.dot(class, (x + 10.0, y + 6.0), marks::RADIUS),
+            _ => canvas.swatch(class, (x, y), (20.0, 12.0)),
+        }
         canvas.text("legend", "start", (x + 28.0, y + 10.0), words);
     }
     legend.len().div_ceil(COLUMNS)
