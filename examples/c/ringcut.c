@@ -80,7 +80,10 @@ static void print_reason(int64_t code, const double *exterior)
         printf("edges %" PRId64 " and %" PRId64 " of the cut cross\n", first, second);
         break;
     default:
-        printf("%s\n", without_positions[reason]);
+        if (reason >= RINGCUT_SHORT && reason <= RINGCUT_ALONG_TOP)
+            printf("%s\n", without_positions[reason]);
+        else
+            printf("reason %" PRId64 ", which this program doesn't know\n", reason);
     }
 }
 
@@ -98,7 +101,7 @@ static int cut(uint8_t flags, const double *coords, size_t coords_len, const uin
     }
     switch (code & 0xff) {
     case RINGCUT_CUT:
-        print_rings(out, out_lengths, code >> 16);
+        print_rings(out, out_lengths, code >> 16 & 0xffffff);
         break;
     case RINGCUT_OVERLAY:
         print_reason(code, coords);
