@@ -3,6 +3,10 @@
 use crate::room::MOST_CUT;
 use crate::{Reason, Refusal};
 
+/// No exterior has more edges, cut or not: a ring has one fewer than it has corners, the closing one counted. A repeated corner has a
+/// lower number than the last edge: for it this limit is looser by one than need be.
+const MOST_EDGES: usize = MOST_CUT - 1;
+
 /// What becomes of a polygon.
 #[derive(Clone, Copy, Debug, PartialEq, Eq, Hash)]
 pub enum Answer {
@@ -43,7 +47,7 @@ impl Answer {
             (1, 0, 0, 0) => Some(Answer::Dropped),
             (2, 0, 0, 0) => Some(Answer::Unchanged),
             (4, 0, rings @ 1..=64, 0) => Some(Answer::Cut { rings }),
-            (5, reason, first @ 0..MOST_CUT, second @ 0..MOST_CUT) => {
+            (5, reason, first @ 0..MOST_EDGES, second @ 0..MOST_EDGES) => {
                 Reason::from_numbers(reason, first, second).map(Answer::Overlay)
             }
             _ => None,
@@ -86,11 +90,11 @@ mod tests {
     fn a_code_holds_an_overlays_positions() {
         for (of_exterior, repeated, crossing) in [(Reason::Input as fn(Issue) -> Reason, 7, 8), (Reason::Cut, 9, 10)] {
             let overlay = |issue| Ok(Answer::Overlay(of_exterior(issue)));
-            for corner in [0, 1, 0xff, 0x1_0000, 331_777] {
+            for corner in [0, 1, 0xff, 0x1_0000, 331_775] {
                 let code = 5 + 256 * repeated + FIRST * corner;
                 assert_eq!(Answer::from_code(code), overlay(Issue::Repeated { corner: corner as usize }));
             }
-            for (lower, higher) in [(0, 1), (0, 4), (0xff, 0x100), (0xffff, 0x1_0000), (331_776, 331_777)] {
+            for (lower, higher) in [(0, 1), (0, 4), (0xff, 0x100), (0xffff, 0x1_0000), (331_774, 331_776)] {
                 let code = 5 + 256 * crossing + FIRST * lower + SECOND * higher;
                 let issue = Issue::Crossing { lower: lower as usize, higher: higher as usize };
                 assert_eq!(Answer::from_code(code), overlay(issue));
@@ -111,7 +115,7 @@ mod tests {
         let positions_elsewhere = [SECOND, 4 + 65_536 + SECOND, 5 + 256 + SECOND, 5 + 256 * 7 + SECOND];
         let no_edges = [5 + 256 * 8, 5 + 256 * 8 + 2 * FIRST + 2 * SECOND, 5 + 256 * 10 + 2 * FIRST + SECOND];
         let past_each_ring =
-            [5 + 256 * 7 + 331_778 * FIRST, 5 + 256 * 8 + 331_778 * SECOND, 5 + 256 * 9 + (FIRST << 23)];
+            [5 + 256 * 7 + 331_777 * FIRST, 5 + 256 * 8 + 331_777 * SECOND, 5 + 256 * 9 + (FIRST << 23)];
         for code in past_each_field.into_iter().chain(positions_elsewhere).chain(no_edges).chain(past_each_ring) {
             assert!(catch_unwind(|| Answer::from_code(code)).is_err(), "code {code}");
         }
