@@ -62,7 +62,9 @@ extern "C" {
 /*
  * Why an overlay is wanted, in a frame's answer and in a slice call's code. With 7 to 10 positions tell where; those that
  * don't apply are 0. The corners of an exterior are its coordinates, numbered from 0 as they stand, the one that closes
- * it last; edge k runs from corner k to corner k + 1.
+ * it last; edge k runs from corner k to corner k + 1. Where an exterior of n coordinates was lent open, corner n is the closing
+ * one, equal to corner 0, and is not in coords: edge n - 1 runs from the last coordinate to the first. So the end of an edge is
+ * to be read at corner (edge + 1) % n.
  *
  * A corner is repeated where it and the next differ by less than 1e-10 in x and in y; only the last edge may be so short. The
  * first position is the first such corner, the second is 0. Where edges cross, the first position is the lower edge and the

@@ -19,7 +19,9 @@ pub enum Edge {
 /// before a crossing.
 ///
 /// Corners are the coordinates of the exterior, numbered from 0 as they stand, the one that closes it last; edge k runs from corner k
-/// to corner k + 1.
+/// to corner k + 1. Where an exterior of n coordinates was lent open, corner n is the closing one, equal to corner 0, and is not among
+/// those that were lent: edge n - 1 runs from the last coordinate to the first. So the end of an edge is to be read at corner
+/// `(edge + 1) % n`.
 #[derive(Clone, Copy, Debug, PartialEq, Eq, Hash)]
 pub enum Issue {
     /// It has fewer than 4 coordinates, the closing one counted.
