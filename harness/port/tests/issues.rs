@@ -46,6 +46,45 @@ fn crossings_at_any_place_of_a_long_ring_agree() {
     }
 }
 
+/// Lower edges about the four whose further pairs are left to a scan, about the scan limit, and high.
+const LOWER: [usize; 9] = [0, 1, 3, 4, 5, 31, 32, 33, 1_000];
+
+/// A long edge of this number, no edge before it crossing any; as many edges as are asked for stay on its one side, and then 300
+/// cross it, at places that are `stride` apart. Of these the first has to be told, wherever from west to east it is.
+fn with_edge_crossed(lower: usize, aside: usize, stride: usize) -> Vec<(f64, f64)> {
+    let before = (1..=lower).rev().map(|k| (-(k as f64), (k * k) as f64));
+    let long = [(0., 0.), (302., 0.)];
+    let beside = (0..aside).map(|k| (301., 2. + k as f64));
+    let across = (0..300).map(|k| (1. + (k * stride % 300) as f64, if k % 2 == 0 { -1. } else { 1. }));
+    let mut ring: Vec<_> = before.chain(long).chain(beside).chain(across).collect();
+    ring.push(ring[0]);
+    ring
+}
+
+#[test]
+fn of_many_edges_that_cross_one_the_lowest_is_told() {
+    for lower in LOWER {
+        for aside in [1, 2, 40] {
+            for stride in [1, 7, 137, 299] {
+                let ring = with_edge_crossed(lower, aside, stride);
+                let case = format!("edge {lower}, {aside} aside, {stride} apart");
+                assert_eq!(oracle::first_crossing(&ring), Some((lower, lower + aside + 1)), "{case}");
+                assert_eq!(issues::check(&ring), Ok("crossing"), "{case}");
+            }
+        }
+    }
+}
+
+#[test]
+fn one_crossing_is_told_whatever_its_lower_edge() {
+    for lower in LOWER {
+        let mut ring = regular(1_024);
+        ring.swap(lower + 1, lower + 2);
+        assert_eq!(oracle::first_crossing(&ring), Some((lower, lower + 2)));
+        assert_eq!(issues::check(&ring), Ok("crossing"), "edge {lower}");
+    }
+}
+
 #[test]
 fn work_slices_one_short_are_not_used() {
     let numbers: Vec<f64> = regular(40).iter().flat_map(|&(x, y)| [x, y]).collect();
