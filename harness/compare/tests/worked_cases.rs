@@ -3,8 +3,10 @@
 
 use compare::calls::{ring_call, slice_call};
 use compare::worked::{self, unwritten};
+use formats::answer::{Answer, Listed, ListedPart};
 use formats::calls::RingCall;
 use formats::frame::{Frame, MULTIPOLYGON, POLYGON};
+use formats::reason::merged;
 use formats::{same_numbers, Coord};
 use reading::Reading;
 
@@ -30,9 +32,12 @@ fn cut(ring: &[Coord]) -> Vec<u8> {
     bytes
 }
 
+fn frame(kind: u8, flags: u8, ring: &[Coord]) -> Vec<u8> {
+    Frame { kind, flags, bounds: [0.0, 0.0, 10.0, 10.0], buffer: 0.0, parts: vec![vec![ring.to_vec()]] }.encode()
+}
+
 fn assert_answer(kind: u8, flags: u8, ring: &[Coord], expected: &[u8]) {
-    let frame =
-        Frame { kind, flags, bounds: [0.0, 0.0, 10.0, 10.0], buffer: 0.0, parts: vec![vec![ring.to_vec()]] }.encode();
+    let frame = frame(kind, flags, ring);
     assert_eq!(oracle::answer(&frame, ROOM).as_deref(), Ok(expected), "the Rust, flags {flags}, {ring:?}");
     assert_eq!(Reading::RIGHT.answer(&frame, ROOM).as_deref(), Ok(expected), "the reading, flags {flags}, {ring:?}");
 }
@@ -73,6 +78,39 @@ fn exteriors_with_issues() {
 #[test]
 fn square_that_touches_the_east_bound() {
     assert_polygon(EVERY_FLAG, &[(10., 2.), (20., 2.), (20., 8.), (10., 8.), (10., 2.)], &overlay(9, 0, 0));
+}
+
+/// The number of the reason that the one listed part, an overlay, is answered with.
+fn reason_number(answer: &[u8]) -> u8 {
+    match Answer::decode(answer) {
+        Some(Ok(Answer::Listed { parts, .. })) => match parts[..] {
+            [ListedPart { listed: Listed::Overlay(reason), .. }] => reason.number,
+            _ => panic!("no overlay alone: {parts:?}"),
+        },
+        other => panic!("not listed: {other:?}"),
+    }
+}
+
+/// The cases above and below that document 01 gives a reason, by its own number: both sides' reasons merged back.
+#[test]
+fn reasons_merged_back_are_those_written_in_document_01() {
+    let cases: [(&[u8], &[Coord], u8); 6] = [
+        (&[0, 1, 2], &[(5., 5.), (15., 5.), (15., 8.), (5., 8.), (5., 5.)], 4),
+        (&[0], &[(2., 2.), (8., 8.), (8., 2.), (2., 8.), (2., 2.)], 1),
+        (EVERY_FLAG, &[(2., 2.), (8., 2.), (2., 2.)], 1),
+        (EVERY_FLAG, &[(2., 2.), (2., 2.), (8., 2.), (8., 8.), (2., 2.)], 1),
+        (EVERY_FLAG, &[(10., 2.), (20., 2.), (20., 8.), (10., 8.), (10., 2.)], 2),
+        (EVERY_FLAG, &[(2., 2.), (9e149, 2.), (2., 2.)], 1),
+    ];
+    for (flags, ring, written) in cases {
+        for &flags in flags {
+            let frame = frame(POLYGON, flags, ring);
+            for answer in [oracle::answer(&frame, ROOM), Reading::RIGHT.answer(&frame, ROOM)] {
+                let number = reason_number(&answer.expect("it is not refused"));
+                assert_eq!(merged(number), written, "reason {number}, flags {flags}, {ring:?}");
+            }
+        }
+    }
 }
 
 /// Both lie outside, beyond the corner, with a rectangle that is not apart.
