@@ -9,7 +9,7 @@ use formats::answer::{Answer, Listed, ListedPart};
 use formats::calls::{RingCall, SliceAnswer, SliceCall};
 use formats::frame::{Frame, MULTIPOLYGON, POLYGON};
 use formats::reason::Reason;
-use formats::{closed_length, Coord, Ring};
+use formats::{closed_length, Bounds, Coord, Ring};
 use generator::{Kind, Style};
 use reading::{Mistake, Reading};
 
@@ -70,9 +70,13 @@ fn every_reason_is_told_by_a_frame() {
 fn no_crossing_is_told_where_the_caller_vouches() {
     for (_, _, ring) in exterior_of_each_reason() {
         for flags in [1, 3] {
-            let code = code(&Reading::RIGHT, flags, &ring);
-            let is_overlay = code & 0xff == 5;
-            assert!(!is_overlay || !matches!(Reason::of_code(code).number, 8 | 10), "{ring:?}");
+            let call = call(flags, &ring);
+            let by_the_rust = call.after(&oracle::slice_call(&call)).answer;
+            for (side, code) in [("the Rust", by_the_rust), ("the reading", slice_call(&Reading::RIGHT, &call).answer)]
+            {
+                let is_overlay = code & 0xff == 5;
+                assert!(!is_overlay || !matches!(Reason::of_code(code).number, 8 | 10), "{side}, {ring:?}");
+            }
         }
     }
 }
@@ -165,54 +169,76 @@ fn count(met: &mut Met, reason: Reason, coordinates: usize) {
     *met.entry((reason.number, place, looked_at)).or_default() += 1;
 }
 
-/// Of the input's issues by the input's length, of the cut's by the cut's.
 #[test]
 fn the_generator_makes_every_reason_in_slice_calls() {
     let mut met = Met::new();
     for call in (0..LOOKED_AT).map(|index| generator::slice_call(Style::Tangled, 1, index)) {
         if let Ok(SliceAnswer::Overlay(reason)) = oracle::slice_call(&call) {
             let exterior = &call.rings().expect("the lengths fit")[0];
-            let coordinates = match reason.number {
-                7 | 8 => closed_length(exterior),
-                _ => cut_length(&call, exterior),
-            };
+            count(&mut met, reason, looked_at(reason, call.bounds, call.buffer, exterior));
+        }
+    }
+    assert_met(&met, &[7, 8, 9, 10]);
+}
+
+/// How many coordinates the ring has that the reason is told of: of the input's issues the input, of the cut's the cut.
+fn looked_at(reason: Reason, bounds: Bounds, buffer: f64, exterior: &Ring) -> usize {
+    match reason.number {
+        7 | 8 => closed_length(exterior),
+        _ => cut_length(bounds, buffer, exterior),
+    }
+}
+
+/// How many coordinates the exterior is cut to.
+fn cut_length([west, south, east, north]: Bounds, buffer: f64, exterior: &Ring) -> usize {
+    let bounds = [west - buffer, south - buffer, east + buffer, north + buffer];
+    let cut = RingCall { bounds, ..worked::ring_call(exterior, Beside::default()) };
+    oracle::ring_call(&cut).expect("every slice has room").len() / 2
+}
+
+/// What the port has to choose among where it sweeps: one pair alone is found whatever is taken for the first.
+#[test]
+fn the_generator_makes_long_rings_that_cross_themselves_more_than_once() {
+    let crosses_more_than_once = |call: &SliceCall| {
+        let exterior = &call.rings().expect("the lengths fit")[0];
+        let is_told = matches!(oracle::slice_call(call), Ok(SliceAnswer::Overlay(Reason { number: 8, .. })));
+        is_told && closed_length(exterior) > 33 && crossings(exterior).nth(1).is_some()
+    };
+    let calls = (0..LOOKED_AT).map(|index| generator::slice_call(Style::Tangled, 1, index));
+    let met =
+        calls.filter(|call| call.rings().is_ok_and(|rings| !rings.is_empty())).filter(crosses_more_than_once).count();
+    assert!(met >= 300, "{met} of {LOOKED_AT}");
+}
+
+/// The pairs of edges of the ring, closed, that cross.
+fn crossings(ring: &Ring) -> impl Iterator<Item = [Coord; 4]> {
+    let closed = [&ring[..], &ring[..1]].concat();
+    let pairs = oracle::visited_edge_pairs(&closed[..closed_length(ring)]);
+    pairs.into_iter().filter(|pair| oracle::first_crossing(pair).is_some())
+}
+
+#[test]
+fn the_generator_makes_every_reason_in_frames() {
+    let mut met = Met::new();
+    for index in 0..LOOKED_AT {
+        let bytes = generator::frame(Kind::Drawn(Style::Tangled), 1, index).frame;
+        for (reason, coordinates) in overlays(&bytes) {
             count(&mut met, reason, coordinates);
         }
     }
     assert_met(&met, &[7, 8, 9, 10]);
 }
 
-/// How many coordinates the exterior is cut to.
-fn cut_length(call: &SliceCall, exterior: &Ring) -> usize {
-    let ([west, south, east, north], buffer) = (call.bounds, call.buffer);
-    let bounds = [west - buffer, south - buffer, east + buffer, north + buffer];
-    let cut = RingCall { bounds, ..worked::ring_call(exterior, Beside::default()) };
-    oracle::ring_call(&cut).expect("every slice has room").len() / 2
-}
-
-/// By the input's length.
-#[test]
-fn the_generator_makes_every_reason_in_frames() {
-    let mut met = Met::new();
-    for index in 0..LOOKED_AT {
-        let bytes = generator::frame(Kind::Drawn(Style::Tangled), 1, index).frame;
-        for (reason, exterior) in overlays(&bytes) {
-            count(&mut met, reason, closed_length(&exterior));
-        }
-    }
-    assert_met(&met, &[7, 8, 9, 10]);
-}
-
-/// The reasons of a frame's overlay parts, with their exteriors.
-fn overlays(frame: &[u8]) -> Vec<(Reason, Ring)> {
+/// The reasons of a frame's overlay parts, each with the count of coordinates that it was told of.
+fn overlays(frame: &[u8]) -> Vec<(Reason, usize)> {
     let Ok(Some(Ok(Answer::Listed { parts, .. }))) =
         oracle::answer(frame, usize::MAX).map(|bytes| Answer::decode(&bytes))
     else {
         return Vec::new();
     };
-    let rings = Frame::decode(frame).expect("it was answered").parts;
+    let Frame { bounds, buffer, parts: lent, .. } = Frame::decode(frame).expect("it was answered");
     let overlay = |part: ListedPart| match part.listed {
-        Listed::Overlay(reason) => Some((reason, rings[usize::from(part.index)][0].clone())),
+        Listed::Overlay(reason) => Some((reason, looked_at(reason, bounds, buffer, &lent[usize::from(part.index)][0]))),
         _ => None,
     };
     parts.into_iter().filter_map(overlay).collect()
