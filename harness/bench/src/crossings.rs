@@ -1,6 +1,8 @@
 //! The port's issue check on rings that cross themselves, beside the same ring without a crossing: where two edges cross, the pair
 //! with the lowest numbers is looked for by one walk more. In a table of its own, as what is measured beside is not the Rust.
 
+use std::ops::Range;
+
 use geo::Coord;
 use tylertoo::clip::opened::{any_edge_pair, has_self_intersecting_edges};
 
@@ -27,27 +29,46 @@ pub fn measure() {
 fn print_rows(edges: usize, name: &str, outline: Outline) {
     let sound = outline(edges);
     let crossing = crossing(&sound);
-    let rings = [&sound].into_iter().chain(crossing.iter().map(|(_, ring)| ring));
+    let rings = [&sound].into_iter().chain(crossing.iter().map(|crossing| &crossing.ring));
     let mut sides: Vec<Sides> = rings.map(|ring| Sides::new(ring)).collect();
+    assert_eq!(sides[0].found(), 0, "a ring of {edges} edges, {name}, has an issue");
+    for (Crossing { crossings, lower, .. }, sides) in crossing.iter().zip(&mut sides[1..]) {
+        let found = sides.found();
+        let (issue, first) = (found & 0xff, (found >> 8 & 0xff_ffff) as usize);
+        assert!(issue == 3 && lower.contains(&first), "{found:#x} of {edges} edges, {name}, {crossings}");
+    }
     let mut checks: Vec<_> = sides.iter_mut().map(|sides| || sides.port()).collect();
     let mut tasks: Vec<&mut dyn FnMut()> = checks.iter_mut().map(|check| check as &mut dyn FnMut()).collect();
     let times = medians(&mut tasks);
-    for ((crossings, _), time) in crossing.iter().zip(&times[1..]) {
+    for (Crossing { crossings, .. }, time) in crossing.iter().zip(&times[1..]) {
         let [size, sound, crossing] = [edges as f64, times[0], *time].map(whole);
         println!("| {size} edges | {name} | {crossings} | {sound} | {crossing} | {:.2} |", time / times[0]);
     }
 }
 
+/// A ring that crosses itself, and where the lower edge of its first pair has to be: under 4 the port takes a shortcut.
+struct Crossing {
+    crossings: &'static str,
+    lower: Range<usize>,
+    ring: Vec<Coord<f64>>,
+}
+
 /// The ring with one crossing where a sweep from the west begins, in its middle and where it ends, the edges' numbers as high as
-/// they get; and with many.
-fn crossing(sound: &[Coord<f64>]) -> [(&'static str, Vec<Coord<f64>>); 4] {
+/// they get; the first of these with low numbers; and with many, from the first edges on and in the second half alone.
+fn crossing(sound: &[Coord<f64>]) -> [Crossing; 6] {
     let n = sound.len();
+    let west = with_one(sound, n / 2);
+    let mut low = west.clone();
+    low.rotate_left(n - 7);
     [
-        ("one in the west", with_one(sound, n / 2)),
-        ("one in the middle", with_one(sound, 3 * n / 4)),
-        ("one in the east", with_one(sound, 0)),
-        ("many", with_many(sound)),
+        ("one in the west", n - 5..n - 4, west),
+        ("one in the middle", n - 5..n - 4, with_one(sound, 3 * n / 4)),
+        ("one in the east", n - 5..n - 4, with_one(sound, 0)),
+        ("one, numbered low", 2..3, low),
+        ("many", 0..4, with_many(sound, 1)),
+        ("many, none at the first edges", n / 2 - 8..n, with_many(sound, n / 2)),
     ]
+    .map(|(crossings, lower, ring)| Crossing { crossings, lower, ring })
 }
 
 /// One pair of edges crosses, about the vertex that stood at this place; it is then among the last.
@@ -62,11 +83,12 @@ fn with_one(sound: &[Coord<f64>], place: usize) -> Vec<Coord<f64>> {
     (0..n).map(from_place).find(|ring| crossings(ring) == 1).expect("somewhere one pair alone crosses")
 }
 
-fn with_many(sound: &[Coord<f64>]) -> Vec<Coord<f64>> {
+/// From this vertex on every eighth edge crosses another.
+fn with_many(sound: &[Coord<f64>], first: usize) -> Vec<Coord<f64>> {
     let mut ring = sound.to_vec();
-    (1..ring.len() - 3).step_by(8).for_each(|k| cross_next(&mut ring, k));
-    let crossings = crossings(&ring);
-    assert!(crossings >= ring.len() / 10, "{crossings} of {} edges cross", ring.len());
+    (first..ring.len() - 3).step_by(8).for_each(|k| cross_next(&mut ring, k));
+    let (crossings, edges) = (crossings(&ring), ring.len() - first);
+    assert!(crossings >= edges / 10, "{crossings} of {edges} edges cross");
     ring
 }
 
