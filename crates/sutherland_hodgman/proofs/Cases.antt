@@ -55,6 +55,6 @@ four-vertices : B 4 ≡ 21
 unfolding B fourHalfGrowths halfGrowth
 four-vertices = refl
 
-most-coordinates : B 65536 ≡ 331778
+most-coordinates : B 65532 ≡ 331757
 unfolding B fourHalfGrowths halfGrowth
 most-coordinates = refl

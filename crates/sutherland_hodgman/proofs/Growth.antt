@@ -51,7 +51,7 @@ module _ (l : Edge) (b : TileBounds) where
   around-grows [] = zero-le
   around-grows (p ∷ r) = let g = steps-grow (inside l b (last p r)) (last p r) p r in omega arith
 
-leaveOff-length : (r : List Coord) → length (leaveOff r) ≤ length r
+pub leaveOff-length : (r : List Coord) → length (leaveOff r) ≤ length r
 unfolding leaveOff
 leaveOff-length [] = le-refl 0
 leaveOff-length (p ∷ []) = le-refl 1

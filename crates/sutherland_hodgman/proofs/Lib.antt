@@ -4,6 +4,10 @@ mod Growth
 mod LastPass
 mod LeavingOff
 pub mod Offered
+mod OriginCases
+pub mod OriginLaws
+mod OriginStages
+mod OriginWalking
 mod Promises
 mod Stages
 mod Turns

@@ -6,8 +6,7 @@ use mathlib.Core.List.{List, [], _∷_}
 use Prim.Native.Nat.{ℕ, zero, suc, _+_, _*_, _/_, _<_, _≤_}
 use native.Mathlib.Omega.{arith}
 use lib.Ieee.{Float}
-use lib.ListN.{length, take}
-use Rattle.binary64.specs.Slices.{zeros}
+use lib.ListN.{length, take, replicate}
 use Rattle.tile.specs.declared.Coord.{Coord}
 use Rattle.tile.specs.declared.TileBounds.{TileBounds}
 use Rattle.tile.specs.Ring.{coords, closed, close}
@@ -17,11 +16,13 @@ use Rattle.sutherland_hodgman.specs.declared.call.Check.the-variants.{Pa
 use Rattle.sutherland_hodgman.specs.declared.call.RingAnswer.the-variants.{Clipped}
 use Rattle.sutherland_hodgman.specs.Clip.{leaveOff, around, pass, passes, finish, clipRing}
 use Rattle.sutherland_hodgman.specs.Growth.{halfGrowth, fourHalfGrowths, B, mostCoordinates}
+use Rattle.sutherland_hodgman.specs.Origins.{closeOrigins, clipOrigins}
 use Rattle.sutherland_hodgman.specs.RingCall.{failsIf, RingSlices, ringCallCheck, ringCallAnswer}
-use Rattle.sutherland_hodgman.specs.Contracts.{CutterRoom}
+use Rattle.sutherland_hodgman.specs.Contracts.{CutterRoom, OriginRoom}
 use Rattle.sutherland_hodgman.proofs.Calls as calls
 use Rattle.sutherland_hodgman.proofs.Growth as growth
 use Rattle.sutherland_hodgman.proofs.LeavingOff.{leaveOff-close}
+use Rattle.sutherland_hodgman.proofs.OriginLaws as laws
 
 -- ---- the room of a ring
 
@@ -69,7 +70,7 @@ B-closed (suc (suc (suc n))) h =
     let m : suc (suc (suc n)) + 1 ≡ suc (suc (suc (suc n))) = omega arith in
     rw m (omega (arith, B-at-most (suc (suc (suc (suc n))))))
 
--- the room of a ring of at most 65,536 coordinates is at most 2^19, so that sums of such rooms stay in a usize
+-- the room of a ring of at most 65,532 coordinates is under 2^19, so that sums of such rooms stay in a usize
 pub B-le : (n : ℕ) → n ≤ mostCoordinates → B n ≤ 8 * mostCoordinates
 B-le = growth.B-le
 
@@ -103,6 +104,19 @@ pub clip-close : (b : TileBounds) (r : List Coord) → closed (close r) ≡ true
 unfolding clipRing passes pass
 clip-close b r e = rw (leaveOff-close r e)
 
+-- ---- its origins
+
+-- there are as many origins as coordinates, also after one more closing
+pub as-many : (b : TileBounds) (r : List Coord) → length (clipOrigins b r) ≡ length (clipRing b r)
+as-many = laws.as-many
+
+pub close-many : (r : List Coord) (os : List ℕ) → length os ≡ length r → length (closeOrigins r os) ≡ length (close r)
+close-many = laws.close-many
+
+-- closing the ring first changes none of them
+pub origins-close : (b : TileBounds) (r : List Coord) → closed (close r) ≡ true → clipOrigins b (close r) ≡ clipOrigins b r
+origins-close = laws.origins-close
+
 -- ---- the ring call, whose refusals and clearing the slice call shares
 
 -- where the row of tests passes, its first test says no and the others pass
@@ -110,21 +124,24 @@ pub not-refused : (t : Bool) (r : Refusal) (c : Check) → failsIf t r c ≡ Pas
 not-refused = calls.not-refused
 
 -- a scratch slice that is filled with zeros has kept its length
-pub cleared : (m n : ℕ) (l : List Float) → l ≡ zeros m → m ≡ n → l ≡ zeros n
+pub cleared : {A : Type 0} (zero : A) (m n : ℕ) (l : List A) → l ≡ replicate m zero → m ≡ n → l ≡ replicate n zero
 cleared = calls.cleared
 
 -- a ring that a ring call does not refuse has room for the cutter, and is all of what is lent
 pub lent-room : (ring : List Float) (lent : RingSlices) → ringCallCheck ring lent ≡ Passes
     → CutterRoom (length ring / 2) (length ring) (length (lent .scratch)) (length (lent .output))
+    × OriginRoom (length ring / 2) (length (lent .originScratch)) (length (lent .outOrigins))
 lent-room ring lent e =
-    let p = calls.passes-cuttable (length ring) _ _ e in
-    record { vertices = omega (arith, p .even); scratch-room = p .scratch-room; output-room = p .output-room }
+    let p = calls.passes-cuttable (length ring) _ _ _ _ e in (
+      record { vertices = omega (arith, p .even); scratch-room = p .scratch-room; output-room = p .output-room },
+      record { positions = p .few; scratch-room = p .origin-scratch-room; output-room = p .origin-output-room },
+    )
 
 pub lent-whole : (ring : List Float) (lent : RingSlices) → ringCallCheck ring lent ≡ Passes
     → coords (take (2 * (length ring / 2)) ring) ≡ coords ring
-lent-whole ring lent e = calls.whole-ring ring (calls.passes-cuttable (length ring) _ _ e .even)
+lent-whole ring lent e = calls.whole-ring ring (calls.passes-cuttable (length ring) _ _ _ _ e .even)
 
--- a ring call answers at most 2^19 coordinates, so that the count fits an i64
+-- a ring call answers fewer than 2^19 coordinates, so that the count fits an i64
 pub answer-few : (ring : List Float) (bounds : TileBounds) (lent : RingSlices) (n : ℕ) → ringCallAnswer ring bounds lent ≡ Clipped n
     → n ≤ 8 * mostCoordinates
 answer-few = calls.answer-few

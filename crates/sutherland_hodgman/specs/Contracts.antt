@@ -1,22 +1,23 @@
 -- What the functions of a pass and of the ring cutter say to each other and to the crates above. No contract of an entry point reaches it,
 -- so a reader of those can skip this file; `clip_ring` says demand 3 by `RingCut`. Definitions only.
 use mathlib.Core.Path.{_≡_}
-use mathlib.Core.Bool.{Bool}
+use mathlib.Core.Bool.{Bool, true, false}
 use mathlib.Core.List.{List, _++_}
 use Prim.Native.Nat.{_-_, ℕ, zero, suc, _+_, _≤_, _<_, _*_}
 use lib.Ieee.{Float, nan}
-use lib.ListN.{length, take, getD, drop}
+use lib.ListN.{length, take, getD, drop, replicate}
 use lib.Seq.{sets}
 use Rattle.binary64.specs.Slices.{zeros}
 use Rattle.tile.specs.declared.Coord.{Coord}
 use Rattle.tile.specs.declared.TileBounds.{TileBounds}
 use Rattle.tile.specs.declared.Edge.{Edge}
-use Rattle.tile.specs.declared.Edge.the-variants.{Left, Right, Bottom}
+use Rattle.tile.specs.declared.Edge.the-variants.{Left, Right, Bottom, Top}
 use Rattle.tile.specs.Ring.{coords, flat}
 use Rattle.tile.specs.Contracts.{Stands}
 use Rattle.sutherland_hodgman.specs.declared.Walk.{Walk}
 use Rattle.sutherland_hodgman.specs.Clip.{steps, pass, clipRing}
-use Rattle.sutherland_hodgman.specs.Growth.{halfGrowth, B}
+use Rattle.sutherland_hodgman.specs.Growth.{halfGrowth, B, mostCoordinates}
+use Rattle.sutherland_hodgman.specs.Origins.{stepsOrigins, passOrigins, finishOrigins, positionsFrom, clipOrigins}
 use Rattle.sutherland_hodgman.specs.Promise.{Promise}
 
 -- ---- a pass
@@ -64,6 +65,35 @@ pub record RunVerdicts (m i verdicts : ℕ) : Type 0 where
   pub at-vertex : i < m → verdicts ≡ i + 2
   pub at-end : m ≤ i → verdicts ≡ i + 1
 
+-- ---- a pass: the origins
+
+-- a ring of n vertices whose origins stand at the front of a slice of length `origins` can be cut at one edge: those of the result have
+-- room in a slice of length `out`
+abbrev pub PassOriginRoom : ℕ → ℕ → ℕ → Type 0
+PassOriginRoom n origins out = (n ≤ origins) × (halfGrowth n ≤ out)
+
+-- what is left of a pass: the origins that the steps from the i-th vertex on give, v being the verdict on the vertex before it
+unfoldable pub originsLeft : Edge → TileBounds → List Coord → List ℕ → Bool → ℕ → List ℕ
+originsLeft l b r os v i = stepsOrigins l b v (drop i r) (drop i os)
+
+-- a pass ends with the same slice of origins from the one place as from the other, as `SameRest` says of the vertices
+abbrev pub SameOrigins : Edge → TileBounds → List Coord → List ℕ → Bool → ℕ → ℕ → List ℕ → Bool → ℕ → ℕ → List ℕ → Type 0
+SameOrigins l b r os v i k d v′ i′ k′ d′ = sets d k (originsLeft l b r os v i) ≡ sets d′ k′ (originsLeft l b r os v′ i′)
+
+-- from in, the vertices from the i-th to the j-th keep their origins, whatever these are
+abbrev pub CopiedOrigins : Edge → TileBounds → List Coord → ℕ → ℕ → Type 0
+CopiedOrigins l b r i j =
+    (os : List ℕ) → j ≤ length os → originsLeft l b r os true i ≡ take (j - i) (drop i os) ++ originsLeft l b r os true j
+
+-- from out, the vertices from the i-th to the j-th give no origins
+abbrev pub SkippedOrigins : Edge → TileBounds → List Coord → ℕ → ℕ → Type 0
+SkippedOrigins l b r i j = (os : List ℕ) → originsLeft l b r os false i ≡ originsLeft l b r os false j
+
+-- a pass that stands at `at`, the verdict on the vertex before being v, has an origin to each vertex, and room for all that is left
+abbrev pub OriginWalkRoom : Edge → TileBounds → List Float → ℕ → Bool → Walk → ℕ → ℕ → Type 0
+OriginWalkRoom l b ring m v at origins out =
+    (m ≤ origins) × (at .len + length (stepsLeft l b (coords (take (2 * m) ring)) v (at .i)) ≤ out)
+
 -- ---- the four passes
 
 -- the passes but the last
@@ -76,6 +106,22 @@ pub record CutterRoom (n ring scratch out : ℕ) : Type 0 where
   pub scratch-room : 2 * B n ≤ scratch
   pub output-room : 2 * B n ≤ out
 
+-- its origins have room in a scratch slice and an output of these lengths, and every position in it fits 16 bits
+pub record OriginRoom (n scratch out : ℕ) : Type 0 where
+  pub positions : n ≤ mostCoordinates
+  pub scratch-room : B n ≤ scratch
+  pub output-room : B n ≤ out
+
+-- the origins after the passes but the last
+unfoldable pub threePassesOrigins : TileBounds → List Coord → List ℕ
+threePassesOrigins b r =
+    let left = pass Left b r in
+    passOrigins Bottom b (pass Right b left) (passOrigins Right b left (passOrigins Left b r (positionsFrom 0 (length r))))
+
+-- the origins after the last pass and the closing, of a ring that has the origins os
+unfoldable pub topOrigins : TileBounds → List Coord → List ℕ → List ℕ
+topOrigins b r os = finishOrigins (pass Top b r) (passOrigins Top b r os)
+
 -- the cut ring stands at the front of the slice, r vertices long; demand 3 holds of what stands there; what lies past it is left open
 pub record RingCut (bounds : TileBounds) (ring : List Coord) (r : ℕ) (after : List Float) : Type 0 where
   pub stands : Stands (clipRing bounds ring) r after
@@ -86,3 +132,7 @@ pub record PaddedCut (bounds : TileBounds) (ring : List Coord) (out r : ℕ) (af
   pub count : r ≡ length (clipRing bounds ring)
   pub numbers : after ≡ flat (clipRing bounds ring) ++ zeros (out - 2 * r)
   pub promise : Promise bounds ring (coords (take (2 * r) after))
+
+-- the origins of the cut ring, r vertices long, stand at the front of their output, `out` long, and zeros past them
+abbrev pub PaddedOrigins : TileBounds → List Coord → ℕ → ℕ → List ℕ → Type 0
+PaddedOrigins bounds ring out r after = after ≡ clipOrigins bounds ring ++ replicate (out - r) 0

@@ -13,6 +13,6 @@ unfoldable pub B : ℕ → ℕ
 B zero = 0
 B (suc n) = fourHalfGrowths (suc n) + 2
 
--- "over 65,536 coordinates" (refusal 20)
+-- refusal 20, as document 02, Point 12, amends it: "over 65,532 coordinates"
 abbrev pub mostCoordinates : ℕ
-mostCoordinates = 65536
+mostCoordinates = 65532

@@ -2,6 +2,7 @@ pub mod CuttingLines
 pub mod Clip
 pub mod Verdicts
 pub mod Growth
+pub mod Origins
 pub mod Promise
 pub mod RingCall
 pub mod Contracts

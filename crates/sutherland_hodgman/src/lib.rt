@@ -1,8 +1,10 @@
-// Sutherland-Hodgman cutting of a ring at the four edges of the bounds: one pass, the ring cutter, and the ring call.
+// Sutherland-Hodgman cutting of a ring at the four edges of the bounds: one pass, the ring cutter, and the ring call. Beside each vertex
+// that is cut or kept stands its origin.
 ghost use mathlib.Core.Path.{_≡_};
 ghost use mathlib.Core.Bool.{true, false, not};
+ghost use mathlib.Core.List.{_++_};
 ghost use Prim.Native.Nat.{_+_, _*_, _≤_, _<_};
-ghost use lib.ListN.{length, take};
+ghost use lib.ListN.{length, take, drop};
 ghost use Rattle.tile.specs.Ring.{coords};
 ghost use Rattle.tile.specs.Contracts.{coordAt, Stands, Written};
 ghost use Rattle.sutherland_hodgman.specs.CuttingLines as CuttingLines;
@@ -10,18 +12,24 @@ ghost use Rattle.sutherland_hodgman.specs.Clip as Clip;
 ghost use Rattle.sutherland_hodgman.specs.Contracts as Contracts;
 ghost use Rattle.sutherland_hodgman.specs.Growth.{halfGrowth};
 ghost use Rattle.sutherland_hodgman.specs.Verdicts.{verdicts};
-ghost use Rattle.sutherland_hodgman.specs.Contracts.{CutterRoom, RingCut};
+ghost use Rattle.sutherland_hodgman.specs.Origins as Origins;
+ghost use Rattle.sutherland_hodgman.specs.Contracts.{CutterRoom, OriginRoom, RingCut};
 use binary64::interpolate;
+use origins::close_with_origins;
+use origins::copy_origins;
+use origins::line_origin;
+use origins::put_positions;
+use origins::put_with_origin;
 use tile::Coord;
 use tile::Edge;
 use tile::TileBounds;
-use tile::ring::close;
 use tile::ring::coord_at;
 use tile::ring::is_closed;
 use tile::ring::put;
 use verdict::judge;
 
 pub mod call;
+pub mod origins;
 mod verdict;
 
 // Where the line of an edge crosses the segment from a to b, one end of which is in and the other out; between other ends a coordinate that
@@ -100,6 +108,7 @@ fn previous(ring: &[f64], m: usize, i: usize) -> Coord
 }
 
 // From a vertex that is in: copies the vertices that follow it as long as they are in, up to the first that is not, which is judged too.
+// Their origins are left to be copied as a run: in this loop they would take half as long again as the vertices alone.
 fn copy_inside(
     ring: &[f64],
     m: usize,
@@ -114,6 +123,8 @@ fn copy_inside(
         × Contracts.SameRest edge bounds (coords (take (2 * m) (now (ring .entry)))) true (at .i) (at .len) (now (out .entry)) true
         (r .i) (r .len) (now (out .exit)) ⌝ }
     ensures verdicts { λ r. ⌜ Contracts.RunVerdicts m (r .i) (r .verdicts) ⌝ }
+    ensures origins { λ r. ⌜ (r .len + at .i ≡ at .len + r .i)
+        × Contracts.CopiedOrigins edge bounds (coords (take (2 * m) (now (ring .entry)))) (at .i) (r .i) ⌝ }
 {
     let mut i = at.i;
     let mut len = at.len;
@@ -141,6 +152,7 @@ fn skip_outside(ring: &[f64], m: usize, edge: Edge, bounds: TileBounds, at: Walk
         × (Contracts.stepsLeft edge bounds (coords (take (2 * m) (now (ring .entry)))) false (at .i) ≡ Contracts.stepsLeft edge bounds
         (coords (take (2 * m) (now (ring .entry)))) false (r .i)) × (r .len ≡ at .len) ⌝ }
     ensures verdicts { λ r. ⌜ Contracts.RunVerdicts m (r .i) (r .verdicts) ⌝ }
+    ensures origins { λ r. ⌜ Contracts.SkippedOrigins edge bounds (coords (take (2 * m) (now (ring .entry)))) (at .i) (r .i) ⌝ }
 {
     let mut i = at.i;
     let mut verdicts = at.verdicts;
@@ -165,18 +177,37 @@ fn skip_outside(ring: &[f64], m: usize, edge: Edge, bounds: TileBounds, at: Walk
 }
 
 // From a vertex that is in to one that is out, or to the end.
-fn leave(ring: &[f64], m: usize, edge: Edge, bounds: TileBounds, out: &mut [f64], at: Walk) -> Walk
+fn leave(
+    ring: &[f64],
+    origins: &[u16],
+    m: usize,
+    edge: Edge,
+    bounds: TileBounds,
+    out: &mut [f64],
+    out_origins: &mut [u16],
+    at: Walk,
+) -> Walk
     requires { ⌜ Contracts.WalkRoom edge bounds (now ring) m true at (length (now out)) ⌝ }
+    requires { ⌜ Contracts.OriginWalkRoom edge bounds (now ring) m true at (length (now origins)) (length (now «out_origins»)) ⌝ }
     ensures rest { λ r. ⌜ Contracts.WalkedOn edge bounds (now (ring .entry)) m true at (now (out .entry)) false r (now (out .exit)) ⌝ }
     ensures verdicts { λ r. ⌜ r .verdicts ≡ r .i + 1 ⌝ }
+    ensures origins { λ r. ⌜ Contracts.SameOrigins edge bounds (coords (take (2 * m) (now (ring .entry)))) (now (origins .entry)) true
+        (at .i) (at .len) (now («out_origins» .entry)) false (r .i) (r .len) (now («out_origins» .exit)) ⌝ }
 {
     let to = copy_inside(ring, m, edge, bounds, out, at);
+    copy_origins(origins, at.i, out_origins, at.len, to.i - at.i);
     if m <= to.i {
         return to;
     }
     let s = previous(ring, m, to.i);
     let e = coord_at(ring, to.i);
-    put(out, to.len, intersect(s, e, edge, bounds));
+    put_with_origin(
+        out,
+        out_origins,
+        to.len,
+        intersect(s, e, edge, bounds),
+        line_origin(edge),
+    );
     Walk {
         i: to.i + 1,
         len: to.len + 1,
@@ -185,10 +216,22 @@ fn leave(ring: &[f64], m: usize, edge: Edge, bounds: TileBounds, out: &mut [f64]
 }
 
 // From a vertex that is out to one that is in, or to the end.
-fn enter(ring: &[f64], m: usize, edge: Edge, bounds: TileBounds, out: &mut [f64], at: Walk) -> Walk
+fn enter(
+    ring: &[f64],
+    origins: &[u16],
+    m: usize,
+    edge: Edge,
+    bounds: TileBounds,
+    out: &mut [f64],
+    out_origins: &mut [u16],
+    at: Walk,
+) -> Walk
     requires { ⌜ Contracts.WalkRoom edge bounds (now ring) m false at (length (now out)) ⌝ }
+    requires { ⌜ Contracts.OriginWalkRoom edge bounds (now ring) m false at (length (now origins)) (length (now «out_origins»)) ⌝ }
     ensures rest { λ r. ⌜ Contracts.WalkedOn edge bounds (now (ring .entry)) m false at (now (out .entry)) true r (now (out .exit)) ⌝ }
     ensures verdicts { λ r. ⌜ r .verdicts ≡ r .i + 1 ⌝ }
+    ensures origins { λ r. ⌜ Contracts.SameOrigins edge bounds (coords (take (2 * m) (now (ring .entry)))) (now (origins .entry)) false
+        (at .i) (at .len) (now («out_origins» .entry)) true (r .i) (r .len) (now («out_origins» .exit)) ⌝ }
 {
     let next = skip_outside(ring, m, edge, bounds, at);
     if m <= next.i {
@@ -196,8 +239,15 @@ fn enter(ring: &[f64], m: usize, edge: Edge, bounds: TileBounds, out: &mut [f64]
     }
     let s = previous(ring, m, next.i);
     let e = coord_at(ring, next.i);
-    put(out, next.len, intersect(s, e, edge, bounds));
-    put(out, next.len + 1, e);
+    put_with_origin(
+        out,
+        out_origins,
+        next.len,
+        intersect(s, e, edge, bounds),
+        line_origin(edge),
+    );
+    let j = next.i;
+    put_with_origin(out, out_origins, next.len + 1, e, origins[j]);
     Walk {
         i: next.i + 1,
         len: next.len + 2,
@@ -208,37 +258,48 @@ fn enter(ring: &[f64], m: usize, edge: Edge, bounds: TileBounds, out: &mut [f64]
 // From a vertex, by the verdict on it, to the first that has the other verdict, or to the end.
 fn turn(
     ring: &[f64],
+    origins: &[u16],
     m: usize,
     edge: Edge,
     bounds: TileBounds,
     out: &mut [f64],
+    out_origins: &mut [u16],
     at: Walk,
     inside: bool,
 ) -> Walk
     requires { ⌜ Contracts.WalkRoom edge bounds (now ring) m inside at (length (now out)) ⌝ }
+    requires { ⌜ Contracts.OriginWalkRoom edge bounds (now ring) m inside at (length (now origins)) (length (now «out_origins»)) ⌝ }
     ensures rest { λ r. ⌜ Contracts.WalkedOn edge bounds (now (ring .entry)) m inside at (now (out .entry)) (not inside) r
         (now (out .exit)) ⌝ }
     ensures verdicts { λ r. ⌜ r .verdicts ≡ r .i + 1 ⌝ }
+    ensures origins { λ r. ⌜ Contracts.SameOrigins edge bounds (coords (take (2 * m) (now (ring .entry)))) (now (origins .entry)) inside
+        (at .i) (at .len) (now («out_origins» .entry)) (not inside) (r .i) (r .len) (now («out_origins» .exit)) ⌝ }
 {
     if inside {
-        return leave(ring, m, edge, bounds, out, at);
+        return leave(ring, origins, m, edge, bounds, out, out_origins, at);
     }
-    enter(ring, m, edge, bounds, out, at)
+    enter(ring, origins, m, edge, bounds, out, out_origins, at)
 }
 
 // Cuts the ring of n vertices at the front of a slice at one edge, writes the result to the front of another, and counts the verdicts that
-// it works out. It starts from the last vertex. One call of leaving and one of entering lets both be compiled into the loop.
+// it works out. The origins of the vertices stand in a slice beside them, before and after. It starts from the last vertex. One call of
+// leaving and one of entering lets both be compiled into the loop.
 pub fn clip_ring_against_edge(
     ring: &[f64],
+    origins: &[u16],
     n: usize,
     edge: Edge,
     bounds: TileBounds,
     out: &mut [f64],
+    out_origins: &mut [u16],
 ) -> Pass
     requires { ⌜ Contracts.PassRoom n (length (now ring)) (length (now out)) ⌝ }
+    requires { ⌜ Contracts.PassOriginRoom n (length (now origins)) (length (now «out_origins»)) ⌝ }
     ensures written { λ r. ⌜ Written (Clip.pass edge bounds (coords (take (2 * n) (now (ring .entry))))) (now (out .entry)) (r .len)
         (now (out .exit)) ⌝ }
     ensures verdicts { λ r. ⌜ r .verdicts ≡ verdicts (coords (take (2 * n) (now (ring .entry)))) ⌝ }
+    ensures origins { λ r. ⌜ now («out_origins» .exit) ≡ Origins.passOrigins edge bounds (coords (take (2 * n) (now (ring .entry))))
+        (take n (now (origins .entry))) ++ drop (r .len) (now («out_origins» .entry)) ⌝ }
 {
     let m = left_off(ring, n);
     if m == 0 {
@@ -255,7 +316,7 @@ pub fn clip_ring_against_edge(
         verdicts: start.verdicts,
     };
     while at.i < m {
-        at = turn(ring, m, edge, bounds, out, at, inside);
+        at = turn(ring, origins, m, edge, bounds, out, out_origins, at, inside);
         inside = !inside;
     }
     Pass {
@@ -265,57 +326,115 @@ pub fn clip_ring_against_edge(
 }
 
 // Fewer than three vertices are none; else the ring is closed.
-fn finish(ring: &mut [f64], n: usize) -> usize
+fn finish(ring: &mut [f64], origins: &mut [u16], n: usize) -> usize
     requires { ⌜ (2 * n ≤ length (now ring)) × (3 ≤ n → 2 * n + 2 ≤ length (now ring)) ⌝ }
-    ensures { λ r. ⌜ Written (Clip.finish (coords (take (2 * n) (now (ring .entry))))) (now (ring .entry)) r (now (ring .exit)) ⌝ }
+    requires { ⌜ (n ≤ length (now origins)) × (3 ≤ n → n + 1 ≤ length (now origins)) ⌝ }
+    ensures ring { λ r. ⌜ Written (Clip.finish (coords (take (2 * n) (now (ring .entry))))) (now (ring .entry)) r (now (ring .exit)) ⌝ }
+    ensures origins { λ r. ⌜ now (origins .exit) ≡ Origins.finishOrigins (coords (take (2 * n) (now (ring .entry))))
+        (take n (now (origins .entry))) ++ drop r (now (origins .entry)) ⌝ }
 {
     if n < 3 {
         return 0;
     }
-    close(ring, n)
+    close_with_origins(ring, origins, n)
 }
 
 // The passes but the last: from the ring to the scratch slice, to the output, and to the scratch slice, at whose front stands what they
 // leave; the answer is its length. Three are a function of their own because that is small enough to be compiled into the
-// ring call; four were not.
+// ring call; four were not. The origins start as positions in the slice for the output's, and go the same way.
 fn clip_three_edges(
     ring: &[f64],
     n: usize,
     bounds: TileBounds,
     scratch: &mut [f64],
+    origin_scratch: &mut [u16],
     out: &mut [f64],
+    out_origins: &mut [u16],
 ) -> usize
     requires { ⌜ CutterRoom n (length (now ring)) (length (now scratch)) (length (now out)) ⌝ }
-    ensures { λ r. ⌜ Stands (Contracts.threePasses bounds (coords (take (2 * n) (now (ring .entry))))) r (now (scratch .exit)) ⌝ }
+    requires { ⌜ OriginRoom n (length (now «origin_scratch»)) (length (now «out_origins»)) ⌝ }
+    ensures ring { λ r. ⌜ Stands (Contracts.threePasses bounds (coords (take (2 * n) (now (ring .entry))))) r (now (scratch .exit)) ⌝ }
+    ensures origins { λ r. ⌜ take r (now («origin_scratch» .exit)) ≡ Contracts.threePassesOrigins bounds
+        (coords (take (2 * n) (now (ring .entry)))) ⌝ }
 {
-    let left = clip_ring_against_edge(ring, n, Edge::Left, bounds, scratch);
-    let right = clip_ring_against_edge(scratch, left.len, Edge::Right, bounds, out);
-    let bottom = clip_ring_against_edge(out, right.len, Edge::Bottom, bounds, scratch);
+    put_positions(out_origins, n);
+    let left = clip_ring_against_edge(
+        ring,
+        out_origins,
+        n,
+        Edge::Left,
+        bounds,
+        scratch,
+        origin_scratch,
+    );
+    let right = clip_ring_against_edge(
+        scratch,
+        origin_scratch,
+        left.len,
+        Edge::Right,
+        bounds,
+        out,
+        out_origins,
+    );
+    let bottom = clip_ring_against_edge(
+        out,
+        out_origins,
+        right.len,
+        Edge::Bottom,
+        bounds,
+        scratch,
+        origin_scratch,
+    );
     bottom.len
 }
 
 // The last pass, to the output, and the closing there.
-fn clip_top(scratch: &[f64], n: usize, bounds: TileBounds, out: &mut [f64]) -> usize
+fn clip_top(
+    scratch: &[f64],
+    origin_scratch: &[u16],
+    n: usize,
+    bounds: TileBounds,
+    out: &mut [f64],
+    out_origins: &mut [u16],
+) -> usize
     requires { ⌜ (2 * n ≤ length (now scratch)) × (2 * halfGrowth n ≤ length (now out))
         × (0 < n → 2 * halfGrowth n + 2 ≤ length (now out)) ⌝ }
-    ensures { λ r. ⌜ Stands (Clip.finish (Clip.pass Edge.Top bounds (coords (take (2 * n) (now (scratch .entry)))))) r (now (out .exit)) ⌝ }
+    requires { ⌜ (n ≤ length (now «origin_scratch»)) × (halfGrowth n ≤ length (now «out_origins»))
+        × (0 < n → halfGrowth n + 1 ≤ length (now «out_origins»)) ⌝ }
+    ensures ring { λ r. ⌜ Stands (Clip.finish (Clip.pass Edge.Top bounds (coords (take (2 * n) (now (scratch .entry)))))) r
+        (now (out .exit)) ⌝ }
+    ensures origins { λ r. ⌜ take r (now («out_origins» .exit)) ≡ Contracts.topOrigins bounds (coords (take (2 * n) (now (scratch .entry))))
+        (take n (now («origin_scratch» .entry))) ⌝ }
 {
-    let top = clip_ring_against_edge(scratch, n, Edge::Top, bounds, out);
-    finish(out, top.len)
+    let top = clip_ring_against_edge(
+        scratch,
+        origin_scratch,
+        n,
+        Edge::Top,
+        bounds,
+        out,
+        out_origins,
+    );
+    finish(out, out_origins, top.len)
 }
 
 // Cuts the ring of n vertices at the front of a slice at all four edges. The output serves for every second pass; the result stands at its
-// front, and the answer is its length. Demand 3 holds of it. What lies past it in the output, and all of the scratch slice, is left open.
+// front, its origins at the front of their slice, and the answer is its length. Demand 3 holds of it. What lies past it in the output, and
+// all of the scratch slice, is left open, and so it is with the slices of the origins.
 pub fn clip_ring(
     ring: &[f64],
     n: usize,
     bounds: TileBounds,
     scratch: &mut [f64],
+    origin_scratch: &mut [u16],
     out: &mut [f64],
+    out_origins: &mut [u16],
 ) -> usize
     requires { ⌜ CutterRoom n (length (now ring)) (length (now scratch)) (length (now out)) ⌝ }
-    ensures { λ r. ⌜ RingCut bounds (coords (take (2 * n) (now (ring .entry)))) r (now (out .exit)) ⌝ }
+    requires { ⌜ OriginRoom n (length (now «origin_scratch»)) (length (now «out_origins»)) ⌝ }
+    ensures ring { λ r. ⌜ RingCut bounds (coords (take (2 * n) (now (ring .entry)))) r (now (out .exit)) ⌝ }
+    ensures origins { λ r. ⌜ take r (now («out_origins» .exit)) ≡ Origins.clipOrigins bounds (coords (take (2 * n) (now (ring .entry)))) ⌝ }
 {
-    let len = clip_three_edges(ring, n, bounds, scratch, out);
-    clip_top(scratch, len, bounds, out)
+    let len = clip_three_edges(ring, n, bounds, scratch, origin_scratch, out, out_origins);
+    clip_top(scratch, origin_scratch, len, bounds, out, out_origins)
 }

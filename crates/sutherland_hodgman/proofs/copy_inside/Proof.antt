@@ -8,28 +8,31 @@ use borrow.Author.Tests.{not-true, not-false}
 use denote.Ref.{now}
 use lib.ListN.{length, take}
 use Rattle.tile.specs.Ring.{coords}
-use Rattle.sutherland_hodgman.specs.Contracts.{stepsLeft, SameRest}
+use Rattle.sutherland_hodgman.specs.Contracts.{stepsLeft, SameRest, CopiedOrigins}
 use Rattle.sutherland_hodgman.proofs.Walking.{rest-here, rest-then, in-in, in-in-room, judged, wrote}
+use Rattle.sutherland_hodgman.proofs.OriginWalking.{copied-none, in-in-origin}
 use Rattle.sutherland_hodgman.proofs.copy_inside.Statement.{statement}
 use Rattle.sutherland_hodgman.proofs.copy_inside.Tie as tie
 
 abbrev Inv-loop : tie.InvT-loop
 Inv-loop ring m edge bounds out₀ i₀ len₀ verdicts₀ out i len verdicts =
     (i₀ ≤ i) × (i ≤ m) × (length out ≡ length out₀) × SameRest edge bounds (coords (take (2 * m) ring)) true i₀ len₀ out₀ true i len out
-    × (verdicts ≡ i + 1)
+    × (verdicts ≡ i + 1) × (len + i₀ ≡ len₀ + i) × CopiedOrigins edge bounds (coords (take (2 * m) ring)) i₀ i
 
 abbrev μ-loop : tie.MeasureT-loop
 μ-loop ring m edge bounds out₀ i₀ len₀ verdicts₀ out i len verdicts = m - i
 
 loop-holds : tie.Need-loop-holds Inv-loop μ-loop
 loop-holds c =
-    let a = c .before .before in (
+    let a = c .before .before in
+    let r = coords (take (2 * a .args .m) (now (a .args .ring))) in (
       search needs,
       search needs,
       refl,
-      rest-here (a .args .edge) (a .args .bounds)
-          (coords (take (2 * a .args .m) (now (a .args .ring)))) true _ _ _,
+      rest-here (a .args .edge) (a .args .bounds) r true _ _ _,
       search needs,
+      refl,
+      copied-none (a .args .edge) (a .args .bounds) r (a .args .at .i),
     )
 
 coord-at-requires : tie.Need-coord-at-requires Inv-loop μ-loop
@@ -53,7 +56,7 @@ returns c =
             (not-true _ (c .if1 .taken)),
         l .inv .3,
       ),
-      record { at-vertex = λ _. omega arith; at-end = λ h. absurd (omega arith) },
+      (record { at-vertex = λ _. omega arith; at-end = λ h. absurd (omega arith) }, (l .inv .5, l .inv .6)),
     )
 
 put-requires : tie.Need-put-requires Inv-loop μ-loop
@@ -90,6 +93,7 @@ loop-again c =
     let s = now (a .args .ring) in
     let m = a .args .m in
     let e = c .before .before .before .before .before .before .before .coord-at in
+    let h = c .before .before .before .before .before .before .before .before .loop-test .taken in
     let f = judged (a .args .edge) (a .args .bounds) _ _ _ true (e .ensures)
     (c .before .before .before .before .before .before .judge .ensures .0) (not-false _ (c .before .before .before .before .if1 .left)) in
     let p = c .before .before .put .ensures in (
@@ -97,9 +101,10 @@ loop-again c =
       search needs,
       wrote (l .out) _ (l .len) _ (e .result) p (l .inv .2),
       rest-then (a .args .edge) (a .args .bounds) (coords (take (2 * m) s)) (l .inv .3)
-          (in-in (a .args .edge) (a .args .bounds) s m (a .pre .0) (l .i)
-          (c .before .before .before .before .before .before .before .before .loop-test .taken) f _ (l .len) (l .out) _ (e .ensures) p),
+          (in-in (a .args .edge) (a .args .bounds) s m (a .pre .0) (l .i) h f _ (l .len) (l .out) _ (e .ensures) p),
       search needs,
+      search needs,
+      in-in-origin (a .args .edge) (a .args .bounds) s m (a .pre .0) (l .i) h f (a .args .at .i) (l .inv .0) (l .inv .6),
     )
 
 same-length-2 : tie.Need-same-length-2 Inv-loop μ-loop
@@ -109,7 +114,7 @@ returns-2 : tie.Need-returns-2 Inv-loop μ-loop
 returns-2 c =
     let l = c .before .loop in (
       (search needs, search needs, λ h. absurd (omega arith), l .inv .3),
-      record { at-vertex = λ h. absurd (omega arith); at-end = λ _. l .inv .4 },
+      (record { at-vertex = λ h. absurd (omega arith); at-end = λ _. l .inv .4 }, (l .inv .5, l .inv .6)),
     )
 
 pub copy-inside-spec : {M : Type 1} → statement M

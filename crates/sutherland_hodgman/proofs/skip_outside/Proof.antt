@@ -7,21 +7,22 @@ use borrow.Author.Needs.{needs}
 use denote.Ref.{now}
 use lib.ListN.{take}
 use Rattle.tile.specs.Ring.{coords}
-use Rattle.sutherland_hodgman.specs.Contracts.{stepsLeft}
+use Rattle.sutherland_hodgman.specs.Contracts.{stepsLeft, SkippedOrigins}
 use Rattle.sutherland_hodgman.proofs.Walking.{out-out, judged}
+use Rattle.sutherland_hodgman.proofs.OriginWalking.{out-out-origin}
 use Rattle.sutherland_hodgman.proofs.skip_outside.Statement.{statement}
 use Rattle.sutherland_hodgman.proofs.skip_outside.Tie as tie
 
 abbrev Inv-loop : tie.InvT-loop
 Inv-loop ring m edge bounds at i₀ verdicts₀ i verdicts =
     (at .i ≤ i) × (i ≤ m) × (stepsLeft edge bounds (coords (take (2 * m) ring)) false (at .i) ≡ stepsLeft edge bounds
-    (coords (take (2 * m) ring)) false i) × (verdicts ≡ i + 1)
+    (coords (take (2 * m) ring)) false i) × (verdicts ≡ i + 1) × SkippedOrigins edge bounds (coords (take (2 * m) ring)) (at .i) i
 
 abbrev μ-loop : tie.MeasureT-loop
 μ-loop ring m edge bounds at i₀ verdicts₀ i verdicts = m - i
 
 loop-holds : tie.Need-loop-holds Inv-loop μ-loop
-loop-holds c = search needs
+loop-holds c = (search needs, search needs, refl, search needs, λ os. refl)
 
 coord-at-requires : tie.Need-coord-at-requires Inv-loop μ-loop
 coord-at-requires c κs = search needs
@@ -41,7 +42,7 @@ returns c =
         l .inv .2,
         refl,
       ),
-      record { at-vertex = λ _. omega arith; at-end = λ h. absurd (omega arith) },
+      (record { at-vertex = λ _. omega arith; at-end = λ h. absurd (omega arith) }, l .inv .4),
     )
 
 add-i : tie.Need-add-i Inv-loop μ-loop
@@ -54,20 +55,21 @@ loop-again : tie.Need-loop-again Inv-loop μ-loop
 loop-again c =
     let a = c .before .before .before .before .before .before in
     let l = c .before .before .before .before .loop in
-    let j = c .before .judge .ensures in (
+    let j = c .before .judge .ensures in
+    let h = c .before .before .before .loop-test .taken in
+    let f = judged (a .args .edge) (a .args .bounds) _ _ _ false (c .before .before .coord-at .ensures) (j .0) (c .if1 .left) in (
       search needs,
       search needs,
-      l .inv .2 ∙ out-out (a .args .edge) (a .args .bounds) (now (a .args .ring)) (a .args .m) (a .pre .0) (l .i)
-          (c .before .before .before .loop-test .taken)
-          (judged (a .args .edge) (a .args .bounds) _ _ _ false (c .before .before .coord-at .ensures) (j .0) (c .if1 .left)),
+      l .inv .2 ∙ out-out (a .args .edge) (a .args .bounds) (now (a .args .ring)) (a .args .m) (a .pre .0) (l .i) h f,
       search needs,
+      λ os. l .inv .4 os ∙ out-out-origin (a .args .edge) (a .args .bounds) (now (a .args .ring)) (a .args .m) (a .pre .0) (l .i) h f os,
     )
 
 returns-2 : tie.Need-returns-2 Inv-loop μ-loop
 returns-2 c =
     let l = c .before .loop in (
       (search needs, search needs, λ h. absurd (omega arith), l .inv .2, refl),
-      record { at-vertex = λ h. absurd (omega arith); at-end = λ _. l .inv .3 },
+      (record { at-vertex = λ h. absurd (omega arith); at-end = λ _. l .inv .3 }, l .inv .4),
     )
 
 pub skip-outside-spec : {M : Type 1} → statement M

@@ -3,7 +3,7 @@ use Prim.Native.Nat.{_/_}
 use native.Mathlib.Omega.{arith}
 use borrow.Author.Tests.{lt-ltb, le-ltb, eq-eqb, ne-eqb}
 use borrow.Author.Needs.{needs}
-use Rattle.sutherland_hodgman.specs.RingCall.{ringCallRoom, checkRing}
+use Rattle.sutherland_hodgman.specs.RingCall.{ringCallRoom, ringCallOriginRoom, checkRing}
 use Rattle.sutherland_hodgman.proofs.Growth.{B-le}
 use Rattle.sutherland_hodgman.proofs.call.check_ring.Statement.{statement}
 use Rattle.sutherland_hodgman.proofs.call.check_ring.Tie as tie
@@ -19,11 +19,11 @@ returns-2 c = rw (ne-eqb _ _ (c .before .if1 .left), lt-ltb _ _ (c .if2 .taken))
 room-for-requires : tie.Need-room-for-requires
 room-for-requires c κs = search needs
 
-mul-room : tie.Need-mul-room
-mul-room c = omega (arith, B-le (c .before .before .before .args .numbers / 2) (c .before .if2 .left))
+mul-if3 : tie.Need-mul-if3
+mul-if3 c = omega (arith, B-le (c .before .before .before .args .numbers / 2) (c .before .if2 .left))
 
 returns-3 : tie.Need-returns-3
-unfolding checkRing ringCallRoom
+unfolding checkRing ringCallRoom ringCallOriginRoom
 returns-3 c =
     rw (
       ne-eqb _ _ (c .before .before .before .if1 .left),
@@ -33,7 +33,7 @@ returns-3 c =
     )
 
 returns-4 : tie.Need-returns-4
-unfolding checkRing ringCallRoom
+unfolding checkRing ringCallRoom ringCallOriginRoom
 returns-4 c =
     rw (
       ne-eqb _ _ (c .before .before .before .before .if1 .left),
@@ -43,17 +43,58 @@ returns-4 c =
       lt-ltb _ _ (c .if4 .taken),
     )
 
+mul-if5 : tie.Need-mul-if5
+mul-if5 c = search needs
+
 returns-5 : tie.Need-returns-5
-unfolding checkRing ringCallRoom
+unfolding checkRing ringCallRoom ringCallOriginRoom
 returns-5 c =
     rw (
-      ne-eqb _ _ (c .before .before .before .before .if1 .left),
-      le-ltb _ _ (c .before .before .before .if2 .left),
-      ← c .before .before .room-for .ensures,
-      le-ltb _ _ (c .before .if3 .left),
-      le-ltb _ _ (c .if4 .left),
+      ne-eqb _ _ (c .before .before .before .before .before .if1 .left),
+      le-ltb _ _ (c .before .before .before .before .if2 .left),
+      ← c .before .before .before .room-for .ensures,
+      le-ltb _ _ (c .before .before .if3 .left),
+      le-ltb _ _ (c .before .if4 .left),
+      lt-ltb _ _ (c .if5 .taken),
+    )
+
+returns-6 : tie.Need-returns-6
+unfolding checkRing ringCallRoom ringCallOriginRoom
+returns-6 c =
+    rw (
+      ne-eqb _ _ (c .before .before .before .before .before .before .if1 .left),
+      le-ltb _ _ (c .before .before .before .before .before .if2 .left),
+      ← c .before .before .before .before .room-for .ensures,
+      le-ltb _ _ (c .before .before .before .if3 .left),
+      le-ltb _ _ (c .before .before .if4 .left),
+      le-ltb _ _ (c .before .if5 .left),
+      lt-ltb _ _ (c .if6 .taken),
+    )
+
+returns-7 : tie.Need-returns-7
+unfolding checkRing ringCallRoom ringCallOriginRoom
+returns-7 c =
+    rw (
+      ne-eqb _ _ (c .before .before .before .before .before .before .if1 .left),
+      le-ltb _ _ (c .before .before .before .before .before .if2 .left),
+      ← c .before .before .before .before .room-for .ensures,
+      le-ltb _ _ (c .before .before .before .if3 .left),
+      le-ltb _ _ (c .before .before .if4 .left),
+      le-ltb _ _ (c .before .if5 .left),
+      le-ltb _ _ (c .if6 .left),
     )
 
 pub check-ring-spec : {M : Type 1} → statement M
 check-ring-spec =
-    tie.close (tie.spec returns returns-2 room-for-requires mul-room returns-3 returns-4 returns-5)
+    tie.close
+    (tie.spec
+    returns
+    returns-2
+    room-for-requires
+    mul-if3
+    returns-3
+    returns-4
+    mul-if5
+    returns-5
+    returns-6
+    returns-7)

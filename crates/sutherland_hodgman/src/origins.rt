@@ -1,0 +1,88 @@
+// Origins of vertices, 16 bits each, in slices beside the vertices: the position in the input ring, or a number for the line that made
+// the vertex.
+ghost use mathlib.Core.Path.{_≡_};
+ghost use mathlib.Core.List.{[], _∷_, _++_};
+ghost use Prim.Native.Nat.{_+_, _*_, _≤_, _<_};
+ghost use lib.ListN.{length, take, drop, replicate};
+ghost use lib.Seq.{sets};
+ghost use Rattle.tile.specs.Ring.{coords, close};
+ghost use Rattle.tile.specs.Contracts.{Written};
+ghost use Rattle.sutherland_hodgman.specs.Growth.{mostCoordinates};
+ghost use Rattle.sutherland_hodgman.specs.Origins as Origins;
+use tile::Coord;
+use tile::Edge;
+use tile::ring::close;
+use tile::ring::put;
+
+// The origin of what a line makes.
+pub fn line_origin(edge: Edge) -> u16
+    ensures { λ r. ⌜ r ≡ Origins.lineOrigin edge ⌝ }
+{
+    match edge {
+        Edge::Left => 65532,
+        Edge::Right => 65533,
+        Edge::Bottom => 65534,
+        Edge::Top => 65535,
+    }
+}
+
+// Writes the positions of n vertices to the front of a slice.
+pub fn put_positions(origins: &mut [u16], n: usize)
+    requires { ⌜ (n ≤ length (now origins)) × (n ≤ mostCoordinates) ⌝ }
+    ensures { λ _. ⌜ now (origins .exit) ≡ Origins.positionsFrom 0 n ++ drop n (now (origins .entry)) ⌝ }
+{
+    let mut i = 0usize;
+    while i < n {
+        origins[i] = i as u16;
+        i += 1;
+    }
+}
+
+// Writes the i-th vertex and its origin.
+pub fn put_with_origin(out: &mut [f64], out_origins: &mut [u16], i: usize, p: Coord, origin: u16)
+    requires { ⌜ (2 * i + 1 < length (now out)) × (i < length (now «out_origins»)) ⌝ }
+    ensures vertex { λ _. ⌜ now (out .exit) ≡ sets (now (out .entry)) (2 * i) (p .x ∷ p .y ∷ []) ⌝ }
+    ensures origin { λ _. ⌜ now («out_origins» .exit) ≡ sets (now («out_origins» .entry)) i (origin ∷ []) ⌝ }
+{
+    put(out, i, p);
+    out_origins[i] = origin;
+}
+
+// Copies `count` origins, from the i-th of one slice on, to another slice, from the len-th on.
+pub fn copy_origins(origins: &[u16], i: usize, out_origins: &mut [u16], len: usize, count: usize)
+    requires { ⌜ (i + count ≤ length (now origins)) × (len + count ≤ length (now «out_origins»)) ⌝ }
+    ensures { λ _. ⌜ now («out_origins» .exit) ≡ sets (now («out_origins» .entry)) len (take count (drop i (now (origins .entry)))) ⌝ }
+{
+    let mut k = 0usize;
+    while k < count {
+        out_origins[len + k] = origins[i + k];
+        k += 1;
+    }
+}
+
+// Closes the ring of n vertices at the front of a slice as `close` does; a vertex that is appended has the origin of the first.
+pub fn close_with_origins(ring: &mut [f64], origins: &mut [u16], n: usize) -> usize
+    requires { ⌜ (2 * n + 2 ≤ length (now ring)) × (n + 1 ≤ length (now origins)) ⌝ }
+    ensures ring { λ r. ⌜ Written (close (coords (take (2 * n) (now (ring .entry))))) (now (ring .entry)) r (now (ring .exit)) ⌝ }
+    ensures origins { λ r. ⌜ now (origins .exit) ≡ Origins.closeOrigins (coords (take (2 * n) (now (ring .entry))))
+        (take n (now (origins .entry))) ++ drop r (now (origins .entry)) ⌝ }
+{
+    let len = close(ring, n);
+    if len == n {
+        return len;
+    }
+    let first = origins[0];
+    origins[n] = first;
+    len
+}
+
+// Fills the whole slice with 0.
+pub fn clear_origins(origins: &mut [u16])
+    ensures { λ _. ⌜ now (origins .exit) ≡ replicate (length (now (origins .entry))) 0 ⌝ }
+{
+    let mut i = 0usize;
+    while i < origins.len() {
+        origins[i] = 0;
+        i += 1;
+    }
+}
