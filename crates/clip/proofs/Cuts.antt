@@ -8,6 +8,7 @@ use borrow.Author.Tests.{lt-ltb}
 use lib.Ieee.{Float}
 use lib.ListN.{length, take, drop}
 use lib.Seq.{take-at, length-take-le}
+use Rattle.binary64.specs.Lists.{Every}
 use Rattle.tile.specs.declared.Coord.{Coord}
 use Rattle.tile.specs.declared.TileBounds.{TileBounds}
 use Rattle.tile.specs.Ring.{coords, close}
@@ -15,10 +16,11 @@ use Rattle.tile.specs.Contracts.{Stands, Written}
 use Rattle.tile.proofs.Rings.{length-front, stands-front, length-close, close-most}
 use Rattle.box_pairs.specs.declared.Issue.{Issue}
 use Rattle.box_pairs.specs.Issue.{hasIssue, issueOf}
-use Rattle.sutherland_hodgman.specs.Growth.{B}
+use Rattle.sutherland_hodgman.specs.Growth.{B, mostCoordinates}
 use Rattle.sutherland_hodgman.specs.Clip.{clipRing}
-use Rattle.sutherland_hodgman.specs.Contracts.{CutterRoom, RingCut}
-use Rattle.sutherland_hodgman.proofs.Offered.{B-mono, clip-fits, clip-close}
+use Rattle.sutherland_hodgman.specs.Origins.{clipOrigins, closeOrigins}
+use Rattle.sutherland_hodgman.specs.Contracts.{Fits16, CutterRoom, OriginRoom, RingCut}
+use Rattle.sutherland_hodgman.proofs.Offered.{B-mono, clip-fits, clip-close, as-many, close-many, origins-close, origins-fit, close-fits}
 use Rattle.rings.specs.declared.bridge.Bridge.{Bridge}
 use Rattle.rings.specs.declared.bridge.Bridge.the-variants.{None, Along}
 use Rattle.clip.specs.declared.polygon.Flags.{Flags}
@@ -27,7 +29,8 @@ use Rattle.clip.specs.declared.polygon.Route.{Route}
 use Rattle.clip.specs.declared.polygon.Route.the-variants as Routes
 use Rattle.clip.specs.Polygon.{overlayIfIssue, bridgeUnlessSkipped, overlayIfBridge, cutExterior, routeCut, leftOut, cutHole}
 use Rattle.clip.specs.Polygon.{cutRings, unlessNone, cutHoles}
-use Rattle.clip.specs.Contracts.{RingRoom, CutStands}
+use Rattle.clip.specs.Origins.{exteriorOrigins, holeOrigins, holesOrigins, cutOrigins}
+use Rattle.clip.specs.Contracts.{RingRoom, RingOriginRoom, CutStands, OriginsStand}
 
 -- ---- room
 
@@ -51,6 +54,31 @@ hole-fits-room b r = go (leftOut (clipRing b r))
     go true = omega arith
     go false = cut-fits-room b r
 
+-- ---- there are as many origins as coordinates, and each fits 16 bits
+
+pub exterior-origins-length : (b : TileBounds) (r : List Coord) → length (exteriorOrigins b r) ≡ length (cutExterior b r)
+exterior-origins-length b r = close-many (clipRing b r) (clipOrigins b r) (as-many b r)
+
+pub hole-origins-length : (b : TileBounds) (r : List Coord) → length (holeOrigins b r) ≡ length (cutHole b r)
+unfolding holeOrigins cutHole
+hole-origins-length b r = go (leftOut (clipRing b r))
+  where
+    go : (t : Bool) → length (cond t [] (exteriorOrigins b r)) ≡ length (cond t [] (close (clipRing b r)))
+    go true = refl
+    go false = exterior-origins-length b r
+
+module _ (b : TileBounds) (r : List Coord) (few : length r ≤ mostCoordinates) where
+  pub exterior-origins-fit : Every Fits16 (exteriorOrigins b r)
+  exterior-origins-fit = close-fits (clipRing b r) (clipOrigins b r) (origins-fit b r few)
+
+  pub hole-origins-fit : Every Fits16 (holeOrigins b r)
+  unfolding holeOrigins
+  hole-origins-fit = go (leftOut (clipRing b r))
+    where
+      go : (t : Bool) → Every Fits16 (cond t [] (exteriorOrigins b r))
+      go true = tt
+      go false = exterior-origins-fit
+
 -- ---- what a slice holds
 
 pub copied-front : (k : ℕ) (from to to′ : List Float) → k ≤ length from → to′ ≡ take k from ++ drop k to → take k to′ ≡ take k from
@@ -66,6 +94,15 @@ module _ (n : ℕ) (s : List Float) (a b : ℕ) (room : RingRoom n s a b) where
   cutter-room =
       let m = B-mono n (length (close (coords (take (2 * n) s)))) lent-count in record
       { vertices = room .lent; scratch-room = omega (arith, room .scratch-room); output-room = omega (arith, room .output-room) }
+
+  pub origin-room : (c d : ℕ) → RingOriginRoom n s c d → OriginRoom n c d
+  origin-room c d o =
+      let m = B-mono n (length (close (coords (take (2 * n) s)))) lent-count in
+      record {
+        positions = omega (arith, lent-count, room .few);
+        scratch-room = omega (arith, o .scratch-room);
+        output-room = omega (arith, o .output-room);
+      }
 
   module _ (bounds : TileBounds) (k : ℕ) (after : List Float) (c : RingCut bounds (coords (take (2 * n) s)) k after) where
     pub cut-ring : coords (take (2 * k) after) ≡ clipRing bounds (close (coords (take (2 * n) s)))
@@ -85,6 +122,17 @@ module _ (n : ℕ) (s : List Float) (a b : ℕ) (room : RingRoom n s a b) where
       pub closed-fits : 0 < k → r ≤ B (length (close (coords (take (2 * n) s))))
       closed-fits h =
           omega (arith, closed-written .count, cut-count, cut-fits h, close-most (clipRing bounds (close (coords (take (2 * n) s)))))
+
+      -- the origins, likewise
+      pub closed-origins : (os os′ : List ℕ) → take k os ≡ clipOrigins bounds (coords (take (2 * n) s))
+          → os′ ≡ closeOrigins (coords (take (2 * k) after)) (take k os) ++ drop r os
+          → take r os′ ≡ exteriorOrigins bounds (close (coords (take (2 * n) s)))
+      closed-origins os os′ e h =
+          let ring = close (coords (take (2 * n) s)) in
+          let o : take k os ≡ clipOrigins bounds ring = e ∙ sym (origins-close bounds (coords (take (2 * n) s)) (room .closes)) in
+          let q : os′ ≡ exteriorOrigins bounds ring ++ drop r os = rw (cut-ring, o) at h in
+          let m : length (exteriorOrigins bounds ring) ≡ r = exterior-origins-length bounds ring ∙ sym (closed-written .count) in
+          rw q (take-at (exteriorOrigins bounds ring) (drop r os) r m)
 
       pub closed-some : 0 < k → 0 < r
       closed-some h = omega (arith, closed-written .count, cut-count, length-close (clipRing bounds (close (coords (take (2 * n) s)))))
@@ -107,13 +155,28 @@ module _ (flags : Flags) (b : TileBounds) (r ring : List Coord) (issue : Issue) 
       go false (Along edge) = tt
       go false None = (stands, some)
 
+  pub judged-origins : (after : List ℕ) → take n after ≡ exteriorOrigins b r → OriginsStand b r to after
+  judged-origins after stands = rw is (go (hasIssue issue) (bridgeUnlessSkipped flags b ring))
+    where
+      go : (t : Bool) (bridge : Bridge) → OriginsStand b r
+          (cond t (Routes.Overlay (Reasons.Cut issue)) (overlayIfBridge bridge (Routes.Cut n))) after
+      go true bridge = tt
+      go false (Along edge) = tt
+      go false None = stands
+
 -- ---- all rings of a cut
+
+unless-some : {A : Type 0} (c : List A) (others : List (List A)) → 0 < length c → c ∷ others ≡ unlessNone c others
+unless-some [] others h = absurd (omega arith)
+unless-some (p ∷ c) others h = refl
 
 module _ (b : TileBounds) (r : List Coord) (rest : List (List Coord)) (some : 0 < length (cutExterior b r)) where
   pub cut-rings : cutRings b (r ∷ rest) ≡ unlessNone (cutExterior b r) (cutHoles b rest)
   unfolding cutRings
-  cut-rings = go (cutExterior b r) some
-    where
-      go : (c : List Coord) → 0 < length c → c ∷ cutHoles b rest ≡ unlessNone c (cutHoles b rest)
-      go [] h = absurd (omega arith)
-      go (p ∷ c) h = refl
+  cut-rings = unless-some (cutExterior b r) (cutHoles b rest) some
+
+  pub cut-origins : cutOrigins b (r ∷ rest) ≡ unlessNone (exteriorOrigins b r) (holesOrigins b rest)
+  unfolding cutOrigins
+  cut-origins =
+      let n : 0 < length (exteriorOrigins b r) = omega (arith, exterior-origins-length b r) in
+      unless-some (exteriorOrigins b r) (holesOrigins b rest) n

@@ -14,6 +14,7 @@ use Rattle.sutherland_hodgman.specs.Growth.{B, mostCoordinates}
 use Rattle.clip.specs.declared.polygon.Route.{Route}
 use Rattle.clip.specs.declared.polygon.Route.the-variants as Routes
 use Rattle.clip.specs.Polygon.{cutExterior}
+use Rattle.clip.specs.Origins.{exteriorOrigins}
 
 -- A ring of n coordinates at the front of a slice can be closed and cut with a scratch slice and an output of these lengths. Its first
 -- coordinate holds no NaN, so that closing closes it.
@@ -23,6 +24,11 @@ pub record RingRoom (n : ℕ) (ring : List Float) (scratch out : ℕ) : Type 0 w
   pub closes : closed (close (coords (take (2 * n) ring))) ≡ true
   pub scratch-room : 2 * B (length (close (coords (take (2 * n) ring)))) ≤ scratch
   pub output-room : 2 * B (length (close (coords (take (2 * n) ring)))) ≤ out
+
+-- the origins of such a ring have room in a scratch slice and an output of these lengths
+pub record RingOriginRoom (n : ℕ) (ring : List Float) (scratch out : ℕ) : Type 0 where
+  pub scratch-room : B (length (close (coords (take (2 * n) ring)))) ≤ scratch
+  pub output-room : B (length (close (coords (take (2 * n) ring)))) ≤ out
 
 -- an exterior is searched for crossings too, for which the sweep takes positions
 pub record ExteriorRoom (n : ℕ) (ring : List Float) (scratch out order : ℕ) : Type 0 where
@@ -35,3 +41,10 @@ CutStands b ring Routes.Nothing after = Unit {0}
 CutStands b ring Routes.Unchanged after = Unit {0}
 CutStands b ring (Routes.Cut n) after = Stands (cutExterior b ring) n after × (0 < n)
 CutStands b ring (Routes.Overlay reason) after = Unit {0}
+
+-- where the route is a cut, the origins of the cut exterior stand at the front of the slice
+abbrev pub OriginsStand : TileBounds → List Coord → Route → List ℕ → Type 0
+OriginsStand b ring Routes.Nothing after = Unit {0}
+OriginsStand b ring Routes.Unchanged after = Unit {0}
+OriginsStand b ring (Routes.Cut n) after = take n after ≡ exteriorOrigins b ring
+OriginsStand b ring (Routes.Overlay reason) after = Unit {0}

@@ -1,2 +1,3 @@
 pub mod Polygon
+pub mod Origins
 pub mod Contracts

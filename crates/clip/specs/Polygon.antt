@@ -77,7 +77,7 @@ unfoldable pub cutHole : TileBounds → List Coord → List Coord
 cutHole b r = cond (leftOut (clipRing b r)) [] (close (clipRing b r))
 
 -- a ring that is not left out, before others
-abbrev pub unlessNone : List Coord → List (List Coord) → List (List Coord)
+abbrev pub unlessNone : {A : Type 0} → List A → List (List A) → List (List A)
 unlessNone [] rings = rings
 unlessNone (p ∷ r) rings = (p ∷ r) ∷ rings
 

@@ -8,6 +8,7 @@ ghost use Rattle.tile.specs.Ring as Ring;
 ghost use Rattle.tile.specs.Contracts as TileContracts;
 ghost use Rattle.box_pairs.specs.Issue.{issueOf};
 ghost use Rattle.clip.specs.Polygon as Polygon;
+ghost use Rattle.clip.specs.Origins as Origins;
 ghost use Rattle.clip.specs.Contracts as Contracts;
 ghost use Rattle.clip.specs.Polygon.{told};
 use binary64::slices::copy;
@@ -20,6 +21,7 @@ use rings::rectangle::Rect;
 use rings::rectangle::intersects_bounds;
 use rings::rectangle::is_fully_inside;
 use sutherland_hodgman::clip_ring;
+use sutherland_hodgman::origins::close_with_origins;
 use tile::Edge;
 use tile::TileBounds;
 use tile::ring::close;
@@ -186,30 +188,36 @@ fn judge_cut(ring: &[f64], n: usize, issue: Issue, flags: Flags, bounds: TileBou
     Route::Cut(n)
 }
 
-// Cuts the exterior; a cut that stays stands at the front of the output.
+// Cuts the exterior; a cut that stays stands at the front of the output, and its origins at the front of theirs.
 fn route_cut(
     ring: &[f64],
     n: usize,
     flags: Flags,
     bounds: TileBounds,
     scratch: &mut [f64],
+    origin_scratch: &mut [u16],
     out: &mut [f64],
+    out_origins: &mut [u16],
     order: &mut [u32],
 ) -> Route
     requires { ⌜ Contracts.ExteriorRoom n (now ring) (length (now scratch)) (length (now out)) (length (now order)) ⌝ }
-    ensures { λ r. ⌜ r ≡ Polygon.routeCut flags bounds (Ring.close (Ring.coords (take (2 * n) (now (ring .entry))))) ⌝ }
-    ensures { λ r. ⌜ Contracts.CutStands bounds (Ring.close (Ring.coords (take (2 * n) (now (ring .entry))))) r (now (out .exit)) ⌝ }
+    requires { ⌜ Contracts.RingOriginRoom n (now ring) (length (now «origin_scratch»)) (length (now «out_origins»)) ⌝ }
+    ensures route { λ r. ⌜ r ≡ Polygon.routeCut flags bounds (Ring.close (Ring.coords (take (2 * n) (now (ring .entry))))) ⌝ }
+    ensures cut { λ r. ⌜ Contracts.CutStands bounds (Ring.close (Ring.coords (take (2 * n) (now (ring .entry))))) r (now (out .exit)) ⌝ }
+    ensures origins { λ r. ⌜ Contracts.OriginsStand bounds (Ring.close (Ring.coords (take (2 * n) (now (ring .entry))))) r
+        (now («out_origins» .exit)) ⌝ }
 {
-    let clipped = clip_ring(ring, n, bounds, scratch, out);
+    let clipped = clip_ring(ring, n, bounds, scratch, origin_scratch, out, out_origins);
     if clipped == 0 {
         return Route::Nothing;
     }
-    let m = close(out, clipped);
+    let m = close_with_origins(out, out_origins, clipped);
     let issue = find_issue(out, m, flags.assume_simple, scratch, order);
     judge_cut(out, m, issue, flags, bounds)
 }
 
-// What the exterior of n coordinates decides, rect being the rectangle of all rings; a cut exterior stands at the front of the output.
+// What the exterior of n coordinates decides, rect being the rectangle of all rings; a cut exterior stands at the front of the output, and
+// its origins at the front of theirs.
 pub fn route_exterior(
     ring: &[f64],
     n: usize,
@@ -217,12 +225,17 @@ pub fn route_exterior(
     rect: Rect,
     bounds: TileBounds,
     scratch: &mut [f64],
+    origin_scratch: &mut [u16],
     out: &mut [f64],
+    out_origins: &mut [u16],
     order: &mut [u32],
 ) -> Route
     requires { ⌜ Contracts.ExteriorRoom n (now ring) (length (now scratch)) (length (now out)) (length (now order)) ⌝ }
-    ensures { λ r. ⌜ r ≡ Polygon.routeExterior flags rect bounds (Ring.close (Ring.coords (take (2 * n) (now (ring .entry))))) ⌝ }
-    ensures { λ r. ⌜ Contracts.CutStands bounds (Ring.close (Ring.coords (take (2 * n) (now (ring .entry))))) r (now (out .exit)) ⌝ }
+    requires { ⌜ Contracts.RingOriginRoom n (now ring) (length (now «origin_scratch»)) (length (now «out_origins»)) ⌝ }
+    ensures route { λ r. ⌜ r ≡ Polygon.routeExterior flags rect bounds (Ring.close (Ring.coords (take (2 * n) (now (ring .entry))))) ⌝ }
+    ensures cut { λ r. ⌜ Contracts.CutStands bounds (Ring.close (Ring.coords (take (2 * n) (now (ring .entry))))) r (now (out .exit)) ⌝ }
+    ensures origins { λ r. ⌜ Contracts.OriginsStand bounds (Ring.close (Ring.coords (take (2 * n) (now (ring .entry))))) r
+        (now («out_origins» .exit)) ⌝ }
 {
     if !intersects_bounds(rect, bounds) {
         return Route::Nothing;
@@ -234,24 +247,40 @@ pub fn route_exterior(
     if is_fully_inside(rect, bounds) {
         return Route::Unchanged;
     }
-    route_cut(ring, n, flags, bounds, scratch, out, order)
+    route_cut(
+        ring,
+        n,
+        flags,
+        bounds,
+        scratch,
+        origin_scratch,
+        out,
+        out_origins,
+        order,
+    )
 }
 
-// Cuts a hole, to the front of the output, and answers how many coordinates it has; one that is left out has none.
+// Cuts a hole, to the front of the output, and its origins to the front of theirs, and answers how many coordinates it has; one that is
+// left out has none.
 pub fn clip_hole(
     ring: &[f64],
     n: usize,
     bounds: TileBounds,
     scratch: &mut [f64],
+    origin_scratch: &mut [u16],
     out: &mut [f64],
+    out_origins: &mut [u16],
 ) -> usize
     requires { ⌜ Contracts.RingRoom n (now ring) (length (now scratch)) (length (now out)) ⌝ }
-    ensures { λ r. ⌜ TileContracts.Stands (Polygon.cutHole bounds (Ring.close (Ring.coords (take (2 * n) (now (ring .entry)))))) r
+    requires { ⌜ Contracts.RingOriginRoom n (now ring) (length (now «origin_scratch»)) (length (now «out_origins»)) ⌝ }
+    ensures cut { λ r. ⌜ TileContracts.Stands (Polygon.cutHole bounds (Ring.close (Ring.coords (take (2 * n) (now (ring .entry)))))) r
         (now (out .exit)) ⌝ }
+    ensures origins { λ r. ⌜ take r (now («out_origins» .exit))
+        ≡ Origins.holeOrigins bounds (Ring.close (Ring.coords (take (2 * n) (now (ring .entry))))) ⌝ }
 {
-    let clipped = clip_ring(ring, n, bounds, scratch, out);
+    let clipped = clip_ring(ring, n, bounds, scratch, origin_scratch, out, out_origins);
     if clipped < 4 {
         return 0;
     }
-    close(out, clipped)
+    close_with_origins(out, out_origins, clipped)
 }

@@ -5,7 +5,7 @@ mod LastPass
 mod LeavingOff
 pub mod Offered
 mod OriginCases
-pub mod OriginLaws
+mod OriginLaws
 mod OriginStages
 mod OriginWalking
 mod Promises

@@ -6,19 +6,22 @@ use mathlib.Core.List.{List, [], _∷_}
 use Prim.Native.Nat.{ℕ, zero, suc, _+_, _*_, _/_, _<_, _≤_}
 use native.Mathlib.Omega.{arith}
 use lib.Ieee.{Float}
-use lib.ListN.{length, take, replicate}
+use lib.ListN.{length, getD, take, replicate}
+use Rattle.binary64.specs.Lists.{Every}
 use Rattle.tile.specs.declared.Coord.{Coord}
 use Rattle.tile.specs.declared.TileBounds.{TileBounds}
+use Rattle.tile.specs.declared.Edge.{Edge}
 use Rattle.tile.specs.Ring.{coords, closed, close}
 use Rattle.sutherland_hodgman.specs.declared.call.Refusal.{Refusal}
 use Rattle.sutherland_hodgman.specs.declared.call.Check.{Check}
 use Rattle.sutherland_hodgman.specs.declared.call.Check.the-variants.{Passes}
 use Rattle.sutherland_hodgman.specs.declared.call.RingAnswer.the-variants.{Clipped}
+use Rattle.sutherland_hodgman.specs.CuttingLines.{fixed, bound}
 use Rattle.sutherland_hodgman.specs.Clip.{leaveOff, around, pass, passes, finish, clipRing}
 use Rattle.sutherland_hodgman.specs.Growth.{halfGrowth, fourHalfGrowths, B, mostCoordinates}
-use Rattle.sutherland_hodgman.specs.Origins.{closeOrigins, clipOrigins}
+use Rattle.sutherland_hodgman.specs.Origins.{lineOrigin, passesOrigins, closeOrigins, clipOrigins, Rises}
 use Rattle.sutherland_hodgman.specs.RingCall.{failsIf, RingSlices, ringCallCheck, ringCallAnswer}
-use Rattle.sutherland_hodgman.specs.Contracts.{CutterRoom, OriginRoom}
+use Rattle.sutherland_hodgman.specs.Contracts.{Fits16, CutterRoom, OriginRoom}
 use Rattle.sutherland_hodgman.proofs.Calls as calls
 use Rattle.sutherland_hodgman.proofs.Growth as growth
 use Rattle.sutherland_hodgman.proofs.LeavingOff.{leaveOff-close}
@@ -113,9 +116,32 @@ as-many = laws.as-many
 pub close-many : (r : List Coord) (os : List ℕ) → length os ≡ length r → length (closeOrigins r os) ≡ length (close r)
 close-many = laws.close-many
 
+-- where an origin is a position, the ring's vertex there is the one that stands here; where it is a line, the line's bound stands here
+pub at-position : (b : TileBounds) (ring : List Coord) (d : Coord) (i : ℕ) → i < length (clipRing b ring)
+    → getD (clipOrigins b ring) i 0 < mostCoordinates
+    → (getD (clipOrigins b ring) i 0 < length ring)
+    × (getD (clipRing b ring) i d ≡ getD ring (getD (clipOrigins b ring) i 0) (getD (clipRing b ring) i d))
+at-position = laws.at-position
+
+pub on-line : (b : TileBounds) (ring : List Coord) (d : Coord) (i : ℕ) → i < length (clipRing b ring) → (l : Edge)
+    → length ring ≤ mostCoordinates → getD (clipOrigins b ring) i 0 ≡ lineOrigin l
+    → fixed l (getD (clipRing b ring) i d) ≡ bound l b
+on-line = laws.on-line
+
+-- positions rise from vertex to vertex before the closing one
+pub rises : (b : TileBounds) (ring : List Coord) → Rises (passesOrigins b ring)
+rises = laws.rises
+
 -- closing the ring first changes none of them
 pub origins-close : (b : TileBounds) (r : List Coord) → closed (close r) ≡ true → clipOrigins b (close r) ≡ clipOrigins b r
 origins-close = laws.origins-close
+
+-- each of them fits 16 bits, also after one more closing
+pub origins-fit : (b : TileBounds) (r : List Coord) → length r ≤ mostCoordinates → Every Fits16 (clipOrigins b r)
+origins-fit = laws.origins-fit
+
+pub close-fits : (r : List Coord) (os : List ℕ) → Every Fits16 os → Every Fits16 (closeOrigins r os)
+close-fits = laws.close-fits
 
 -- ---- the ring call, whose refusals and clearing the slice call shares
 

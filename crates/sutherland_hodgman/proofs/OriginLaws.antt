@@ -3,13 +3,14 @@ use mathlib.Core.Path.{_≡_, refl, sym, _∙_, ap, subst}
 use mathlib.Core.Logic.{inl, inr}
 use mathlib.Core.Bool.{Bool, true, false, cond}
 use mathlib.Core.List.{List, [], _∷_, _++_}
-use Prim.Native.Nat.{ℕ, zero, suc, _-_, _≤_, _<_}
+use Prim.Native.Nat.{ℕ, zero, suc, _+_, _-_, _≤_, _<_}
 use native.Mathlib.Nat.{le-refl, le-trans}
 use native.Mathlib.Omega.{arith}
 use lib.Dec.{T, leb, ltb, ltb→lt}
 use borrow.Author.Tests.{lt-ltb}
 use lib.Seq.{drop-cons}
 use lib.ListN.{length, getD, take, drop, length-append, length-drop}
+use Rattle.binary64.specs.Lists.{Every}
 use Rattle.tile.specs.declared.Coord.{Coord}
 use Rattle.tile.specs.declared.TileBounds.{TileBounds}
 use Rattle.tile.specs.declared.Edge.{Edge}
@@ -19,6 +20,7 @@ use Rattle.sutherland_hodgman.specs.CuttingLines.{fixed, bound, inside, 
 use Rattle.sutherland_hodgman.specs.Clip.{step, steps, leaveOff, around, pass, passes, finish, clipRing}
 use Rattle.sutherland_hodgman.specs.Origins.{lineOrigin, positionsFrom, stepOrigins, stepsOrigins, aroundOrigins, passOrigins, passesOrigins, closeOrigins, finishOrigins, clipOrigins, Traced, Rises}
 use Rattle.sutherland_hodgman.specs.Growth.{mostCoordinates}
+use Rattle.sutherland_hodgman.specs.Contracts.{Fits16}
 use Rattle.sutherland_hodgman.proofs.Growth.{leaveOff-length}
 use Rattle.sutherland_hodgman.proofs.LeavingOff.{leaveOff-close}
 use Rattle.sutherland_hodgman.proofs.OriginWalking.{step-many, pass-many, pass-enough, length-positions}
@@ -305,3 +307,67 @@ first-pass b r =
 pub origins-close : (b : TileBounds) (r : List Coord) → closed (close r) ≡ true → clipOrigins b (close r) ≡ clipOrigins b r
 unfolding clipOrigins passesOrigins passes pass
 origins-close b r e = rw (first-pass b (close r), first-pass b r, leaveOff-close r e)
+
+-- ---- each origin fits 16 bits
+
+line-fits : (l : Edge) → Fits16 (lineOrigin l)
+line-fits Left = omega arith
+line-fits Right = omega arith
+line-fits Bottom = omega arith
+line-fits Top = omega arith
+
+fit-append : (os qs : List ℕ) → Every Fits16 os → Every Fits16 qs → Every Fits16 (os ++ qs)
+fit-append [] qs h k = k
+fit-append (o ∷ os) qs h k = (h .0, fit-append os qs (h .1) k)
+
+first-fits : (os : List ℕ) → Every Fits16 os → Fits16 (getD os 0 0)
+first-fits [] h = omega arith
+first-fits (o ∷ os) h = h .0
+
+drop-fits : (os : List ℕ) → Every Fits16 os → Every Fits16 (drop 1 os)
+drop-fits [] h = tt
+drop-fits (o ∷ os) h = h .1
+
+positions-fit : (i n : ℕ) → i + n ≤ mostCoordinates → Every Fits16 (positionsFrom i n)
+unfolding positionsFrom
+positions-fit i zero h = tt
+positions-fit i (suc n) h = (omega arith, positions-fit (suc i) n (omega arith))
+
+step-fits : (l : Edge) (v f : Bool) (o : ℕ) → Fits16 o → Every Fits16 (stepOrigins v f (lineOrigin l) o)
+step-fits l true true o h = (h, tt)
+step-fits l true false o h = (line-fits l, tt)
+step-fits l false true o h = (line-fits l, (h, tt))
+step-fits l false false o h = tt
+
+module _ (l : Edge) (b : TileBounds) where
+  steps-fit : (v : Bool) (r : List Coord) (os : List ℕ) → Every Fits16 os → Every Fits16 (stepsOrigins l b v r os)
+  unfolding stepsOrigins
+  steps-fit v [] os h = tt
+  steps-fit v (e ∷ r) os h =
+      fit-append (stepOrigins v (inside l b e) (lineOrigin l) (getD os 0 0)) (stepsOrigins l b (inside l b e) r (drop 1 os))
+      (step-fits l v (inside l b e) (getD os 0 0) (first-fits os h)) (steps-fit (inside l b e) r (drop 1 os) (drop-fits os h))
+
+  around-fits : (r : List Coord) (os : List ℕ) → Every Fits16 os → Every Fits16 (aroundOrigins l b r os)
+  unfolding aroundOrigins
+  around-fits [] os h = tt
+  around-fits (p ∷ r) os h = steps-fit (inside l b (last p r)) (p ∷ r) os h
+
+  pass-fits : (r : List Coord) (os : List ℕ) → Every Fits16 os → Every Fits16 (passOrigins l b r os)
+  unfolding passOrigins
+  pass-fits r os h = around-fits (leaveOff r) os h
+
+cond-fits : (t : Bool) (os qs : List ℕ) → Every Fits16 os → Every Fits16 qs → Every Fits16 (cond t os qs)
+cond-fits true os qs h k = h
+cond-fits false os qs h k = k
+
+pub close-fits : (r : List Coord) (os : List ℕ) → Every Fits16 os → Every Fits16 (closeOrigins r os)
+unfolding closeOrigins
+close-fits r os h =
+    cond-fits (closed r) os (os ++ (getD os 0 0 ∷ [])) h (fit-append os (getD os 0 0 ∷ []) h (first-fits os h, tt))
+
+pub origins-fit : (b : TileBounds) (r : List Coord) → length r ≤ mostCoordinates → Every Fits16 (clipOrigins b r)
+unfolding clipOrigins finishOrigins passesOrigins
+origins-fit b r n =
+    let P = pass-fits Left b r _ (positions-fit 0 (length r) (omega arith)) in
+    let Q = pass-fits Top b _ _ (pass-fits Bottom b _ _ (pass-fits Right b _ _ P)) in
+    cond-fits (leb 3 (length (passes b r))) (closeOrigins (passes b r) _) [] (close-fits (passes b r) _ Q) tt

@@ -3,7 +3,7 @@
 use mathlib.Core.Path.{_≡_}
 use mathlib.Core.Bool.{Bool, true, false}
 use mathlib.Core.List.{List, _++_}
-use Prim.Native.Nat.{_-_, ℕ, zero, suc, _+_, _≤_, _<_, _*_}
+use Prim.Native.Nat.{_-_, ℕ, zero, suc, _+_, _≤_, _<_, _*_, _^_}
 use lib.Ieee.{Float, nan}
 use lib.ListN.{length, take, getD, drop, replicate}
 use lib.Seq.{sets}
@@ -66,6 +66,10 @@ pub record RunVerdicts (m i verdicts : ℕ) : Type 0 where
   pub at-end : m ≤ i → verdicts ≡ i + 1
 
 -- ---- a pass: the origins
+
+-- an origin, which is a position or a line's number, fits 16 bits
+abbrev pub Fits16 : ℕ → Type 0
+Fits16 o = o < 2 ^ 16
 
 -- a ring of n vertices whose origins stand at the front of a slice of length `origins` can be cut at one edge: those of the result have
 -- room in a slice of length `out`

@@ -11,10 +11,10 @@ intersects-bounds-requires c κs = search needs
 
 returns : tie.Need-returns
 unfolding routeExterior
-returns c = (rw (← c .before .intersects-bounds .ensures, not-true (c .before .intersects-bounds .result) (c .if1 .taken)), tt)
+returns c = (rw (← c .before .intersects-bounds .ensures, not-true (c .before .intersects-bounds .result) (c .if1 .taken)), (tt, tt))
 
 closed-issue-requires : tie.Need-closed-issue-requires
-closed-issue-requires c κs = c .before .before .before .before .before .before .before .before .before .pre
+closed-issue-requires c κs = c .before .before .before .before .before .before .before .before .before .before .before .pre .0
 
 has-issue-requires : tie.Need-has-issue-requires
 has-issue-requires c κs = search needs
@@ -32,17 +32,13 @@ returns-2 : tie.Need-returns-2
 unfolding routeExterior
 returns-2 c = (
   rw (
-    ← c .before .before .before .before .before .before .before .before .before .before .before .before .before
-        .intersects-bounds .ensures,
-    not-false (c .before .before .before .before .before .before .before .before .before .before .before
-        .before .before .intersects-bounds .result) (c .before .before .before .before .before .before .before .before .before .before
-        .before .before .if1 .left),
+    ← c .before .before .before .before .before .before .before .before .before .before .before .before .before .intersects-bounds .ensures,
+    not-false (c .before .before .before .before .before .before .before .before .before .before .before .before .before .intersects-bounds .result) (c .before .before .before .before .before .before .before .before .before .before .before .before .if1 .left),
     ← c .before .before .before .before .before .before .before .before .closed-issue .ensures,
-    ←
-        c .before .has-issue .ensures,
+    ← c .before .has-issue .ensures,
     c .if2 .taken,
   ),
-  tt,
+  (tt, tt),
 )
 
 is-fully-inside-requires : tie.Need-is-fully-inside-requires
@@ -61,38 +57,34 @@ returns-3 : tie.Need-returns-3
 unfolding routeExterior
 returns-3 c = (
   rw (
-    ← c .before .before .before .before .before .before .before .before .before .before .before .before .before .before
-        .before .intersects-bounds .ensures,
-    not-false
-        (c .before .before .before .before .before .before .before .before .before .before .before .before .before .before .before
-        .intersects-bounds .result) (c .before .before .before .before .before .before .before .before .before .before .before .before
-        .before .before .if1 .left),
-    ← c .before .before .before .before .before .before .before .before .before .before .closed-issue
-        .ensures,
+    ← c .before .before .before .before .before .before .before .before .before .before .before .before .before .before .before .intersects-bounds .ensures,
+    not-false (c .before .before .before .before .before .before .before .before .before .before .before .before .before .before .before .intersects-bounds .result) (c .before .before .before .before .before .before .before .before .before .before .before .before .before .before .if1 .left),
+    ← c .before .before .before .before .before .before .before .before .before .before .closed-issue .ensures,
     ← c .before .before .before .has-issue .ensures,
     c .before .before .if2 .left,
     ← c .before .is-fully-inside .ensures,
     c .if3 .taken,
   ),
-  tt,
+  (tt, tt),
 )
 
 route-cut-requires : tie.Need-route-cut-requires
 route-cut-requires c κs =
-    let p = c .before .before .before .before .before .before .before .before .before .before .before .before .before .before .before
-    .before .before .before .before .before .before .before .before .pre in
+    let p = c .before .before .before .before .before .before .before .before .before .before .before .before .before .before .before .before .before .before .before .before .before .before .before .before .before .before .before .pre .0 in
     let r = p .room in
-    record {
-      room = record {
-        lent = r .lent;
-        few = r .few;
-        closes = r .closes;
-        scratch-room = omega (arith, r .scratch-room);
-        output-room =
-            omega (arith, r .output-room);
-      };
-      positions = omega (arith, p .positions);
-    }
+    let k = c .before .before .before .before .before .before .before .before .before .before .before .before .before .before .before .closed-issue .kept in (
+      record {
+        room = record {
+          lent = r .lent;
+          few = r .few;
+          closes = r .closes;
+          scratch-room = omega (arith, k, r .scratch-room);
+          output-room = omega (arith, k, r .output-room);
+        };
+        positions = omega (arith, k, p .positions);
+      },
+      c .before .before .before .before .before .before .before .before .before .before .before .before .before .before .before .before .before .before .before .before .before .before .before .before .before .before .before .pre .1,
+    )
 
 same-length-7 : tie.Need-same-length-7
 same-length-7 c = search needs
@@ -103,29 +95,25 @@ same-length-8 c = search needs
 same-length-9 : tie.Need-same-length-9
 same-length-9 c = search needs
 
+same-length-10 : tie.Need-same-length-10
+same-length-10 c = search needs
+
+same-length-11 : tie.Need-same-length-11
+same-length-11 c = search needs
+
 returns-4 : tie.Need-returns-4
 unfolding routeExterior
 returns-4 c = (
   rw (
-    ← c .before .before .before .before .before .before .before .before .before .before .before .before .before .before
-        .before .before .before .before .before .before .before .before .before .before .before .intersects-bounds .ensures,
-    not-false
-        (c .before .before .before .before .before .before .before .before .before .before .before .before .before .before .before .before
-        .before .before .before .before .before .before .before .before .before .intersects-bounds .result)
-        (c .before .before .before .before .before .before .before .before .before .before .before .before .before .before .before .before
-        .before .before .before .before .before .before .before .before .if1 .left),
-    ←
-        c .before .before .before .before .before .before .before .before .before .before .before .before .before .before .before .before
-        .before .before .before .before .closed-issue .ensures,
-    ←
-        c .before .before .before .before .before .before .before .before .before .before .before .before .before .has-issue .ensures,
-    c .before .before .before .before .before .before .before .before .before .before .before .before .if2 .left,
-    ←
-        c .before .before .before .before .before .before .before .before .before .before .before .is-fully-inside .ensures,
-    c .before .before .before .before .before .before .before .before .before .before .if3 .left,
-  )
-      (c .before .before .before .before .before .before .route-cut .ensures .0),
-  c .before .before .before .before .before .before .route-cut .ensures .1,
+    ← c .before .before .before .before .before .before .before .before .before .before .before .before .before .before .before .before .before .before .before .before .before .before .before .before .before .before .before .before .before .before .before .intersects-bounds .ensures,
+    not-false (c .before .before .before .before .before .before .before .before .before .before .before .before .before .before .before .before .before .before .before .before .before .before .before .before .before .before .before .before .before .before .before .intersects-bounds .result) (c .before .before .before .before .before .before .before .before .before .before .before .before .before .before .before .before .before .before .before .before .before .before .before .before .before .before .before .before .before .before .if1 .left),
+    ← c .before .before .before .before .before .before .before .before .before .before .before .before .before .before .before .before .before .before .before .before .before .before .before .before .before .before .closed-issue .ensures,
+    ← c .before .before .before .before .before .before .before .before .before .before .before .before .before .before .before .before .before .before .before .has-issue .ensures,
+    c .before .before .before .before .before .before .before .before .before .before .before .before .before .before .before .before .before .before .if2 .left,
+    ← c .before .before .before .before .before .before .before .before .before .before .before .before .before .before .before .before .before .is-fully-inside .ensures,
+    c .before .before .before .before .before .before .before .before .before .before .before .before .before .before .before .before .if3 .left,
+  ) (c .before .before .before .before .before .before .before .before .before .before .route-cut .ensures .0),
+  c .before .before .before .before .before .before .before .before .before .before .route-cut .ensures .1,
 )
 
 pub route-exterior-spec : {M : Type 1} → statement M
@@ -149,4 +137,6 @@ route-exterior-spec =
     same-length-7
     same-length-8
     same-length-9
+    same-length-10
+    same-length-11
     returns-4)

@@ -1,0 +1,35 @@
+-- Where each coordinate of a cut polygon came from (document 02, Point 12): in step with the cut rings of Polygon. Definitions only.
+use mathlib.Core.Bool.{cond}
+use mathlib.Core.List.{List, [], _∷_}
+use Prim.Native.Nat.{ℕ}
+use Rattle.tile.specs.declared.Coord.{Coord}
+use Rattle.tile.specs.declared.TileBounds.{TileBounds}
+use Rattle.sutherland_hodgman.specs.Clip.{clipRing}
+use Rattle.sutherland_hodgman.specs.Origins.{clipOrigins, closeOrigins}
+use Rattle.clip.specs.Polygon.{leftOut, unlessNone, Routed, nothing, dropped, unchanged, cut, overlay}
+
+-- of `cutExterior`: "any closing vertex appended after the passes has its first's", also the one that a polygon appends
+abbrev pub exteriorOrigins : TileBounds → List Coord → List ℕ
+exteriorOrigins b r = closeOrigins (clipRing b r) (clipOrigins b r)
+
+-- of `cutHole`
+unfoldable pub holeOrigins : TileBounds → List Coord → List ℕ
+holeOrigins b r = cond (leftOut (clipRing b r)) [] (closeOrigins (clipRing b r) (clipOrigins b r))
+
+-- of `cutHoles`, those of each by themselves: "the position in its input ring"
+unfoldable pub holesOrigins : TileBounds → List (List Coord) → List (List ℕ)
+holesOrigins b [] = []
+holesOrigins b (r ∷ rs) = unlessNone (holeOrigins b r) (holesOrigins b rs)
+
+-- of `cutRings`
+unfoldable pub cutOrigins : TileBounds → List (List Coord) → List (List ℕ)
+cutOrigins b [] = []
+cutOrigins b (r ∷ rs) = exteriorOrigins b r ∷ holesOrigins b rs
+
+-- "Every vertex that a cut gives shall say where it came from": what becomes of a polygon has origins only where it is a cut
+abbrev pub routedOrigins : Routed → TileBounds → List (List Coord) → List (List ℕ)
+routedOrigins nothing b rings = []
+routedOrigins dropped b rings = []
+routedOrigins unchanged b rings = []
+routedOrigins (cut cutRings) b rings = cutOrigins b rings
+routedOrigins (overlay reason) b rings = []
