@@ -1,8 +1,8 @@
--- The most room that an accepted frame asks for: an output of 50,077 bytes is enough for every frame. Assumes nothing.
+-- The most room that an accepted frame asks for: an output of 56,259 bytes is enough for every frame. Assumes nothing.
 --
--- A frame of 5,120 bytes has 5,076 behind its head: two for each part and each ring, and sixteen for each coordinate. Closing adds at most
--- one coordinate to a ring that has any. So what a frame asks for is bounded by how many parts, rings and coordinates it has, and these by
--- its bytes.
+-- A frame of 5,120 bytes has 5,076 behind its head: two for each part and each ring, and sixteen for each coordinate, of which an answer
+-- has eighteen. Closing adds at most one coordinate to a ring that has any. So what a frame asks for is bounded by how many parts, rings
+-- and coordinates it has, and these by its bytes.
 use mathlib.Core.Path.{_≡_, refl, ap}
 use mathlib.Core.Bool.{Bool, true, false}
 use mathlib.Core.List.{List, [], _∷_}
@@ -25,7 +25,7 @@ use Rattle.frame_bytes.proofs.Readings.{many-first, ring-read, part-rea
 
 -- the most output that an accepted frame asks for: with this much no frame is refused by 22
 abbrev pub mostRoom : ℕ
-mostRoom = 50077
+mostRoom = 56259
 
 -- What is counted in bytes that were read, where so many of them are left: the rings with coordinates and those without, and the
 -- coordinates as they are lent. The room that they ask for is bounded by them.
@@ -36,7 +36,7 @@ record Counted (parts rings asked bytes left : ℕ) : Type 0 where
   some : full ≤ coordinates
   few : full + empty ≤ rings
   lent : bytes ≡ left + 2 * parts + 2 * (full + empty) + 16 * coordinates
-  enough : asked ≤ 6 * parts + 2 * (full + empty) + 16 * (5 * full + 6 * coordinates)
+  enough : asked ≤ 6 * parts + 2 * (full + empty) + coordinateBytes * (5 * full + 6 * coordinates)
 
 -- ---- of many things, where it is known of each
 
@@ -68,7 +68,7 @@ module _ {A : Type 0} (f : List ℕ → Reading A) (g : A → ℕ) (parts rings 
 
 -- ---- a ring
 
--- "2 × rings + 16 × its sum of B": what a ring adds
+-- "2 × rings + 16 × its sum of B", with 18 for 16: what a ring adds
 ofRing : List Coord → ℕ
 ofRing ring = 2 + coordinateBytes * ringRoom ring
 

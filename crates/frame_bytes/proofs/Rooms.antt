@@ -104,7 +104,8 @@ mostPart = 1073741824
 ring-le : (l : List ℕ) (ring : List Coord) (rest : List ℕ) → readRing l ≡ read ring rest → ringRoom ring ≤ mostRing
 ring-le l ring rest e =
     let p = ring-read l ring rest e in
-    rw (p .coordinates) (B-le (length (close (coordsOf (countOf l) (drop 2 l)))) (closed-few (countOf l) (drop 2 l) (p .few)))
+    let m = B-le (length (close (coordsOf (countOf l) (drop 2 l)))) (closed-few (countOf l) (drop 2 l) (p .few)) in
+    rw (p .coordinates) (omega (arith, m))
 
 module _ (frame : List ℕ) (at : ℕ) (h : at ≤ length frame) (a : Accepted (readRing (drop at frame))) where
   pub ring-fits : at + 2 + 16 * countOf (drop at frame) ≤ length frame

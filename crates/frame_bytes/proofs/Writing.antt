@@ -1,18 +1,19 @@
 -- The bytes of an answer in the output: how many each thing has, what is written in two steps, and one more coordinate of a ring written.
--- Assumes nothing.
-use mathlib.Core.Path.{_≡_, refl, sym, _∙_}
+-- A ring with its origins: how long it is, and what stands at a place of it. Assumes nothing.
+use mathlib.Core.Path.{_≡_, refl, sym, _∙_, ap}
 use mathlib.Core.List.{List, [], _∷_, _++_, append-assoc}
-use Prim.Native.Nat.{ℕ, suc, _+_, _*_, _<_, _≤_}
+use Prim.Native.Nat.{ℕ, zero, suc, _+_, _*_, _<_, _≤_}
 use native.Mathlib.Nat.{add-zero}
 use native.Mathlib.Numerals.{add-one}
 use native.Mathlib.Omega.{arith}
 use lib.ListN.{length, getD, drop, set, length-append, drop-of-length-le}
-use lib.Seq.{sets, set-comm, drop-cons}
+use lib.Seq.{sets, set-comm, drop-cons, getD-drop}
 use lib.Ieee.{Float}
 use Rattle.binary64.specs.Bytes.{Little, toLow, doubleBytes}
 use Rattle.binary64.proofs.Fill.{sets-append}
 use Rattle.tile.specs.declared.Coord.{Coord}
-use Rattle.frame_bytes.specs.Encoding.{each, countBytes, coordBytes, ringBytes, headerBytes}
+use Rattle.frame_bytes.specs.Encoding.{each, countBytes, coordBytes, Vertex, vertexBytes, withOrigins, ringBytes, headerBytes}
+use Rattle.frame_bytes.specs.Room.{coordinateBytes}
 
 -- ---- what is written behind, and then before, is one writing
 
@@ -51,15 +52,35 @@ pub length-header : (number guard parts : ℕ) → length (headerBytes number gu
 unfolding toLow
 length-header number guard parts = refl
 
-length-each : (ring : List Coord) → length (each coordBytes ring) ≡ 16 * length ring
+length-vertex : (v : Vertex) → length (vertexBytes v) ≡ coordinateBytes
+unfolding toLow
+length-vertex v = refl
+
+length-each : (ring : List Vertex) → length (each vertexBytes ring) ≡ coordinateBytes * length ring
 unfolding each
 length-each [] = refl
-length-each (p ∷ ring) = omega (arith, length-append (coordBytes p) (each coordBytes ring), length-coord p, length-each ring)
+length-each (v ∷ ring) = omega (arith, length-append (vertexBytes v) (each vertexBytes ring), length-vertex v, length-each ring)
 
-pub length-ring : (ring : List Coord) → length (ringBytes coordBytes ring) ≡ 2 + 16 * length ring
+pub length-with : (ring : List Coord) (origins : List ℕ) → length (withOrigins ring origins) ≡ length ring
+unfolding withOrigins
+length-with [] origins = refl
+length-with (p ∷ ring) origins = ap suc (length-with ring (drop 1 origins))
+
+pub length-ring : (ring : List Vertex) → length (ringBytes vertexBytes ring) ≡ 2 + coordinateBytes * length ring
 unfolding ringBytes
 length-ring ring =
-    omega (arith, length-append (countBytes (length ring)) (each coordBytes ring), length-count (length ring), length-each ring)
+    omega (arith, length-append (countBytes (length ring)) (each vertexBytes ring), length-count (length ring), length-each ring)
+
+-- ---- a coordinate of a ring with its origin
+
+pub with-at : (ring : List Coord) (origins : List ℕ) (i : ℕ) (none : Coord) → i < length ring
+    → getD (withOrigins ring origins) i (record { coord = none; origin = 0 }) ≡ record { coord = getD ring i none; origin = getD origins i 0 }
+unfolding withOrigins
+with-at [] origins i none h = absurd (omega arith)
+with-at (p ∷ ring) origins zero none h = refl
+with-at (p ∷ ring) origins (suc i) none h =
+    let e : getD (drop 1 origins) i 0 ≡ getD origins (suc i) 0 = getD-drop 1 origins i 0 ∙ ap (λ (k : ℕ). getD origins k 0) (omega arith) in
+    rw (← e) (with-at ring (drop 1 origins) i none (omega arith))
 
 -- ---- what is written in steps
 
@@ -67,6 +88,11 @@ pub coord-put : (out first all : List ℕ) (at : ℕ) (p : Coord) → first ≡ 
     → all ≡ sets first (at + 8) (doubleBytes Little (p .y)) → all ≡ sets out at (coordBytes p)
 coord-put out first all at p e f =
     f ∙ rw e (sym (rw (length-double (p .x)) at (sets-append out at (doubleBytes Little (p .x)) (doubleBytes Little (p .y)))))
+
+pub vertex-put : (out first all : List ℕ) (at : ℕ) (p : Coord) (origin : ℕ) → first ≡ sets out at (coordBytes p)
+    → all ≡ sets first (at + 16) (countBytes origin) → all ≡ sets out at (vertexBytes (record { coord = p; origin = origin }))
+vertex-put out first all at p origin e f =
+    f ∙ rw e (sym (rw (length-coord p) at (sets-append out at (coordBytes p) (countBytes origin))))
 
 pub header-put : (out first all : List ℕ) (number guard parts : ℕ) → first ≡ sets (set out 0 number) 1 (countBytes guard)
     → all ≡ sets first 3 (countBytes parts) → all ≡ sets out 0 (headerBytes number guard parts)
@@ -81,24 +107,24 @@ part-put out first at index number reason e =
 
 -- ---- a ring: its count, and what is left to write with one coordinate of it written
 
-pub count-put : (out : List ℕ) (at : ℕ) (ring : List Coord) → sets out at (ringBytes coordBytes ring) ≡ sets
-    (sets out at (countBytes (length ring))) (at + 2) (each coordBytes ring)
+pub count-put : (out : List ℕ) (at : ℕ) (ring : List Vertex) → sets out at (ringBytes vertexBytes ring) ≡ sets
+    (sets out at (countBytes (length ring))) (at + 2) (each vertexBytes ring)
 unfolding ringBytes
-count-put out at ring = rw (length-count (length ring)) at (sets-append out at (countBytes (length ring)) (each coordBytes ring))
+count-put out at ring = rw (length-count (length ring)) at (sets-append out at (countBytes (length ring)) (each vertexBytes ring))
 
-pub none-put : (out : List ℕ) (at : ℕ) (ring : List Coord) → sets out at (each coordBytes ring) ≡ sets out (at + 16 * 0)
-    (each coordBytes (drop 0 ring))
-none-put out at ring = let e : at + 16 * 0 ≡ at = omega arith in rw e
+pub none-put : (out : List ℕ) (at : ℕ) (ring : List Vertex) → sets out at (each vertexBytes ring) ≡ sets out (at + coordinateBytes * 0)
+    (each vertexBytes (drop 0 ring))
+none-put out at ring = let e : at + coordinateBytes * 0 ≡ at = omega arith in rw e
 
-pub one-put : (out : List ℕ) (at i : ℕ) (ring : List Coord) (z : Coord) → i < length ring
-    → sets out (at + 16 * i) (each coordBytes (drop i ring)) ≡ sets (sets out (at + 16 * i) (coordBytes (getD ring i z)))
-    (at + 16 * (i + 1)) (each coordBytes (drop (i + 1) ring))
+pub one-put : (out : List ℕ) (at i : ℕ) (ring : List Vertex) (z : Vertex) → i < length ring
+    → sets out (at + coordinateBytes * i) (each vertexBytes (drop i ring)) ≡ sets
+    (sets out (at + coordinateBytes * i) (vertexBytes (getD ring i z))) (at + coordinateBytes * (i + 1)) (each vertexBytes (drop (i + 1) ring))
 unfolding each
 one-put out at i ring z h =
-    let e : at + 16 * (i + 1) ≡ at + 16 * i + 16 = omega arith in
-    rw (e, add-one i, drop-cons ring i z h) (rw (length-coord (getD ring i z))
-    at (sets-append out (at + 16 * i) (coordBytes (getD ring i z)) (each coordBytes (drop (suc i) ring))))
+    let e : at + coordinateBytes * (i + 1) ≡ at + coordinateBytes * i + coordinateBytes = omega arith in
+    rw (e, add-one i, drop-cons ring i z h) (rw (length-vertex (getD ring i z))
+    at (sets-append out (at + coordinateBytes * i) (vertexBytes (getD ring i z)) (each vertexBytes (drop (suc i) ring))))
 
-pub all-put : (out : List ℕ) (at i : ℕ) (ring : List Coord) → length ring ≤ i → sets out at (each coordBytes (drop i ring)) ≡ out
+pub all-put : (out : List ℕ) (at i : ℕ) (ring : List Vertex) → length ring ≤ i → sets out at (each vertexBytes (drop i ring)) ≡ out
 unfolding each
 all-put out at i ring h = rw (drop-of-length-le ring h)

@@ -1,12 +1,12 @@
-// The bytes of an answer: counts, coordinates, rings, the header and the fixed part of a listed part, each written at a position of the
-// output.
+// The bytes of an answer: counts, coordinates with their origins, rings, the header and the fixed part of a listed part, each written at a
+// position of the output.
 ghost use mathlib.Core.Path.{_≡_};
 ghost use mathlib.Core.List.{[], _∷_, _++_};
 ghost use Prim.Native.Nat.{_+_, _*_, _≤_};
 ghost use lib.ListN.{length, take};
 ghost use lib.Seq.{sets};
 ghost use Rattle.tile.specs.Ring.{coords};
-ghost use Rattle.frame_bytes.specs.Room.{leastRoom};
+ghost use Rattle.frame_bytes.specs.Room.{leastRoom, coordinateBytes};
 ghost use Rattle.frame_bytes.specs.Encoding as Encoding;
 use super::ring::COORD;
 use super::ring::COUNT;
@@ -17,6 +17,9 @@ use tile::ring::coord_at;
 
 // The bytes that every listed part begins with.
 pub const PART: usize = 4;
+
+// The bytes of a coordinate in an answer, its origin behind it. A frame that is lent has COORD for each.
+pub const VERTEX: usize = COORD + COUNT;
 
 pub fn put_count(out: &mut [u8], at: usize, n: usize)
     requires { ⌜ at + 2 ≤ length (now out) ⌝ }
@@ -33,21 +36,31 @@ fn put_coord(out: &mut [u8], at: usize, p: Coord)
     write_f64(out, at + 8, p.y);
 }
 
-// Writes the n coordinates at the front of a slice, their count first, and answers where the next thing is written.
-pub fn put_ring(ring: &[f64], n: usize, out: &mut [u8], at: usize) -> usize
-    requires { ⌜ (2 * n ≤ length (now ring)) × (at + 2 + 16 * n ≤ length (now out)) ⌝ }
-    ensures { λ r. ⌜ (r ≡ at + 2 + 16 * n) × (now (out .exit) ≡ sets (now (out .entry))
-        at (Encoding.ringBytes Encoding.coordBytes (coords (take (2 * n) (now (ring .entry)))))) ⌝ }
+fn put_vertex(out: &mut [u8], at: usize, p: Coord, origin: u16)
+    requires { ⌜ at + coordinateBytes ≤ length (now out) ⌝ }
+    ensures { λ _. ⌜ now (out .exit) ≡ sets (now (out .entry)) at (Encoding.vertexBytes (record { coord = p; origin = origin })) ⌝ }
+{
+    put_coord(out, at, p);
+    put_count(out, at + COORD, origin as usize);
+}
+
+// Writes the n coordinates at the front of a slice, their count first and behind each its origin, and answers where the next thing is
+// written.
+pub fn put_ring(ring: &[f64], origins: &[u16], n: usize, out: &mut [u8], at: usize) -> usize
+    requires { ⌜ (2 * n ≤ length (now ring)) × (n ≤ length (now origins)) × (at + 2 + coordinateBytes * n ≤ length (now out)) ⌝ }
+    ensures { λ r. ⌜ (r ≡ at + 2 + coordinateBytes * n) × (now (out .exit) ≡ sets (now (out .entry)) at
+        (Encoding.ringBytes Encoding.vertexBytes
+        (Encoding.withOrigins (coords (take (2 * n) (now (ring .entry)))) (take n (now (origins .entry)))))) ⌝ }
 {
     put_count(out, at, n);
     let first = at + COUNT;
     let mut i = 0usize;
     while i < n {
         let p = coord_at(ring, i);
-        put_coord(out, first + COORD * i, p);
+        put_vertex(out, first + VERTEX * i, p, origins[i]);
         i += 1;
     }
-    first + COORD * n
+    first + VERTEX * n
 }
 
 // The header is written when the parts behind it are known.

@@ -7,6 +7,7 @@ ghost use Rattle.frame_bytes.specs.Contracts as Contracts;
 ghost use Rattle.frame_bytes.specs.Frame as Frames;
 ghost use Rattle.frame_bytes.specs.Room as OutputRoom;
 use super::encode::PART;
+use super::encode::VERTEX;
 use super::head::HEAD;
 use super::head::PART_COUNT;
 use super::reader::FrameCheck;
@@ -71,7 +72,7 @@ fn part_room(frame: &[u8], at: usize) -> MeasuredRoom
     let rings = count_at(frame, at);
     let cut = rings_room(frame, at + COUNT, rings);
     MeasuredRoom {
-        room: CUT_PART + COUNT * rings + COORD * cut.room,
+        room: CUT_PART + COUNT * rings + VERTEX * cut.room,
         next: cut.next,
     }
 }

@@ -23,7 +23,7 @@ pub record Lent (lengths : List ℕ) (coords : List Float) : Type 0 where
   pub few : length lengths ≤ mostRings
   pub fits : 2 * sum lengths ≤ length coords
 
--- such rings with at most 65,536 coordinates when closed, so that their room can be worked out
+-- such rings with at most 65,532 coordinates when closed, so that their room can be worked out
 pub record Measurable (lengths : List ℕ) (coords : List Float) : Type 0 where
   pub lent : Lent lengths coords
   pub small : total length (closedRings lengths coords) ≤ mostCoordinates
