@@ -1,15 +1,19 @@
--- Two cuts at the bounds 0, 0, 10, 10 that document 01 does not work out, and its figures for B, computed from the definitions. The worked
--- rings are in the table of the crate `frames`. Assumes nothing.
+-- Cuts at the bounds 0, 0, 10, 10 that document 01 does not work out, with their origins, and its figures for B, computed from the
+-- definitions. The worked rings are in the table of the crate `frames`. Assumes nothing.
 use mathlib.Core.Path.{_≡_, refl}
 use mathlib.Core.List.{List, [], _∷_}
-use lib.Ieee.{nan, le, eq, add, sub, mul, div}
+use Prim.Native.Nat.{ℕ}
+use lib.Ieee.{nan, le, eq, add, sub, mul, div, neg}
 use Rattle.binary64.specs.Interpolation.{interpolate}
 use Rattle.tile.specs.declared.Coord.{Coord}
 use Rattle.tile.specs.declared.TileBounds.{TileBounds}
+use Rattle.tile.specs.declared.Edge.the-variants.{Left, Right, Bottom, Top}
 use Rattle.tile.specs.Ring.{same, last, closed, close}
 use Rattle.tile.proofs.WholeNumbers.{num, at}
 use Rattle.sutherland_hodgman.specs.CuttingLines.{inside, crossing}
 use Rattle.sutherland_hodgman.specs.Clip.{steps, leaveOff, around, pass, passes, finish, clipRing}
+use Rattle.sutherland_hodgman.specs.Origins.{lineOrigin, positionsFrom, stepsOrigins, aroundOrigins, passOrigins, passesOrigins}
+use Rattle.sutherland_hodgman.specs.Origins.{closeOrigins, finishOrigins, clipOrigins}
 use Rattle.sutherland_hodgman.specs.Growth.{halfGrowth, fourHalfGrowths, B}
 
 ten : TileBounds
@@ -21,34 +25,100 @@ edge : Coord
 unfolding num
 edge = record { x = nan; y = num 0 }
 
--- a ring and its cut
+-- north-west and south-east of the tile's corner at 0, 0
+northWest : ℕ → ℕ → Coord
+unfolding num
+northWest x y = record { x = neg (num x); y = num y }
+
+southEast : ℕ → ℕ → Coord
+unfolding num
+southEast x y = record { x = num x; y = neg (num y) }
+
+southWest : ℕ → ℕ → Coord
+unfolding num
+southWest x y = record { x = neg (num x); y = neg (num y) }
+
+-- a ring, its cut, and the origins of its vertices
 pub record Case : Type 0 where
   pub ring : List Coord
   pub cut : List Coord
+  pub origins : List ℕ
 
--- a ring that two passes cut at the one corner, and one with a NaN longitude
+abbrev left : ℕ
+left = lineOrigin Left
+
+abbrev right : ℕ
+right = lineOrigin Right
+
+abbrev bottom : ℕ
+bottom = lineOrigin Bottom
+
+abbrev top : ℕ
+top = lineOrigin Top
+
+-- a ring that two passes cut at the one corner; one with a NaN longitude; one with an edge on a line; one around a corner of the tile, which
+-- the later of two lines makes; one where a line makes a vertex that the ring has too, which is left off; one closed by a zero of the other
+-- sign
 abbrev cases : List Case
 cases =
-    record { ring = at 8 8 ∷ at 12 12 ∷ at 8 12 ∷ []; cut = at 8 10 ∷ at 8 8 ∷ at 10 10 ∷ at 10 10 ∷ at 8 10 ∷ [] }
-    ∷ record { ring = record { x = nan; y = num 5 } ∷ at 5 5 ∷ at 5 6 ∷ []; cut = edge ∷ edge ∷ at 5 5 ∷ at 5 6 ∷ edge ∷ [] }
+    record {
+      ring = at 8 8 ∷ at 12 12 ∷ at 8 12 ∷ [];
+      cut = at 8 10 ∷ at 8 8 ∷ at 10 10 ∷ at 10 10 ∷ at 8 10 ∷ [];
+      origins = top ∷ 0 ∷ right ∷ top ∷ top ∷ [];
+    }
+    ∷ record {
+      ring = record { x = nan; y = num 5 } ∷ at 5 5 ∷ at 5 6 ∷ [];
+      cut = edge ∷ edge ∷ at 5 5 ∷ at 5 6 ∷ edge ∷ [];
+      origins = bottom ∷ bottom ∷ 1 ∷ 2 ∷ bottom ∷ [];
+    }
+    ∷ record {
+      ring = at 10 2 ∷ at 20 2 ∷ at 20 8 ∷ at 10 8 ∷ [];
+      cut = at 10 2 ∷ at 10 2 ∷ at 10 8 ∷ at 10 8 ∷ at 10 2 ∷ [];
+      origins = 0 ∷ right ∷ right ∷ 3 ∷ 0 ∷ [];
+    }
+    ∷ record {
+      ring = southWest 5 5 ∷ southEast 5 5 ∷ at 5 5 ∷ northWest 5 5 ∷ [];
+      cut = at 0 0 ∷ at 5 0 ∷ at 5 5 ∷ at 0 5 ∷ at 0 0 ∷ [];
+      origins = bottom ∷ bottom ∷ 2 ∷ left ∷ bottom ∷ [];
+    }
+    ∷ record {
+      ring = at 15 5 ∷ at 5 5 ∷ at 5 8 ∷ at 10 5 ∷ [];
+      cut = at 10 5 ∷ at 10 5 ∷ at 5 5 ∷ at 5 8 ∷ at 10 5 ∷ [];
+      origins = right ∷ right ∷ 1 ∷ 2 ∷ right ∷ [];
+    }
+    ∷ record {
+      ring = at 0 0 ∷ at 5 0 ∷ at 5 5 ∷ northWest 0 0 ∷ [];
+      cut = at 0 0 ∷ at 5 0 ∷ at 5 5 ∷ at 0 0 ∷ [];
+      origins = 0 ∷ 1 ∷ 2 ∷ 0 ∷ [];
+    }
     ∷ []
 
-abbrev rings : List Case → List (List Coord)
-rings [] = []
-rings (c ∷ cs) = c .ring ∷ rings cs
+-- what is made of the rings, by the definitions and as it should be
+abbrev clipped : List Case → List (List Coord)
+clipped [] = []
+clipped (c ∷ cs) = clipRing ten (c .ring) ∷ clipped cs
 
 abbrev cuts : List Case → List (List Coord)
 cuts [] = []
 cuts (c ∷ cs) = c .cut ∷ cuts cs
 
-abbrev clipped : List (List Coord) → List (List Coord)
-clipped [] = []
-clipped (r ∷ rs) = clipRing ten r ∷ clipped rs
-
-each-cut : clipped (rings cases) ≡ cuts cases
-unfolding clipRing finish passes pass around leaveOff steps inside crossing same last closed close interpolate ten at edge num le eq add
-    sub mul div
+each-cut : clipped cases ≡ cuts cases
+unfolding clipRing finish passes pass around leaveOff steps inside crossing same last closed close interpolate ten at edge northWest
+    southEast southWest num le eq add sub mul div neg
 each-cut = refl
+
+abbrev traced : List Case → List (List ℕ)
+traced [] = []
+traced (c ∷ cs) = clipOrigins ten (c .ring) ∷ traced cs
+
+abbrev wanted : List Case → List (List ℕ)
+wanted [] = []
+wanted (c ∷ cs) = c .origins ∷ wanted cs
+
+each-traced : traced cases ≡ wanted cases
+unfolding clipOrigins finishOrigins closeOrigins passesOrigins passOrigins aroundOrigins stepsOrigins positionsFrom passes pass around
+    leaveOff steps inside crossing same last closed close interpolate ten at edge northWest southEast southWest num le eq add sub mul div neg
+each-traced = refl
 
 -- document 01's figures for B
 four-vertices : B 4 ≡ 21

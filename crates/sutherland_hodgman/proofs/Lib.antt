@@ -4,7 +4,6 @@ mod Growth
 mod LastPass
 mod LeavingOff
 pub mod Offered
-mod OriginCases
 mod OriginLaws
 mod OriginStages
 mod OriginWalking

@@ -30,11 +30,11 @@ use Rattle.sutherland_hodgman.proofs.OriginWalking.{step-many, pass-man
 pub close-many : (r : List Coord) (os : List ℕ) → length os ≡ length r → length (closeOrigins r os) ≡ length (close r)
 unfolding closeOrigins close closed
 close-many [] os e = e
-close-many (p ∷ r) os e = go (closed (p ∷ r))
+close-many (p ∷ r) os e = go (closed (p ∷ r)) _
   where
-    go : (t : Bool) → length (cond t os (os ++ (getD os 0 0 ∷ []))) ≡ length (cond t (p ∷ r) ((p ∷ r) ++ (p ∷ [])))
-    go true = e
-    go false = omega (arith, length-append os (getD os 0 0 ∷ []), length-append (p ∷ r) (p ∷ []))
+    go : (t : Bool) (o : ℕ) → length (cond t os (os ++ (o ∷ []))) ≡ length (cond t (p ∷ r) ((p ∷ r) ++ (p ∷ [])))
+    go true o = e
+    go false o = omega (arith, length-append os (o ∷ []), length-append (p ∷ r) (p ∷ []))
 
 pub finish-many : (r : List Coord) (os : List ℕ) → length os ≡ length r → length (finishOrigins r os) ≡ length (finish r)
 unfolding finishOrigins finish
@@ -87,7 +87,8 @@ module _ (P : Coord → ℕ → Type 0) where
   along-close : (r : List Coord) (os : List ℕ) → length os ≡ length r → Along P r os → Along P (close r) (closeOrigins r os)
   unfolding close closeOrigins
   along-close [] os e h = tt
-  along-close (p ∷ r) os e h = along-cond (closed (p ∷ r)) (p ∷ r) ((p ∷ r) ++ (p ∷ [])) os (os ++ (getD os 0 0 ∷ [])) h (along-append (p ∷ r) (p ∷ []) os (getD os 0 0 ∷ []) e h (h .0, tt))
+  along-close (p ∷ r) os e h =
+      along-cond (closed (p ∷ r)) (p ∷ r) ((p ∷ r) ++ (p ∷ [])) os _ h (along-append (p ∷ r) (p ∷ []) os _ e h (h .0, tt))
 
   along-finish : (r : List Coord) (os : List ℕ) → length os ≡ length r → Along P r os → Along P (finish r) (finishOrigins r os)
   unfolding finish finishOrigins
