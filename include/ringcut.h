@@ -13,20 +13,20 @@
  *   17  a ring of a frame with over 4,096 coordinates
  *   18  bytes behind the last part
  *   19  no ring, over 64 rings, or numbers that are not two for each coordinate
- *   20  over 65,536 coordinates
- *   21  the scratch or the order slice too short
+ *   20  over 65,532 coordinates
+ *   21  a scratch slice or the order slice too short
  *   22  an output or a slice for lengths too short
  *
  * A frame call gives 11 to 18 and 22, the others 19 to 22: the first that holds in this order, 15 to 17 as a walk from the
  * frame's front meets them.
  *
  * What a call leaves in the slices that are not const. A refused call leaves them as they were. One that is not refused fills
- * scratch and order slices with zeros, from end to end. In a ring call and a slice call, which work in the output too, it also
- * fills the output with zeros (+0.0) past its answer, whatever that is, up to the length that the call needs of it, and leaves
- * all beyond that length as it was. A frame call leaves the output past its answer as it was. The slice for lengths stays as it
- * was past a cut's lengths. All this is proved: of bytes and whole numbers exactly, of doubles as far as the proofs tell two of
- * them apart, which is by number and sign of zero, all NaNs being one. The code writes nothing where it leaves a slice as it
- * was, so the bits of a NaN stay there too: the tests see that, and no contract says it.
+ * both scratch slices and the order slice with zeros, from end to end. In a ring call and a slice call, which work in the two
+ * outputs too, it also fills out with zeros (+0.0) and out_origins with zeros past its answer, whatever that is, up to the length
+ * that the call needs of each, and leaves all beyond that length as it was. A frame call leaves the output past its answer as it
+ * was. The slice for lengths stays as it was past a cut's lengths. All this is proved: of bytes and whole numbers exactly, of
+ * doubles as far as the proofs tell two of them apart, which is by number and sign of zero, all NaNs being one. The code writes
+ * nothing where it leaves a slice as it was, so the bits of a NaN stay there too: the tests see that, and no contract says it.
  *
  * What every call asks. A slice is a pointer and a length, counted in values of the pointer's type. The pointer is not null
  * and is aligned for its type, also where the length is 0 (any address of that type will do); that many values behind it can
@@ -57,7 +57,7 @@ extern "C" {
     ((n) == 0 ? 0 : RINGCUT_HALF_GROWTH(RINGCUT_HALF_GROWTH(RINGCUT_HALF_GROWTH(RINGCUT_HALF_GROWTH(n)))) + 2)
 
 /* The bytes of output that are enough for every frame: proved by the law frame-most, crates/frame_bytes/proofs/MostRoom.antt. */
-#define RINGCUT_MOST_FRAME_OUTPUT 50077
+#define RINGCUT_MOST_FRAME_OUTPUT 56259
 
 /*
  * Why an overlay is wanted, in a frame's answer and in a slice call's code. With 7 to 10 positions tell where; those that
@@ -89,6 +89,24 @@ enum ringcut_reason {
 };
 
 /*
+ * Where a coordinate of a cut came from: its origin, 16 bits. A number under 65,532 is a position: the coordinate is the one that
+ * stands there, counted from 0, in the ring that was lent. The others are the line that made it, where an edge of the ring crosses
+ * that line. Positions are those of its own ring, in holes too. A coordinate that is appended to close a cut ring has the origin of
+ * the first. 0 is a position like any other: how many origins there are is told by the count of coordinates alone.
+ *
+ * With them a caller can leave the tile's edge out where it draws borders. Between two neighbours of a cut ring the outline runs
+ * along the tile's edge if both were made by a line, and that is the same line, or both x are west, or both x are east (the bounds
+ * as they are cut at, so widened by the buffer). All other edges are borders of the area that was lent. README.md says where that
+ * errs ("Don't draw the tile's edge as a border").
+ */
+enum ringcut_origin {
+    RINGCUT_ORIGIN_LEFT = 65532,   /* x is west */
+    RINGCUT_ORIGIN_RIGHT = 65533,  /* x is east */
+    RINGCUT_ORIGIN_BOTTOM = 65534, /* y is south */
+    RINGCUT_ORIGIN_TOP = 65535     /* y is north */
+};
+
+/*
  * Cuts a polygon or a multipolygon. Answers how many bytes of out the answer takes.
  *
  * A frame, numbers little-endian: kind, 1 byte (3 polygon, 6 multipolygon); flags, 1 byte (1 assume_simple,
@@ -97,32 +115,34 @@ enum ringcut_reason {
  *
  * An answer: 1 byte (0 nothing, 1 whole dropped, 2 whole unchanged, 3 listed); guard count, 2 bytes; number of listed parts,
  * 2 bytes. Each listed part: index from 0, 2 bytes; 1 byte (2 unchanged, 4 cut, 5 overlay); an overlay's ringcut_reason or 0,
- * 1 byte; if cut, ring count and rings as in a frame; if overlay, its first and its second position, 2 bytes each. NaN is written
- * with bits 7ff8000000000000.
+ * 1 byte; if cut, ring count, 2 bytes, and of each ring its coordinate count, 2 bytes, and x, y and origin of each, 8, 8 and
+ * 2 bytes; if overlay, its first and its second position, 2 bytes each. NaN is written with bits 7ff8000000000000.
  *
- * out needs 5 bytes and, for each part, 6, 2 for each ring and 16 * RINGCUT_ROOM of its coordinates. A ring whose last
+ * out needs 5 bytes and, for each part, 6, 2 for each ring and 18 * RINGCUT_ROOM of its coordinates. A ring whose last
  * coordinate doesn't equal its first is closed, which makes one more; a NaN equals nothing.
  *
- * Every frame of 44 to 5,120 bytes takes about 64 KiB of the stack, however few its coordinates, and refused or not; 100 KiB
+ * Every frame of 44 to 5,120 bytes takes about 70 KiB of the stack, however few its coordinates, and refused or not; 100 KiB
  * are enough. For the other calls 8 KiB are.
  */
 int64_t ringcut_frame(const uint8_t *frame, size_t frame_len, uint8_t *out, size_t out_len);
 
 /*
  * Cuts one ring of x, y numbers, closed or not, to four bounds used as given. Answers how many coordinates of out the cut ring
- * takes: none, or at least three, the closing one counted. For a ring of n coordinates, not closed beforehand, scratch and out
- * need 2 * RINGCUT_ROOM(n) numbers each. Of out the first 2 * RINGCUT_ROOM(n) are written: the cut ring, then zeros. Which bits
- * a NaN in out has is open.
+ * takes: none, or at least three, the closing one counted. As many of out_origins are their origins. For a ring of n
+ * coordinates, not closed beforehand, scratch and out need 2 * RINGCUT_ROOM(n) numbers each, origin_scratch and out_origins
+ * RINGCUT_ROOM(n) each. That many of out and of out_origins are written: the cut ring and its origins, then zeros. Which bits a
+ * NaN in out has is open.
  */
 int64_t ringcut_ring(const double *ring, size_t ring_len, double west, double south, double east, double north,
-                     double *scratch, size_t scratch_len, double *out, size_t out_len);
+                     double *scratch, size_t scratch_len, uint16_t *origin_scratch, size_t origin_scratch_len,
+                     double *out, size_t out_len, uint16_t *out_origins, size_t out_origins_len);
 
 /* What becomes of a polygon: the lowest 8 bits of a slice call's code. */
 enum ringcut_answer {
     RINGCUT_NOTHING = 0,   /* nothing of it is in the bounds */
     RINGCUT_DROPPED = 1,   /* it can't be cut; counts as one guard drop */
     RINGCUT_UNCHANGED = 2, /* it lies inside the bounds as it is */
-    RINGCUT_CUT = 4,       /* its rings stand at the front of out, their lengths at the front of out_lengths */
+    RINGCUT_CUT = 4,       /* its rings, their lengths and origins stand at the fronts of out, out_lengths and out_origins */
     RINGCUT_OVERLAY = 5    /* a cut would not do: it is for the host's overlay */
 };
 
@@ -140,14 +160,16 @@ enum ringcut_answer {
  *
  * A ring whose last coordinate doesn't equal its first is closed, and the closing one counts in what follows and in 20; a NaN
  * equals nothing, so that even a single coordinate with a NaN counts as two. With S the largest RINGCUT_ROOM of its rings, and A
- * the sum of RINGCUT_ROOM over them: scratch needs 2 * S numbers, order S, out 2 * A, and out_lengths as many as there are
- * rings. Of out the first 2 * A are written: a cut's rings, then zeros; on every other answer, zeros alone. Only a cut writes
- * out_lengths. Which bits a NaN in out has is open.
+ * the sum of RINGCUT_ROOM over them: scratch needs 2 * S numbers, origin_scratch and order S each, out 2 * A, out_lengths as many
+ * as there are rings, and out_origins A. Of out the first 2 * A are written: a cut's rings, then zeros; on every other answer,
+ * zeros alone. So the first A of out_origins: an origin for each coordinate of a cut, ring behind ring, then zeros. Only a cut
+ * writes out_lengths. Which bits a NaN in out has is open.
  */
 int64_t ringcut_polygon(uint8_t assume_simple, uint8_t skip_boundary_fallback, double west, double south, double east,
                         double north, double buffer, const double *coords, size_t coords_len, const uint32_t *lengths,
-                        size_t lengths_len, double *scratch, size_t scratch_len, uint32_t *order, size_t order_len,
-                        double *out, size_t out_len, uint32_t *out_lengths, size_t out_lengths_len);
+                        size_t lengths_len, double *scratch, size_t scratch_len, uint16_t *origin_scratch,
+                        size_t origin_scratch_len, uint32_t *order, size_t order_len, double *out, size_t out_len,
+                        uint32_t *out_lengths, size_t out_lengths_len, uint16_t *out_origins, size_t out_origins_len);
 
 #ifdef __cplusplus
 }

@@ -1,6 +1,8 @@
 /*
  * Cuts three polygons to the tile 0, 0, 10, 10 and prints the rings that are left of each, or why it wants an overlay, with the corners
- * or edges that are the reason. In the repository's root, with the library built by `rt staticlib ringcut_calls`:
+ * or edges that are the reason. Behind each corner of a cut stands where it came from: its number in the ring that was lent, or the line
+ * that made it. Between two corners stands -- where a border is to be drawn, and .. where the cut runs along the tile's edge. In the
+ * repository's root, with the library built by `rt staticlib ringcut_calls`:
  *
  *   cc -std=c11 -Wall -Wextra -I include examples/c/ringcut.c target/staticlib/libringcut_calls.a -o target/ringcut-in-c
  *   target/ringcut-in-c
@@ -8,13 +10,14 @@
  * It prints the exterior and the hole of a rectangle across the east bound, then a corner that was sent twice, then two edges that
  * cross:
  *
- *   (5,5)(10,5)(10,8)(5,8)(5,5)
- *   (6,6)(10,6)(10,7)(6,7)(6,6)
+ *   (5,5) corner 0 -- (10,5) Right .. (10,8) Right -- (5,8) corner 3 -- (5,5) corner 0
+ *   (6,6) corner 0 -- (10,6) Right .. (10,7) Right -- (6,7) corner 3 -- (6,6) corner 0
  *   (8,7): corner 3 is repeated
  *   (2,6)(3,7) and (3,5)(2,8): edges 0 and 4 cross
  */
 
 #include <inttypes.h>
+#include <stdbool.h>
 #include <stdio.h>
 
 #include "ringcut.h"
@@ -26,6 +29,9 @@ enum {
     COORDINATES = 8, /* that a ring here has at most, the closing one counted */
     ROOM = RINGCUT_ROOM(COORDINATES)
 };
+
+/* The tile; the bounds that are cut at are the same, as there is no buffer. */
+static const double west = 0, south = 0, east = 10, north = 10;
 
 static void print_corner(const double *ring, int64_t corner)
 {
@@ -39,13 +45,44 @@ static void print_edge(const double *ring, int64_t edge)
     print_corner(ring, edge + 1);
 }
 
-static void print_rings(const double *coords, const uint32_t *lengths, int64_t rings)
+static void print_origin(uint16_t origin)
+{
+    static const char *const lines[] = {"Left", "Right", "Bottom", "Top"};
+
+    if (origin < RINGCUT_ORIGIN_LEFT)
+        printf(" corner %" PRIu16, origin);
+    else
+        printf(" %s", lines[origin - RINGCUT_ORIGIN_LEFT]);
+}
+
+/* Whether the edge from a corner of a cut ring to the next runs along the tile's edge: a line made both, and it was the same line, or
+ * both lie on the west bound, or both on the east bound. README.md says where that errs. */
+static bool is_along_tile(const double *ring, const uint16_t *origins, uint32_t corner)
+{
+    double x = ring[2 * corner], next_x = ring[2 * corner + 2];
+    uint16_t origin = origins[corner], next_origin = origins[corner + 1];
+
+    return origin >= RINGCUT_ORIGIN_LEFT && next_origin >= RINGCUT_ORIGIN_LEFT
+           && (origin == next_origin || (x == west && next_x == west) || (x == east && next_x == east));
+}
+
+static void print_ring(const double *ring, const uint16_t *origins, uint32_t length)
+{
+    for (uint32_t corner = 0; corner < length; corner++) {
+        if (corner > 0)
+            printf("%s", is_along_tile(ring, origins, corner - 1) ? " .. " : " -- ");
+        print_corner(ring, corner);
+        print_origin(origins[corner]);
+    }
+    printf("\n");
+}
+
+static void print_rings(const double *coords, const uint16_t *origins, const uint32_t *lengths, int64_t rings)
 {
     for (int64_t ring = 0; ring < rings; ring++) {
-        for (uint32_t corner = 0; corner < lengths[ring]; corner++)
-            print_corner(coords, corner);
-        printf("\n");
+        print_ring(coords, origins, lengths[ring]);
         coords += 2 * lengths[ring];
+        origins += lengths[ring];
     }
 }
 
@@ -91,17 +128,19 @@ static void print_reason(int64_t code, const double *exterior)
 static int cut(uint8_t flags, const double *coords, size_t coords_len, const uint32_t *lengths, size_t lengths_len)
 {
     double scratch[2 * ROOM], out[2 * RINGS * ROOM];
+    uint16_t origin_scratch[ROOM], out_origins[RINGS * ROOM];
     uint32_t order[ROOM], out_lengths[RINGS];
 
-    int64_t code = ringcut_polygon(flags, flags, 0, 0, 10, 10, 0, coords, coords_len, lengths, lengths_len, scratch,
-                                   COUNT(scratch), order, COUNT(order), out, COUNT(out), out_lengths, COUNT(out_lengths));
+    int64_t code = ringcut_polygon(flags, flags, west, south, east, north, 0, coords, coords_len, lengths, lengths_len, scratch,
+                                   COUNT(scratch), origin_scratch, COUNT(origin_scratch), order, COUNT(order), out, COUNT(out),
+                                   out_lengths, COUNT(out_lengths), out_origins, COUNT(out_origins));
     if (code < 0) {
         fprintf(stderr, "refused: %" PRId64 "\n", -code);
         return 0;
     }
     switch (code & 0xff) {
     case RINGCUT_CUT:
-        print_rings(out, out_lengths, code >> 16 & 0xffffff);
+        print_rings(out, out_origins, out_lengths, code >> 16 & 0xffffff);
         break;
     case RINGCUT_OVERLAY:
         print_reason(code, coords);

@@ -15,11 +15,14 @@ text{font-family:system-ui,-apple-system,'Segoe UI',Helvetica,Arial,'DejaVu Sans
 .small{font-size:11px;fill:#59636e}
 .part{paint-order:stroke;stroke:#fff;stroke-width:4px}
 .ground{fill:#fff;stroke:#d1d9e0}
-.tile{fill:#f0f2f5;stroke:#59636e;stroke-width:2}
+.tile{fill:#f0f2f5;stroke:#818b98;stroke-width:1}
 .buffer{fill:none;stroke:#59636e;stroke-width:1.5;stroke-dasharray:2 3}
 .input{fill:none;stroke:#0969da;stroke-width:1.5;stroke-dasharray:6 3}
-.cut{fill:#1a7f37;fill-opacity:.3;stroke:#1a7f37;stroke-width:2.5}
-.corner{fill:#1a7f37}
+.cut{fill:#1a7f37;fill-opacity:.25;stroke:none}
+.border{fill:none;stroke:#1a7f37;stroke-width:3.5;stroke-linejoin:round;stroke-linecap:round}
+.edge{fill:none;stroke:#1a7f37;stroke-width:2.5;stroke-linecap:round;stroke-dasharray:0 6}
+.sent{fill:#1a7f37}
+.made{fill:#fff;stroke:#1a7f37;stroke-width:1.5}
 .unchanged{fill:#8250df;fill-opacity:.25;stroke:#8250df;stroke-width:2.5}
 .overlay{fill:url(#hatch);stroke:none}
 .hatch{stroke:#bc4c00;stroke-width:1.5}
@@ -34,8 +37,10 @@ text{fill:#e6edf3}
 .tile{fill:#1c2128;stroke:#9198a1}
 .buffer{stroke:#9198a1}
 .input{stroke:#58a6ff}
-.cut{fill:#3fb950;stroke:#3fb950}
-.corner{fill:#3fb950}
+.cut{fill:#3fb950}
+.border,.edge{stroke:#3fb950}
+.sent{fill:#3fb950}
+.made{fill:#0d1117;stroke:#3fb950}
 .unchanged{fill:#bc8cff;stroke:#bc8cff}
 .hatch{stroke:#f0883e}
 .repeated,.crossing{stroke:#f778ba}
@@ -70,16 +75,24 @@ impl Canvas {
     }
 
     /// The area between rings: what lies in an odd number of them.
-    pub fn area(&mut self, class: &str, rings: &[Ring]) {
-        let mut path = String::new();
-        for ring in rings {
-            for (n, &coord) in ring.iter().enumerate() {
-                let (x, y) = self.place(coord);
-                put(&mut path, format_args!("{}{x} {y}", if n == 0 { "M" } else { "L" }));
-            }
-            path.push('Z');
-        }
+    pub fn area<'a>(&mut self, class: &str, rings: impl IntoIterator<Item = &'a Ring>) {
+        let path: String = rings.into_iter().map(|ring| self.path(ring) + "Z").collect();
         self.put(format_args!("<path class=\"{class}\" fill-rule=\"evenodd\" d=\"{path}\"/>\n"));
+    }
+
+    /// A line from each coordinate to the next.
+    pub fn line(&mut self, class: &str, coords: &[Coord]) {
+        let path = self.path(coords);
+        self.put(format_args!("<path class=\"{class}\" d=\"{path}\"/>\n"));
+    }
+
+    fn path(&self, coords: &[Coord]) -> String {
+        let mut path = String::new();
+        for (n, &coord) in coords.iter().enumerate() {
+            let (x, y) = self.place(coord);
+            put(&mut path, format_args!("{}{x} {y}", if n == 0 { "M" } else { "L" }));
+        }
+        path
     }
 
     pub fn circle(&mut self, class: &str, centre: Coord, radius: f64) {
@@ -91,9 +104,9 @@ impl Canvas {
         self.put(format_args!("<circle class=\"{class}\" cx=\"{x}\" cy=\"{y}\" r=\"{radius}\"/>\n"));
     }
 
-    pub fn line(&mut self, class: &str, (from, to): (Coord, Coord)) {
-        let ((x, y), (to_x, to_y)) = (self.place(from), self.place(to));
-        self.put(format_args!("<path class=\"{class}\" d=\"M{x} {y}L{to_x} {to_y}\"/>\n"));
+    /// A level line to the right from a point given in pixels.
+    pub fn rule(&mut self, class: &str, (x, y): (f64, f64), width: f64) {
+        self.put(format_args!("<path class=\"{class}\" d=\"M{x} {y}h{width}\"/>\n"));
     }
 
     /// A rectangle by its upper left and its width and height.

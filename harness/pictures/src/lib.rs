@@ -3,6 +3,7 @@
 
 mod canvas;
 mod marks;
+pub mod outline;
 mod scene;
 
 use std::fs;
@@ -14,7 +15,7 @@ use formats::frame::Frame;
 use formats::from_hex;
 
 /// The lines that are drawn, from 1, with the picture's name and title.
-const PICTURES: [(usize, &str, &str); 8] = [
+const PICTURES: [(usize, &str, &str); 9] = [
     (5, "holes", "Two holes: one cut, one left out"),
     (7, "buffer", "A rectangle, cut at the tile with its buffer"),
     (8, "corner", "A lake over the north-east corner"),
@@ -23,6 +24,7 @@ const PICTURES: [(usize, &str, &str); 8] = [
     (21, "parts", "Parts inside, across, touching and apart"),
     (36, "repeated", "A corner that was sent twice"),
     (37, "crossing", "Edges that cross: of two pairs the first"),
+    (40, "borders", "An area larger than the tile: what of it is a border"),
 ];
 
 /// The repository's folder of examples.

@@ -53,10 +53,10 @@ fn mark_corner(canvas: &mut Canvas, exterior: &Ring, number: usize) {
 
 /// The edge with its number beyond the end that lies further out, where fewer lines are. A bare number there would be the corner's.
 fn mark_edge(canvas: &mut Canvas, exterior: &Ring, number: usize) {
-    let ends = (corner(exterior, number), corner(exterior, number + 1));
-    canvas.line("crossing", ends);
+    let [from, to] = [corner(exterior, number), corner(exterior, number + 1)];
+    canvas.line("crossing", &[from, to]);
     let middle = middle(exterior);
-    let (inner, outer) = if distance(middle, ends.0) < distance(middle, ends.1) { ends } else { (ends.1, ends.0) };
+    let (inner, outer) = if distance(middle, from) < distance(middle, to) { (from, to) } else { (to, from) };
     label(canvas, "mark", outer, inner, &format!("edge {number}"));
 }
 

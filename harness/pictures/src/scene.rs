@@ -5,7 +5,7 @@ use formats::frame::Frame;
 use formats::{Bounds, Coord, Ring};
 
 use crate::canvas::{Canvas, WIDTH};
-use crate::marks;
+use crate::{marks, outline};
 
 /// Degrees around what is drawn.
 const MARGIN: f64 = 1.0;
@@ -41,13 +41,14 @@ pub fn draw(title: &str, frame: &Frame, answer: &Answer) -> String {
     }
 
     let mut legend = vec![("input", "input outline"), ("tile", "tile")];
-    canvas.area("tile", &[rectangle(frame.bounds)]);
+    canvas.area("tile", [&rectangle(frame.bounds)]);
     if frame.buffer != 0.0 {
         legend.push(("buffer", "tile with its buffer"));
-        canvas.area("buffer", &[widened]);
+        canvas.area("buffer", [&widened]);
     }
+    frame.parts.iter().for_each(|part| canvas.area("input", part));
     legend.extend(draw_answer(&mut canvas, frame, answer));
-    draw_input(&mut canvas, frame);
+    label_parts(&mut canvas, frame);
     legend.extend(marks::draw(&mut canvas, frame, listed(answer)));
     label_tile(&mut canvas, frame.bounds);
 
@@ -56,34 +57,36 @@ pub fn draw(title: &str, frame: &Frame, answer: &Answer) -> String {
     canvas.finish(title, bottom + rows as f64 * ROW + 4.0)
 }
 
-/// The listed parts; a cut one with its corners.
+/// The listed parts.
 fn draw_answer(canvas: &mut Canvas, frame: &Frame, answer: &Answer) -> Vec<Entry> {
     let mut legend = Vec::new();
     for ListedPart { index, listed } in listed(answer) {
         let part = &frame.parts[usize::from(*index)];
-        let (class, words, rings) = match listed {
-            Listed::Unchanged => ("unchanged", "unchanged", part),
-            Listed::Cut(rings) => ("cut", "cut", rings),
-            Listed::Overlay(_) => ("overlay", "overlay wanted", part),
-        };
-        legend.push((class, words));
-        canvas.area(class, rings);
-        if class == "cut" {
-            rings.iter().flatten().for_each(|&coord| canvas.circle("corner", coord, 3.0));
+        match listed {
+            Listed::Unchanged => {
+                canvas.area("unchanged", part);
+                legend.push(("unchanged", "unchanged"));
+            }
+            Listed::Cut(rings) => {
+                canvas.area("cut", rings.iter().map(|cut| &cut.ring));
+                legend.push(("cut", "cut"));
+                legend.extend(outline::draw(canvas, buffered(frame), rings));
+            }
+            Listed::Overlay(_) => {
+                canvas.area("overlay", part);
+                legend.push(("overlay", "overlay wanted"));
+            }
         }
     }
     legend
 }
 
-/// The outlines of all parts, each with its number where there are several.
-fn draw_input(canvas: &mut Canvas, frame: &Frame) {
-    for (index, part) in frame.parts.iter().enumerate() {
-        canvas.area("input", part);
-        if frame.parts.len() > 1 {
-            let [west, south, east, north] = bounds_of(part.iter().flatten());
-            let (x, y) = canvas.place(((west + east) / 2.0, (south + north) / 2.0));
-            canvas.text("part", "middle", (x, y + 4.0), &format!("part {index}"));
-        }
+/// Each part's number in its middle, where there are several.
+fn label_parts(canvas: &mut Canvas, frame: &Frame) {
+    for (index, part) in frame.parts.iter().enumerate().filter(|_| frame.parts.len() > 1) {
+        let [west, south, east, north] = bounds_of(part.iter().flatten());
+        let (x, y) = canvas.place(((west + east) / 2.0, (south + north) / 2.0));
+        canvas.text("part", "middle", (x, y + 4.0), &format!("part {index}"));
     }
 }
 
@@ -94,6 +97,8 @@ fn draw_legend(canvas: &mut Canvas, top: f64, legend: &[Entry]) -> usize {
         let y = top + (n / COLUMNS) as f64 * ROW;
         match *class {
             marks::CIRCLED => canvas.dot(class, (x + 10.0, y + 6.0), marks::RADIUS),
+            outline::SENT | outline::MADE => canvas.dot(class, (x + 10.0, y + 6.0), outline::RADIUS),
+            outline::BORDER | outline::EDGE => canvas.rule(class, (x, y + 6.0), 20.0),
             _ => canvas.swatch(class, (x, y), (20.0, 12.0)),
         }
         canvas.text("legend", "start", (x + 28.0, y + 10.0), words);

@@ -20,7 +20,7 @@ fn what_is_declared_is_what_is_exported() {
 }
 
 /// A text of a file, another that is written in its place, and what is told.
-const MISTAKES: [(&str, &str, &str, &str); 17] = [
+const MISTAKES: [(&str, &str, &str, &str); 19] = [
     // A flag as a u32: in the export, where both declarations differ from it, and in each declaration.
     (
         CALLS,
@@ -67,6 +67,20 @@ const MISTAKES: [(&str, &str, &str, &str); 17] = [
         "west: f64,\n            skip_boundary_fallback: u8,",
         "rust/ringcut/src/raw.rs: ringcut_polygon: parameter 2 is `west: f64`, \
          by the export it is `skip_boundary_fallback: u8`",
+    ),
+    (
+        RAW,
+        "origin_scratch: *mut u16,\n            origin_scratch_len: usize,\n            order: *mut u32,\n            order_len: usize,",
+        "order: *mut u32,\n            order_len: usize,\n            origin_scratch: *mut u16,\n            origin_scratch_len: usize,",
+        "rust/ringcut/src/raw.rs: ringcut_polygon: parameter 14 is `order: *mut u32`, \
+         by the export it is `origin_scratch: *mut u16`",
+    ),
+    // Origins in another width.
+    (
+        HEADER,
+        "uint16_t *out_origins, size_t out_origins_len);",
+        "uint32_t *out_origins, size_t out_origins_len);",
+        "include/ringcut.h: ringcut_ring: parameter 13 is `uint32_t *out_origins`, by the export it is `uint16_t *out_origins`",
     ),
     // A slice's length left out.
     (

@@ -16,8 +16,8 @@ pub enum Answer {
     Dropped,
     /// It lies inside the bounds as it is.
     Unchanged,
-    /// It was cut. The rings stand at the front of the output, exterior first, and how many coordinates each has at the
-    /// front of the slice for their lengths.
+    /// It was cut. The rings stand at the front of the output, exterior first, how many coordinates each has at the front of
+    /// the slice for their lengths, and where each coordinate came from at the front of the slice for their origins.
     Cut {
         /// How many rings.
         rings: usize,
@@ -90,11 +90,11 @@ mod tests {
     fn a_code_holds_an_overlays_positions() {
         for (of_exterior, repeated, crossing) in [(Reason::Input as fn(Issue) -> Reason, 7, 8), (Reason::Cut, 9, 10)] {
             let overlay = |issue| Ok(Answer::Overlay(of_exterior(issue)));
-            for corner in [0, 1, 0xff, 0x1_0000, 331_775] {
+            for corner in [0, 1, 0xff, 0x1_0000, 331_754] {
                 let code = 5 + 256 * repeated + FIRST * corner;
                 assert_eq!(Answer::from_code(code), overlay(Issue::Repeated { corner: corner as usize }));
             }
-            for (lower, higher) in [(0, 1), (0, 4), (0xff, 0x100), (0xffff, 0x1_0000), (331_774, 331_776)] {
+            for (lower, higher) in [(0, 1), (0, 4), (0xff, 0x100), (0xffff, 0x1_0000), (331_753, 331_755)] {
                 let code = 5 + 256 * crossing + FIRST * lower + SECOND * higher;
                 let issue = Issue::Crossing { lower: lower as usize, higher: higher as usize };
                 assert_eq!(Answer::from_code(code), overlay(issue));
@@ -115,7 +115,7 @@ mod tests {
         let positions_elsewhere = [SECOND, 4 + 65_536 + SECOND, 5 + 256 + SECOND, 5 + 256 * 7 + SECOND];
         let no_edges = [5 + 256 * 8, 5 + 256 * 8 + 2 * FIRST + 2 * SECOND, 5 + 256 * 10 + 2 * FIRST + SECOND];
         let past_each_ring =
-            [5 + 256 * 7 + 331_777 * FIRST, 5 + 256 * 8 + 331_777 * SECOND, 5 + 256 * 9 + (FIRST << 23)];
+            [5 + 256 * 7 + 331_756 * FIRST, 5 + 256 * 8 + 331_756 * SECOND, 5 + 256 * 9 + (FIRST << 23)];
         for code in past_each_field.into_iter().chain(positions_elsewhere).chain(no_edges).chain(past_each_ring) {
             assert!(catch_unwind(|| Answer::from_code(code)).is_err(), "code {code}");
         }

@@ -8,12 +8,14 @@
 //! Each answers on every input, with a [`Refusal`] where it can't cut. Bounds and buffer may be any numbers; a NaN bound has
 //! nothing inside.
 //!
-//! A refused call leaves every lent buffer as it was. One that is not refused fills scratch and order slices with zeros, from
-//! end to end. What it leaves in the output past its answer:
+//! Each coordinate of a cut comes with its [`Origin`]: its position in the ring that was lent, or the line that made it.
+//!
+//! A refused call leaves every lent buffer as it was. One that is not refused fills both scratch slices and the order slice with
+//! zeros, from end to end. What it leaves in the output, and in the slice for origins, past its answer:
 //!
 //! - [`cut_frame`] leaves it as it was.
-//! - [`cut_polygon`] and [`cut_ring`], which work in the output too, leave zeros (+0.0) up to the length that they ask of it,
-//!   whatever they answer, and all that is beyond that length as it was.
+//! - [`cut_polygon`] and [`cut_ring`], which work in these two slices too, leave zeros (+0.0) up to the length that they ask of
+//!   each, whatever they answer, and all that is beyond that length as it was.
 //!
 //! That is proved: of bytes and whole numbers exactly, of numbers in `f64` as far as the proofs tell two of them apart, which
 //! is by number and sign of zero, all NaNs being one. The library writes nothing where it leaves a buffer as it was, so the
@@ -36,17 +38,19 @@ compile_error!(
 );
 
 mod answer;
+mod origin;
 pub mod raw;
 mod reason;
 mod refusal;
 mod room;
 
 pub use answer::Answer;
+pub use origin::Origin;
 pub use reason::{Edge, Issue, Reason};
 pub use refusal::Refusal;
 pub use room::{room_for_ring, MOST_FRAME_OUTPUT};
 
-/// README.md, so that its example is run with the other tests.
+/// README.md, so that its examples are run with the other tests.
 #[cfg(doctest)]
 #[doc = include_str!("../README.md")]
 struct Readme;
@@ -73,15 +77,20 @@ pub struct Flags {
     pub skip_boundary_fallback: bool,
 }
 
-/// What is lent to a ring call to write to: for a ring lent with n coordinates each slice has at least
-/// 2 × [`room_for_ring`]`(n)` numbers.
+/// What is lent to a ring call to write to: for a ring lent with n coordinates each slice of numbers has at least
+/// 2 × [`room_for_ring`]`(n)`, each slice of origins at least [`room_for_ring`]`(n)`.
 #[derive(Debug)]
 pub struct RingBuffers<'a> {
     /// Zero after an answer.
     pub scratch: &'a mut [f64],
+    /// Zero after an answer.
+    pub origin_scratch: &'a mut [u16],
     /// After an answer: the cut ring from the front, as x, y numbers, then zeros up to 2 × [`room_for_ring`]`(n)` numbers. All
     /// that is beyond these stays as it was.
     pub out: &'a mut [f64],
+    /// After an answer: the [`Origin`] of each coordinate of the cut ring, from the front, then zeros up to
+    /// [`room_for_ring`]`(n)`. All that is beyond these stays as it was.
+    pub out_origins: &'a mut [u16],
 }
 
 /// What is lent to a slice call to write to. A ring whose last coordinate doesn't equal its first counts one coordinate more
@@ -91,6 +100,8 @@ pub struct PolygonBuffers<'a> {
     /// At least 2 × the largest ring's [`room_for_ring`] numbers; zero after an answer.
     pub scratch: &'a mut [f64],
     /// At least the largest ring's [`room_for_ring`]; zero after an answer.
+    pub origin_scratch: &'a mut [u16],
+    /// At least the largest ring's [`room_for_ring`]; zero after an answer.
     pub order: &'a mut [u32],
     /// At least 2 × the sum of the rings' [`room_for_ring`] numbers. After a cut: its rings from the front, one behind the
     /// other, as x, y numbers, then zeros up to that many numbers; after every other answer zeros alone. All that is beyond
@@ -99,14 +110,18 @@ pub struct PolygonBuffers<'a> {
     /// At least as many as rings are lent. After a cut: how many coordinates each of its rings has, from the front. All else
     /// in it stays as it was.
     pub out_lengths: &'a mut [u32],
+    /// At least the sum of the rings' [`room_for_ring`]. After a cut: the [`Origin`] of each of its coordinates from the front,
+    /// ring behind ring, then zeros up to that sum; after every other answer zeros alone. All that is beyond these stays as it
+    /// was.
+    pub out_origins: &'a mut [u16],
 }
 
 /// Cuts the frame's polygon or multipolygon and answers how many bytes of `out` the answer takes.
 ///
-/// `out` needs 5 bytes and, for each part, 6, 2 for each ring and 16 × [`room_for_ring`] of its coordinates, the closing one
+/// `out` needs 5 bytes and, for each part, 6, 2 for each ring and 18 × [`room_for_ring`] of its coordinates, the closing one
 /// counted; [`MOST_FRAME_OUTPUT`] bytes are always enough.
 ///
-/// Every frame of 44 to 5,120 bytes takes about 64 KiB of the stack, however few its coordinates, and refused or not; 100 KiB
+/// Every frame of 44 to 5,120 bytes takes about 70 KiB of the stack, however few its coordinates, and refused or not; 100 KiB
 /// are enough.
 ///
 /// A frame, numbers little-endian: kind, 1 byte (3 polygon, 6 multipolygon); flags, 1 byte (1 `assume_simple`,
@@ -115,9 +130,9 @@ pub struct PolygonBuffers<'a> {
 ///
 /// An answer: 1 byte (0 nothing, 1 whole dropped, 2 whole unchanged, 3 listed); guard count, 2 bytes; number of listed parts,
 /// 2 bytes. Each listed part: index from 0, 2 bytes; 1 byte (2 unchanged, 4 cut, 5 overlay); the overlay's
-/// [reason](Reason::number) or 0, 1 byte; if cut, ring count and rings as in a frame; if overlay, two positions, 2 bytes each: of
-/// reasons 7 and 9 the repeated [corner](Issue::Repeated) and 0, of 8 and 10 the lower and the higher [edge](Issue::Crossing), of
-/// 1 to 6 zeros.
+/// [reason](Reason::number) or 0, 1 byte; if cut, ring count, 2 bytes, and of each ring its coordinate count, 2 bytes, and x, y and
+/// [origin](Origin) of each, 8, 8 and 2 bytes; if overlay, two positions, 2 bytes each: of reasons 7 and 9 the repeated
+/// [corner](Issue::Repeated) and 0, of 8 and 10 the lower and the higher [edge](Issue::Crossing), of 1 to 6 zeros.
 ///
 /// ```
 /// use ringcut::{cut_frame, MOST_FRAME_OUTPUT};
@@ -133,14 +148,20 @@ pub struct PolygonBuffers<'a> {
 /// assert_eq!(out[..len], [0, 0, 0, 0, 0]);
 ///
 /// // Turned into a polygon that crosses the east bound, with flags 3: part 0 is listed, cut to one ring.
-/// let ring = |numbers: [f64; 10]| numbers.into_iter().flat_map(f64::to_le_bytes);
 /// frame[..2].copy_from_slice(&[3, 3]);
 /// frame[42..].copy_from_slice(&1_u16.to_le_bytes());
 /// frame.extend([1, 0, 5, 0]);
-/// frame.extend(ring([5., 5., 15., 5., 15., 8., 5., 8., 5., 5.]));
+/// for number in [5., 5., 15., 5., 15., 8., 5., 8., 5., 5.0_f64] {
+///     frame.extend(number.to_le_bytes());
+/// }
 /// let len = cut_frame(&frame, &mut out)?;
 /// let mut answer = vec![3, 0, 0, 1, 0, 0, 0, 4, 0, 1, 0, 5, 0];
-/// answer.extend(ring([5., 5., 10., 5., 10., 8., 5., 8., 5., 5.]));
+/// // Each coordinate with its origin; the Right bound is 65,533.
+/// for (x, y, origin) in [(5., 5., 0), (10., 5., 65_533), (10., 8., 65_533), (5., 8., 3), (5.0_f64, 5.0_f64, 0_u16)] {
+///     answer.extend(x.to_le_bytes());
+///     answer.extend(y.to_le_bytes());
+///     answer.extend(origin.to_le_bytes());
+/// }
 /// assert_eq!(out[..len], answer);
 /// # Ok::<(), ringcut::Refusal>(())
 /// ```
@@ -153,23 +174,25 @@ pub fn cut_frame(frame: &[u8], out: &mut [u8]) -> Result<usize, Refusal> {
 /// coordinates in `lengths`. The bounds are widened by `buffer` on each side. Which bits a NaN in the output has is open.
 ///
 /// Past the rings of a cut, and from the front after every other answer, `lent.out` holds zeros up to 2 × the sum of
-/// [`room_for_ring`] of the rings, their closing coordinates counted as [`PolygonBuffers`] says. What was lent beyond that stays
-/// as it was.
+/// [`room_for_ring`] of the rings, their closing coordinates counted as [`PolygonBuffers`] says, and `lent.out_origins` up to that
+/// sum. What was lent beyond that stays as it was.
 ///
 /// ```
-/// use ringcut::{cut_polygon, room_for_ring, Answer, Bounds, Edge, Flags, Issue, PolygonBuffers, Reason};
+/// use ringcut::{cut_polygon, room_for_ring, Answer, Bounds, Edge, Flags, Issue, Origin, PolygonBuffers, Reason};
 ///
 /// const ROOM: usize = room_for_ring(5);
-/// let (mut scratch, mut order) = ([0.0; 2 * ROOM], [0; ROOM]);
-/// // One number more than is asked for.
-/// let (mut out, mut out_lengths) = ([7.0; 2 * ROOM + 1], [0; 1]);
+/// let (mut scratch, mut origin_scratch, mut order) = ([0.0; 2 * ROOM], [0; ROOM], [0; ROOM]);
+/// // One number and one origin more than is asked for.
+/// let (mut out, mut out_lengths, mut out_origins) = ([7.0; 2 * ROOM + 1], [0; 1], [7; ROOM + 1]);
 /// let mut cut = |flags, coords: &[f64; 10]| {
 ///     let bounds = Bounds { west: 0.0, south: 0.0, east: 10.0, north: 10.0 };
 ///     let lent = PolygonBuffers {
 ///         scratch: &mut scratch,
+///         origin_scratch: &mut origin_scratch,
 ///         order: &mut order,
 ///         out: &mut out,
 ///         out_lengths: &mut out_lengths,
+///         out_origins: &mut out_origins,
 ///     };
 ///     cut_polygon(flags, bounds, 0.0, coords, &[5], lent)
 /// };
@@ -189,8 +212,13 @@ pub fn cut_frame(frame: &[u8], out: &mut [u8]) -> Result<usize, Refusal> {
 /// assert_eq!(cut(both, &across), Ok(Answer::Cut { rings: 1 }));
 /// assert_eq!(out_lengths, [5]);
 /// assert_eq!(out[..10], [5., 5., 10., 5., 10., 8., 5., 8., 5., 5.]);
+/// let right = Origin::Line(Edge::Right);
+/// let origins = [Origin::Position(0), right, right, Origin::Position(3), Origin::Position(0)];
+/// assert_eq!(out_origins[..5], origins.map(Origin::number));
+/// // Behind that are zeros, and what was lent beyond the room stays.
 /// assert_eq!(out[10..2 * ROOM], [0.0; 2 * ROOM - 10]);
-/// assert_eq!(out[2 * ROOM], 7.0);
+/// assert_eq!(out_origins[5..ROOM], [0; ROOM - 5]);
+/// assert_eq!((out[2 * ROOM], out_origins[ROOM]), (7.0, 7));
 /// ```
 #[inline]
 pub fn cut_polygon(
@@ -217,22 +245,35 @@ pub fn cut_polygon(
 /// at least three, the closing one counted. Which bits a NaN in the output has is open.
 ///
 /// Past the cut ring, from the front where it takes none, `lent.out` holds zeros up to 2 × [`room_for_ring`]`(n)` numbers, for a
-/// ring lent with n coordinates. What was lent beyond that stays as it was.
+/// ring lent with n coordinates, and `lent.out_origins` up to [`room_for_ring`]`(n)`. What was lent beyond that stays as it was.
 ///
 /// ```
-/// use ringcut::{cut_ring, room_for_ring, Bounds, RingBuffers};
+/// use ringcut::{cut_ring, room_for_ring, Bounds, Edge, Origin, RingBuffers};
 ///
 /// const ROOM: usize = room_for_ring(4);
 /// let bounds = Bounds { west: 0.0, south: 0.0, east: 10.0, north: 10.0 };
-/// // One number more than is asked for.
-/// let (mut scratch, mut out) = ([0.0; 2 * ROOM], [7.0; 2 * ROOM + 1]);
-/// let mut cut = |ring: &[f64; 8]| cut_ring(ring, bounds, RingBuffers { scratch: &mut scratch, out: &mut out });
+/// let (mut scratch, mut origin_scratch) = ([0.0; 2 * ROOM], [0; ROOM]);
+/// // One number and one origin more than is asked for.
+/// let (mut out, mut out_origins) = ([7.0; 2 * ROOM + 1], [7; ROOM + 1]);
+/// let mut cut = |ring: &[f64; 8]| {
+///     let lent = RingBuffers {
+///         scratch: &mut scratch,
+///         origin_scratch: &mut origin_scratch,
+///         out: &mut out,
+///         out_origins: &mut out_origins,
+///     };
+///     cut_ring(ring, bounds, lent)
+/// };
 ///
 /// assert_eq!(cut(&[1., 1., 2., 2., 1., 1., 1., 1.]), Ok(0));
 /// assert_eq!(cut(&[5., 5., 15., 5., 15., 8., 5., 8.]), Ok(5));
 /// assert_eq!(out[..10], [5., 5., 10., 5., 10., 8., 5., 8., 5., 5.]);
+/// assert_eq!(out_origins[..5], [0, 65_533, 65_533, 3, 0]);
+/// assert_eq!(Origin::from(out_origins[1]), Origin::Line(Edge::Right));
+/// // Behind that are zeros, and what was lent beyond the room stays.
 /// assert_eq!(out[10..2 * ROOM], [0.0; 2 * ROOM - 10]);
-/// assert_eq!(out[2 * ROOM], 7.0);
+/// assert_eq!(out_origins[5..ROOM], [0; ROOM - 5]);
+/// assert_eq!((out[2 * ROOM], out_origins[ROOM]), (7.0, 7));
 /// ```
 #[inline]
 pub fn cut_ring(ring: &[f64], bounds: Bounds, lent: RingBuffers) -> Result<usize, Refusal> {

@@ -17,8 +17,12 @@ mod exported {
             north: f64,
             scratch: *mut f64,
             scratch_len: usize,
+            origin_scratch: *mut u16,
+            origin_scratch_len: usize,
             out: *mut f64,
             out_len: usize,
+            out_origins: *mut u16,
+            out_origins_len: usize,
         ) -> i64;
 
         pub fn ringcut_polygon(
@@ -35,12 +39,16 @@ mod exported {
             lengths_len: usize,
             scratch: *mut f64,
             scratch_len: usize,
+            origin_scratch: *mut u16,
+            origin_scratch_len: usize,
             order: *mut u32,
             order_len: usize,
             out: *mut f64,
             out_len: usize,
             out_lengths: *mut u32,
             out_lengths_len: usize,
+            out_origins: *mut u16,
+            out_origins_len: usize,
         ) -> i64;
     }
 }
@@ -56,7 +64,7 @@ pub fn frame(frame: &[u8], out: &mut [u8]) -> i64 {
 #[inline]
 pub fn ring(ring: &[f64], bounds: Bounds, lent: RingBuffers) -> i64 {
     let Bounds { west, south, east, north } = bounds;
-    let RingBuffers { scratch, out } = lent;
+    let RingBuffers { scratch, origin_scratch, out, out_origins } = lent;
     // SAFETY: each pointer and length is that of a slice borrowed for the call, and the call asks nothing else.
     unsafe {
         exported::ringcut_ring(
@@ -68,8 +76,12 @@ pub fn ring(ring: &[f64], bounds: Bounds, lent: RingBuffers) -> i64 {
             north,
             scratch.as_mut_ptr(),
             scratch.len(),
+            origin_scratch.as_mut_ptr(),
+            origin_scratch.len(),
             out.as_mut_ptr(),
             out.len(),
+            out_origins.as_mut_ptr(),
+            out_origins.len(),
         )
     }
 }
@@ -87,7 +99,7 @@ pub fn polygon(
     lent: PolygonBuffers,
 ) -> i64 {
     let Bounds { west, south, east, north } = bounds;
-    let PolygonBuffers { scratch, order, out, out_lengths } = lent;
+    let PolygonBuffers { scratch, origin_scratch, order, out, out_lengths, out_origins } = lent;
     // SAFETY: each pointer and length is that of a slice borrowed for the call, and the call asks nothing else.
     unsafe {
         exported::ringcut_polygon(
@@ -104,12 +116,16 @@ pub fn polygon(
             lengths.len(),
             scratch.as_mut_ptr(),
             scratch.len(),
+            origin_scratch.as_mut_ptr(),
+            origin_scratch.len(),
             order.as_mut_ptr(),
             order.len(),
             out.as_mut_ptr(),
             out.len(),
             out_lengths.as_mut_ptr(),
             out_lengths.len(),
+            out_origins.as_mut_ptr(),
+            out_origins.len(),
         )
     }
 }

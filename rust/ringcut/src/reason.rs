@@ -2,7 +2,7 @@
 
 use core::fmt::{self, Display, Formatter};
 
-/// A bound that an edge runs along.
+/// One of a tile's four bounds: the line that a ring is cut at, or that an edge of a cut runs along.
 #[derive(Clone, Copy, Debug, PartialEq, Eq, Hash)]
 pub enum Edge {
     /// x is west.
@@ -161,7 +161,7 @@ mod tests {
         (7, 3, 0, 1, "corner 3 is repeated"),
         (8, 0, 4, 1, "edges 0 and 4 cross"),
         (9, 65_536, 0, 2, "corner 65536 of the cut is repeated"),
-        (10, 12, 331_776, 2, "edges 12 and 331776 of the cut cross"),
+        (10, 12, 331_755, 2, "edges 12 and 331755 of the cut cross"),
     ];
 
     #[test]

@@ -11,11 +11,11 @@ use core::fmt::{self, Display, Formatter};
 /// use ringcut::{cut_ring, Bounds, Refusal, RingBuffers};
 ///
 /// let bounds = Bounds { west: 0.0, south: 0.0, east: 10.0, north: 10.0 };
-/// let lent = RingBuffers { scratch: &mut [], out: &mut [] };
+/// let lent = RingBuffers { scratch: &mut [], origin_scratch: &mut [], out: &mut [], out_origins: &mut [] };
 /// let refusal = cut_ring(&[5.0, 5.0], bounds, lent).unwrap_err();
 /// assert_eq!(refusal, Refusal::Scratch);
 /// assert_eq!(refusal.number(), 21);
-/// assert_eq!(refusal.to_string(), "refusal 21: the scratch slice or the order slice is too short");
+/// assert_eq!(refusal.to_string(), "refusal 21: a scratch slice or the order slice is too short");
 /// ```
 #[derive(Clone, Copy, Debug, PartialEq, Eq, Hash)]
 pub enum Refusal {
@@ -37,11 +37,11 @@ pub enum Refusal {
     Trailing = 18,
     /// There is no ring or over 64, or the numbers lent are not two for each coordinate.
     Lengths = 19,
-    /// There are over 65,536 coordinates; a slice call counts those that close its rings.
+    /// There are over 65,532 coordinates; a slice call counts those that close its rings.
     Coordinates = 20,
-    /// The scratch slice or the order slice is too short.
+    /// A scratch slice, of numbers or of origins, or the order slice is too short.
     Scratch = 21,
-    /// The output or the slice for the lengths of cut rings is too short.
+    /// An output, of numbers or of origins, or the slice for the lengths of cut rings is too short.
     Output = 22,
 }
 
@@ -62,9 +62,9 @@ impl Refusal {
             Refusal::CoordinateCount => "a ring of the frame has over 4,096 coordinates",
             Refusal::Trailing => "bytes follow the frame's last part",
             Refusal::Lengths => "there is no ring or over 64, or the numbers lent are not two for each coordinate",
-            Refusal::Coordinates => "there are over 65,536 coordinates",
-            Refusal::Scratch => "the scratch slice or the order slice is too short",
-            Refusal::Output => "the output or the slice for the lengths of cut rings is too short",
+            Refusal::Coordinates => "there are over 65,532 coordinates",
+            Refusal::Scratch => "a scratch slice or the order slice is too short",
+            Refusal::Output => "an output or the slice for the lengths of cut rings is too short",
         }
     }
 

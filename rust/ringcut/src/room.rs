@@ -3,10 +3,10 @@
 /// The bytes of output that are enough for every frame, which is proved: the law `frame-most` in
 /// `crates/frame_bytes/proofs/MostRoom.antt`. So much is asked by rings of one NaN coordinate, which closing makes two: 281 of
 /// them, in nine parts.
-pub const MOST_FRAME_OUTPUT: usize = 50_077;
+pub const MOST_FRAME_OUTPUT: usize = 56_259;
 
-/// No cut ring has more coordinates: the longest ring that a call takes has 65,536.
-pub(crate) const MOST_CUT: usize = room_for_ring(65_536);
+/// No cut ring has more coordinates: the longest ring that a call takes has 65,532.
+pub(crate) const MOST_CUT: usize = room_for_ring(65_532);
 
 /// Document 01's B: the room, in coordinates, that a ring of `n` coordinates asks for, cut or not. `n` grown by half,
 /// rounded down, four times, plus 2; none for 0.

@@ -1,5 +1,5 @@
-//! The frame call: document 01's worked cases, an overlay's reasons with their positions, the repository's examples, every refusal,
-//! outputs exact, one short and larger.
+//! The frame call: document 01's worked cases, a cut's origins, an overlay's reasons with their positions, the repository's examples,
+//! every refusal, outputs exact, one short and larger.
 
 use std::fs;
 
@@ -11,6 +11,17 @@ const UNWRITTEN: u8 = 0xa5;
 const SQUARE: &[f64] = &[2., 2., 8., 2., 8., 8., 2., 8., 2., 2.];
 const ACROSS_EAST: &[f64] = &[5., 5., 15., 5., 15., 8., 5., 8., 5., 5.];
 const BOW_TIE: &[f64] = &[2., 2., 8., 8., 8., 2., 2., 8., 2., 2.];
+
+/// A coordinate of a cut: x, y and its origin.
+type Vertex = (f64, f64, u16);
+
+/// The numbers of the lines.
+const LEFT: u16 = 65_532;
+const RIGHT: u16 = 65_533;
+const BOTTOM: u16 = 65_534;
+
+/// What `ACROSS_EAST` is cut to.
+const ACROSS_EAST_CUT: &[Vertex] = &[(5., 5., 0), (10., 5., RIGHT), (10., 8., RIGHT), (5., 8., 3), (5., 5., 0)];
 
 /// A frame on the bounds 0, 0, 10, 10 with buffer 0; a part is its rings, a ring x, y numbers.
 fn frame(kind: u8, flags: u8, parts: &[&[&[f64]]]) -> Vec<u8> {
@@ -44,6 +55,25 @@ fn polygon(flags: u8, ring: &[f64]) -> Vec<u8> {
     answer(&frame(3, flags, &[&[ring]]), MOST_FRAME_OUTPUT).unwrap()
 }
 
+/// A listed part that is cut, behind its number: its rings, with 18 bytes a coordinate.
+fn cut(rings: &[&[Vertex]]) -> Vec<u8> {
+    let mut bytes = vec![4, 0];
+    bytes.extend((rings.len() as u16).to_le_bytes());
+    for ring in rings {
+        bytes.extend((ring.len() as u16).to_le_bytes());
+        for (x, y, origin) in *ring {
+            bytes.extend([x, y].into_iter().flat_map(|number| number.to_le_bytes()));
+            bytes.extend(origin.to_le_bytes());
+        }
+    }
+    bytes
+}
+
+/// An answer that lists part 0 alone, as cut to these rings.
+fn cut_alone(rings: &[&[Vertex]]) -> Vec<u8> {
+    [vec![3, 0, 0, 1, 0, 0, 0], cut(rings)].concat()
+}
+
 /// An answer that lists part 0 as an overlay: its reason, and two positions.
 fn overlay(reason: u8, first: u16, second: u16) -> Vec<u8> {
     let mut answer = vec![3, 0, 0, 1, 0, 0, 0, 5, reason];
@@ -69,9 +99,7 @@ fn worked_frames() {
     for flags in 0..3 {
         assert_eq!(polygon(flags, ACROSS_EAST), overlay(4, 0, 0));
     }
-    let mut cut = vec![3, 0, 0, 1, 0, 0, 0, 4, 0, 1, 0, 5, 0];
-    cut.extend([5., 5., 10., 5., 10., 8., 5., 8., 5., 5.].into_iter().flat_map(f64::to_le_bytes));
-    assert_eq!(polygon(3, ACROSS_EAST), cut);
+    assert_eq!(polygon(3, ACROSS_EAST), cut_alone(&[ACROSS_EAST_CUT]));
     assert_eq!(polygon(0, BOW_TIE), overlay(8, 0, 2));
     assert_eq!(polygon(1, BOW_TIE), [2, 0, 0, 0, 0]);
     assert_eq!(polygon(0, &[2., 2., 1e150, 2., 2., 2.]), [1, 1, 0, 0, 0]);
@@ -79,6 +107,31 @@ fn worked_frames() {
     assert_eq!(polygon(0, &[20., 20., f64::NAN, 20., 30., 30., 20., 20.]), [1, 1, 0, 0, 0]);
     assert_eq!(answer(&frame(6, 0, &[&[BOW_TIE]]), MOST_FRAME_OUTPUT).unwrap(), [2, 0, 0, 0, 0]);
     assert_eq!(answer(&frame(6, 0, &[]), 5).unwrap(), [0; 5]);
+}
+
+/// Every ring has positions of its own, counted as they stand in the frame, and a ring that is sent open is closed.
+#[test]
+fn a_coordinate_of_a_cut_ends_with_its_origin() {
+    assert_eq!(polygon(3, &ACROSS_EAST[..8]), cut_alone(&[ACROSS_EAST_CUT]));
+    assert_eq!(cut_alone(&[ACROSS_EAST_CUT]).len(), 13 + 5 * 18);
+
+    let hole: &[f64] = &[14., 6., 14., 7., 6., 7.];
+    let hole_cut: &[Vertex] = &[(10., 6.5, RIGHT), (10., 7., RIGHT), (6., 7., 2), (10., 6.5, RIGHT)];
+    let holed = answer(&frame(3, 3, &[&[ACROSS_EAST, hole]]), MOST_FRAME_OUTPUT).unwrap();
+    assert_eq!(holed, cut_alone(&[ACROSS_EAST_CUT, hole_cut]));
+
+    let over_a_corner = [-5., -5., 5., -5., 5., 5., -5., 5., -5., -5.];
+    let cut = [(0., 0., BOTTOM), (5., 0., BOTTOM), (5., 5., 2), (0., 5., LEFT), (0., 0., BOTTOM)];
+    assert_eq!(polygon(3, &over_a_corner), cut_alone(&[&cut]));
+}
+
+/// Crossings overflow to a NaN here, so that each of the two closings appends the first coordinate with its origin.
+#[test]
+fn a_coordinate_that_closes_a_cut_has_the_origin_of_the_first() {
+    let ring = [8., 8., 1e308, 1e308, -1.7e308, -1.7e308, 8., 8.];
+    let nan = (f64::from_bits(0x7ff8_0000_0000_0000), 0., BOTTOM);
+    let cut = [nan, (0., 0., LEFT), (8., 8., 0), (10., 10., RIGHT), nan, nan, nan];
+    assert_eq!(polygon(3, &ring), cut_alone(&[&cut]));
 }
 
 #[test]
@@ -102,8 +155,8 @@ fn other_listed_parts_have_no_positions() {
     let mut expected = vec![3, 0, 0, 3, 0];
     expected.extend([0, 0, 2, 0]);
     expected.extend([1, 0, 5, 7, 1, 0, 0, 0]);
-    expected.extend([2, 0, 4, 0, 1, 0, 5, 0]);
-    expected.extend([5., 5., 10., 5., 10., 8., 5., 8., 5., 5.].into_iter().flat_map(f64::to_le_bytes));
+    expected.extend([2, 0]);
+    expected.extend(cut(&[ACROSS_EAST_CUT]));
     assert_eq!(answer(&frame(6, 3, parts), MOST_FRAME_OUTPUT).unwrap(), expected);
 }
 
@@ -126,7 +179,7 @@ fn the_examples_of_the_repository() {
         assert_eq!(Some(printed), from_hex(expected), "{line}");
         compared += 1;
     }
-    assert_eq!(compared, 38);
+    assert_eq!(compared, 39);
     assert_eq!(frames.lines().count(), answers.lines().count());
 }
 
@@ -159,13 +212,13 @@ fn every_refusal() {
 #[test]
 fn the_output_is_exact_or_one_short() {
     let two_rings: &[&[f64]] = &[ACROSS_EAST, &[6., 6., 14., 6., 14., 7., 6., 6.]];
-    // 5, and for each part 6 + 2 × rings + 16 × B: B(5) = 24, B(4) = 21, and a triangle lent unclosed has 4.
+    // 5, and for each part 6 + 2 × rings + 18 × B: B(5) = 24, B(4) = 21, and a triangle lent unclosed has 4.
     for (frame, room) in [
         (frame(6, 0, &[]), 5),
-        (frame(3, 3, &[&[SQUARE]]), 5 + 8 + 16 * 24),
-        (frame(3, 3, &[two_rings]), 5 + 10 + 16 * (24 + 21)),
-        (frame(6, 3, &[&[SQUARE], &[&[20., 20., 30., 20., 30., 30.]]]), 5 + 8 + 16 * 24 + 8 + 16 * 21),
-        (frame(3, 0, &[&[&[f64::NAN, 0.]]]), 5 + 8 + 16 * 11),
+        (frame(3, 3, &[&[SQUARE]]), 5 + 8 + 18 * 24),
+        (frame(3, 3, &[two_rings]), 5 + 10 + 18 * (24 + 21)),
+        (frame(6, 3, &[&[SQUARE], &[&[20., 20., 30., 20., 30., 30.]]]), 5 + 8 + 18 * 24 + 8 + 18 * 21),
+        (frame(3, 0, &[&[&[f64::NAN, 0.]]]), 5 + 8 + 18 * 11),
     ] {
         let exact = answer(&frame, room);
         assert!(exact.is_ok());

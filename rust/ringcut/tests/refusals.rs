@@ -16,9 +16,9 @@ fn numbers_and_messages() {
         (Refusal::CoordinateCount, 17, "a ring of the frame has over 4,096 coordinates"),
         (Refusal::Trailing, 18, "bytes follow the frame's last part"),
         (Refusal::Lengths, 19, "there is no ring or over 64, or the numbers lent are not two for each coordinate"),
-        (Refusal::Coordinates, 20, "there are over 65,536 coordinates"),
-        (Refusal::Scratch, 21, "the scratch slice or the order slice is too short"),
-        (Refusal::Output, 22, "the output or the slice for the lengths of cut rings is too short"),
+        (Refusal::Coordinates, 20, "there are over 65,532 coordinates"),
+        (Refusal::Scratch, 21, "a scratch slice or the order slice is too short"),
+        (Refusal::Output, 22, "an output or the slice for the lengths of cut rings is too short"),
     ];
     for (refusal, number, message) in table {
         assert_eq!(refusal.number(), number);
