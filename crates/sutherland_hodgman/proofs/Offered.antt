@@ -19,7 +19,7 @@ use Rattle.sutherland_hodgman.specs.declared.call.RingAnswer.the-variant
 use Rattle.sutherland_hodgman.specs.CuttingLines.{fixed, bound}
 use Rattle.sutherland_hodgman.specs.Clip.{leaveOff, around, pass, passes, finish, clipRing}
 use Rattle.sutherland_hodgman.specs.Growth.{halfGrowth, fourHalfGrowths, B, mostCoordinates}
-use Rattle.sutherland_hodgman.specs.Origins.{lineOrigin, passesOrigins, closeOrigins, clipOrigins, Rises}
+use Rattle.sutherland_hodgman.specs.Origins.{lineOrigin, passesOrigins, closeOrigins, clipOrigins, Traced, Rises}
 use Rattle.sutherland_hodgman.specs.RingCall.{failsIf, RingSlices, ringCallCheck, ringCallAnswer}
 use Rattle.sutherland_hodgman.specs.Contracts.{Fits16, CutterRoom, OriginRoom}
 use Rattle.sutherland_hodgman.proofs.Calls as calls
@@ -127,6 +127,11 @@ pub on-line : (b : TileBounds) (ring : List Coord) (d : Coord) (i : ℕ) → i <
     → length ring ≤ mostCoordinates → getD (clipOrigins b ring) i 0 ≡ lineOrigin l
     → fixed l (getD (clipRing b ring) i d) ≡ bound l b
 on-line = laws.on-line
+
+-- each vertex came from the ring or from a line, also where the cut is closed once more
+pub closed-traced : (b : TileBounds) (ring : List Coord) (d : Coord) (i : ℕ) → i < length (close (clipRing b ring))
+    → Traced b ring (getD (close (clipRing b ring)) i d) (getD (closeOrigins (clipRing b ring) (clipOrigins b ring)) i 0)
+closed-traced = laws.closed-traced
 
 -- positions rise from vertex to vertex before the closing one
 pub rises : (b : TileBounds) (ring : List Coord) → Rises (passesOrigins b ring)

@@ -149,11 +149,21 @@ module _ (b : TileBounds) (ring : List Coord) where
       let q : drop (suc i) ring ≡ r = cc in
       (inl (record { position = h; vertex = v }), from-ring r (suc i) q)
 
+  all-traced : Along (Traced b ring) (clipRing b ring) (clipOrigins b ring)
+  all-traced =
+      along-cut (Traced b ring) b (λ l s e. inr (record { line = l; origin = refl; stands = crossed b l s e })) ring (from-ring ring 0 refl)
+
   -- the i-th vertex of the cut and its origin
-  pub traced : (d : Coord) (i : ℕ) → i < length (clipRing b ring) → Traced b ring (getD (clipRing b ring) i d) (getD (clipOrigins b ring) i 0)
-  traced d i h =
-      along-at (Traced b ring) (clipRing b ring) (clipOrigins b ring) d i h
-      (along-cut (Traced b ring) b (λ l s e. inr (record { line = l; origin = refl; stands = crossed b l s e })) ring (from-ring ring 0 refl))
+  pub traced : (d : Coord) (i : ℕ) → i < length (clipRing b ring)
+      → Traced b ring (getD (clipRing b ring) i d) (getD (clipOrigins b ring) i 0)
+  traced d i h = along-at (Traced b ring) (clipRing b ring) (clipOrigins b ring) d i h all-traced
+
+  -- also where the cut is closed once more
+  pub closed-traced : (d : Coord) (i : ℕ) → i < length (close (clipRing b ring))
+      → Traced b ring (getD (close (clipRing b ring)) i d) (getD (closeOrigins (clipRing b ring) (clipOrigins b ring)) i 0)
+  closed-traced d i h =
+      along-at (Traced b ring) (close (clipRing b ring)) (closeOrigins (clipRing b ring) (clipOrigins b ring)) d i h
+      (along-close (Traced b ring) (clipRing b ring) (clipOrigins b ring) (as-many b ring) all-traced)
 
 not-below : (l : Edge) → mostCoordinates ≤ lineOrigin l
 not-below Left = omega arith
