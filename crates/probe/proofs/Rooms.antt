@@ -20,6 +20,7 @@ use Rattle.box_pairs.specs.Pairs.{firstPair}
 use Rattle.box_pairs.specs.Issue.{issueOf}
 use Rattle.box_pairs.proofs.Offered.{issue-below, pair-below}
 use Rattle.sutherland_hodgman.specs.Growth.{halfGrowth, mostCoordinates}
+use Rattle.sutherland_hodgman.specs.Contracts.{PassOriginRoom}
 use Rattle.probe.specs.Edges.{most, hasRoom, pairCode}
 use Rattle.probe.specs.Passes.{hasPassRoom}
 
@@ -63,9 +64,14 @@ pub same-pair : (ring : List Float) (n : ℕ) (x : Pair) → (n ≡ 0 → ⊥) �
 same-pair ring n x h e = let q : n - 1 + 1 ≡ n = omega arith in rw (e, q)
 
 -- the room that the call of a pass tests is the room that the pass asks for
-pub pass-room-of : (n out : ℕ) → hasPassRoom n out ≡ true → 2 * halfGrowth n ≤ out
+pub pass-room-of : (n origins out outOrigins : ℕ) → hasPassRoom n origins out outOrigins ≡ true
+    → (2 * halfGrowth n ≤ out) × PassOriginRoom n origins outOrigins
 unfolding hasPassRoom
-pass-room-of n out h = leb-true (2 * halfGrowth n) out (both (leb n (8 * mostCoordinates)) (leb (2 * halfGrowth n) out) h .1)
+pass-room-of n origins out outOrigins h =
+    let p = both (leb n (8 * mostCoordinates)) _ h in
+    let q = both (leb n origins) _ (p .1) in
+    let r = both (leb (2 * halfGrowth n) out) (leb (halfGrowth n) outOrigins) (q .1) in
+    (leb-true _ out (r .0), (leb-true n origins (q .0), leb-true _ outOrigins (r .1)))
 
 -- what is written stands over what was lent
 pub pass-over : (ring : List Coord) (d : List Float) (k : ℕ) (d′ : List Float) → Written ring d k d′ → d′ ≡ over (flat ring) d

@@ -1,11 +1,11 @@
 -- What the call of one pass answers and leaves in the lent slices: the definitions of `sutherland_hodgman`, where there is room.
 -- Definitions only.
 use mathlib.Core.Bool.{Bool, _&&_, cond}
-use mathlib.Core.List.{List}
+use mathlib.Core.List.{List, _++_}
 use Prim.Native.Nat.{ℕ, _-_, _*_, _/_, _^_}
 use lib.Dec.{eqb, leb}
 use lib.Ieee.{Float}
-use lib.ListN.{length, take, set}
+use lib.ListN.{length, take, drop, set}
 use Rattle.binary64.specs.Slices.{over}
 use Rattle.tile.specs.declared.Coord.{Coord}
 use Rattle.tile.specs.declared.TileBounds.{TileBounds}
@@ -14,6 +14,7 @@ use Rattle.tile.specs.declared.Edge.the-variants.{Left, Right, Bottom, Top}
 use Rattle.tile.specs.Ring.{coords, flat}
 use Rattle.sutherland_hodgman.specs.Clip.{pass}
 use Rattle.sutherland_hodgman.specs.Growth.{halfGrowth, mostCoordinates}
+use Rattle.sutherland_hodgman.specs.Origins.{passOrigins}
 use Rattle.sutherland_hodgman.specs.Verdicts.{verdicts}
 
 -- the edges by number
@@ -24,23 +25,39 @@ edgeAt n = cond (eqb n 0) Left (cond (eqb n 1) Right (cond (eqb n 2) Bottom Top)
 abbrev pub vertices : List Float → List Coord
 vertices ring = coords (take (2 * (length ring / 2)) ring)
 
--- whether a pass over n vertices has room in so many numbers; more vertices than this limit `half_growth` does not take
-unfoldable pub hasPassRoom : ℕ → ℕ → Bool
-hasPassRoom n out = leb n (8 * mostCoordinates) && leb (2 * halfGrowth n) out
+-- whether each of n vertices has an origin, and a pass over them has room in outputs of these lengths; more vertices than this limit
+-- `half_growth` does not take
+unfoldable pub hasPassRoom : ℕ → ℕ → ℕ → ℕ → Bool
+hasPassRoom n origins out outOrigins =
+    leb n (8 * mostCoordinates) && (leb n origins && (leb (2 * halfGrowth n) out && leb (halfGrowth n) outOrigins))
+
+-- the same of the slices that are lent: the ring, its origins, and the outputs for both
+abbrev pub fits : List Float → List ℕ → List Float → List ℕ → Bool
+fits ring origins out outOrigins = hasPassRoom (length ring / 2) (length origins) (length out) (length outOrigins)
 
 -- what no pass answers
 abbrev pub noRoom : ℕ
 noRoom = 2 ^ 64 - 1
 
 -- how many vertices the pass writes
-unfoldable pub passAnswer : List Float → ℕ → TileBounds → List Float → ℕ
-passAnswer ring edge b out = cond (hasPassRoom (length ring / 2) (length out)) (length (pass (edgeAt edge) b (vertices ring))) noRoom
+unfoldable pub passAnswer : List Float → List ℕ → ℕ → TileBounds → List Float → List ℕ → ℕ
+passAnswer ring origins edge b out outOrigins =
+    cond (fits ring origins out outOrigins) (length (pass (edgeAt edge) b (vertices ring))) noRoom
 
 -- the vertices from the front of the output, which is otherwise as it was
-unfoldable pub passOutput : List Float → ℕ → TileBounds → List Float → List Float
-passOutput ring edge b out =
-    cond (hasPassRoom (length ring / 2) (length out)) (over (flat (pass (edgeAt edge) b (vertices ring))) out) out
+unfoldable pub passOutput : List Float → List ℕ → ℕ → TileBounds → List Float → List ℕ → List Float
+passOutput ring origins edge b out outOrigins =
+    cond (fits ring origins out outOrigins) (over (flat (pass (edgeAt edge) b (vertices ring))) out) out
+
+-- as many origins from the front of theirs, which is otherwise as it was
+unfoldable pub passOutOrigins : List Float → List ℕ → ℕ → TileBounds → List Float → List ℕ → List ℕ
+passOutOrigins ring origins edge b out outOrigins =
+    cond (fits ring origins out outOrigins)
+    (passOrigins (edgeAt edge) b (vertices ring) (take (length ring / 2) origins)
+    ++ drop (length (pass (edgeAt edge) b (vertices ring))) outOrigins)
+    outOrigins
 
 -- the count of verdicts in the first number of the slice that is lent for it, unless that is empty
-unfoldable pub passVerdicts : List Float → List Float → List ℕ → List ℕ
-passVerdicts ring out counts = cond (hasPassRoom (length ring / 2) (length out)) (set counts 0 (verdicts (vertices ring))) counts
+unfoldable pub passVerdicts : List Float → List ℕ → List Float → List ℕ → List ℕ → List ℕ
+passVerdicts ring origins out outOrigins counts =
+    cond (fits ring origins out outOrigins) (set counts 0 (verdicts (vertices ring))) counts

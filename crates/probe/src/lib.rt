@@ -2,9 +2,10 @@
 // shipped.
 ghost use mathlib.Core.Path.{_≡_};
 ghost use lib.Ieee.{nan};
-ghost use lib.ListN.{getD, set};
+ghost use lib.ListN.{getD, set, take};
 ghost use Rattle.tile.specs.Ring.{coords};
 ghost use Rattle.tile.specs.Bounds.{empty, isValid, expand, intersect, width, height, buffered};
+ghost use Rattle.sutherland_hodgman.specs.Origins.{clipOrigins};
 ghost use Rattle.sutherland_hodgman.specs.RingCall.{ringSlices, ringCallCheck};
 ghost use Rattle.sutherland_hodgman.specs.Contracts.{RingCut};
 ghost use Rattle.probe.specs.Numbers.{boundsAt, stored};
@@ -110,13 +111,33 @@ pub extern "C" fn probe_clip_ring(
     ring: &[f64],
     bounds: &[f64],
     scratch: &mut [f64],
+    origin_scratch: &mut [u16],
     out: &mut [f64],
+    out_origins: &mut [u16],
 ) -> usize
-    ensures { λ r. ⌜ (ringCallCheck (now (ring .entry)) (ringSlices (now (scratch .entry)) (now (out .entry))) ≡ Check.Passes
+    ensures ring { λ r. ⌜ (ringCallCheck (now (ring .entry))
+        (ringSlices (now (scratch .entry)) (now («origin_scratch» .entry)) (now (out .entry)) (now («out_origins» .entry))) ≡ Check.Passes
         → RingCut (boundsAt (now (bounds .entry))) (coords (now (ring .entry))) r (now (out .exit))) ⌝ }
+    ensures origins { λ r. ⌜ (ringCallCheck (now (ring .entry))
+        (ringSlices (now (scratch .entry)) (now («origin_scratch» .entry)) (now (out .entry)) (now («out_origins» .entry))) ≡ Check.Passes
+        → take r (now («out_origins» .exit)) ≡ clipOrigins (boundsAt (now (bounds .entry))) (coords (now (ring .entry)))) ⌝ }
 {
-    match check_ring(ring.len(), scratch.len(), out.len()) {
+    match check_ring(
+        ring.len(),
+        scratch.len(),
+        origin_scratch.len(),
+        out.len(),
+        out_origins.len(),
+    ) {
         Check::Fails(_) => 0,
-        Check::Passes => clip_ring(ring, ring.len() / 2, bounds_at(bounds), scratch, out),
+        Check::Passes => clip_ring(
+            ring,
+            ring.len() / 2,
+            bounds_at(bounds),
+            scratch,
+            origin_scratch,
+            out,
+            out_origins,
+        ),
     }
 }

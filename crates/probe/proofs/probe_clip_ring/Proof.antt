@@ -4,6 +4,7 @@ use Prim.Native.Nat.{ℕ}
 use native.Mathlib.Omega.{arith}
 use denote.Ref.{now}
 use borrow.Author.Needs.{needs}
+use Rattle.sutherland_hodgman.specs.declared.call.Check.the-variants.{Passes}
 use Rattle.sutherland_hodgman.specs.RingCall.{ringSlices}
 use Rattle.sutherland_hodgman.proofs.Offered.{lent-room, lent-whole}
 use Rattle.probe.proofs.probe_clip_ring.Statement.{statement}
@@ -23,14 +24,16 @@ bounds-at-requires c κs = search needs
 
 clip-ring-requires : tie.Need-clip-ring-requires
 clip-ring-requires c κs =
-    let a = c .before .before .before .before .before .before .before .before .before .before .args in
-    lent-room (now (a .ring)) (ringSlices (now (a .scratch)) (now (a .out)))
-    (sym (c .before .before .before .before .before .check-ring .ensures) ∙ c .before .before .before .enum-told2 .given .1)
+    let a = c .before .before .before .before .before .before .before .before .before .before .before .before .before .before .args in
+    lent-room (now (a .ring)) (ringSlices (now (a .scratch)) (now (a .origin-scratch)) (now (a .out)) (now (a .out-origins)))
+    (sym (c .before .before .before .before .before .before .before .check-ring .ensures) ∙ c .before .before .before .before .before
+    .enum-told2 .given .1)
 
 returns : tie.Need-returns
 returns c =
-    λ p. absurd (let e = c .enum-told .given .1 in let q = c .before .before .check-ring .ensures in let z : _≡_ {A = ℕ} 0 1 =
-    cc in omega arith)
+    let none : c .before .before .check-ring .result ≡ Passes → ⊥ =
+    λ p. let e = c .enum-told .given .1 in let z : _≡_ {A = ℕ} 0 1 = cc in omega arith in
+    (λ p. absurd (none (c .before .before .check-ring .ensures ∙ p)), λ p. absurd (none (c .before .before .check-ring .ensures ∙ p)))
 
 same-length : tie.Need-same-length
 same-length c = search needs
@@ -38,15 +41,20 @@ same-length c = search needs
 same-length-2 : tie.Need-same-length-2
 same-length-2 c = search needs
 
+same-length-3 : tie.Need-same-length-3
+same-length-3 c = search needs
+
+same-length-4 : tie.Need-same-length-4
+same-length-4 c = search needs
+
 returns-2 : tie.Need-returns-2
 returns-2 c =
-    let a = c .before .before .before .before .before .before .before .before .before .before .before .before .before .before .before .args
-    in
-    λ p. rw (
-      ← c .before .before .before .before .before .before .before .bounds-at .ensures,
-      ← lent-whole (now (a .ring)) (ringSlices (now (a .scratch)) (now (a .out))) p,
-    )
-    (c .before .before .before .before .clip-ring .ensures)
+    let a = c .before .before .before .before .before .before .before .before .before .before .before .before .before .before .before
+    .before .before .before .before .before .before .before .before .args in
+    let lent = ringSlices (now (a .scratch)) (now (a .origin-scratch)) (now (a .out)) (now (a .out-origins)) in
+    let b = c .before .before .before .before .before .before .before .before .before .before .before .before .before .bounds-at .ensures in
+    let e = c .before .before .before .before .before .before .before .before .clip-ring .ensures in
+    (λ p. rw (← b, ← lent-whole (now (a .ring)) lent p) (e .0), λ p. rw (← b, ← lent-whole (now (a .ring)) lent p) (e .1))
 
 pub probe-clip-ring-spec : {M : Type 1} → statement M
 probe-clip-ring-spec =
@@ -60,4 +68,6 @@ probe-clip-ring-spec =
     returns
     same-length
     same-length-2
+    same-length-3
+    same-length-4
     returns-2)
