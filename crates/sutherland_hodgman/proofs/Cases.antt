@@ -56,7 +56,8 @@ bottom = lineOrigin Bottom
 abbrev top : ℕ
 top = lineOrigin Top
 
--- a ring that two passes cut at the one corner; one with a NaN longitude; one with an edge on a line; one around a corner of the tile, which
+-- a ring that two passes cut at the one corner; one with a NaN longitude; one with an edge on a line; one around a corner of the tile,
+-- which
 -- the later of two lines makes; one where a line makes a vertex that the ring has too, which is left off; one closed by a zero of the other
 -- sign
 abbrev cases : List Case
@@ -117,7 +118,8 @@ wanted (c ∷ cs) = c .origins ∷ wanted cs
 
 each-traced : traced cases ≡ wanted cases
 unfolding clipOrigins finishOrigins closeOrigins passesOrigins passOrigins aroundOrigins stepsOrigins positionsFrom passes pass around
-    leaveOff steps inside crossing same last closed close interpolate ten at edge northWest southEast southWest num le eq add sub mul div neg
+    leaveOff steps inside crossing same last closed close interpolate ten at edge northWest southEast southWest num le eq add sub mul div
+    neg
 each-traced = refl
 
 -- document 01's figures for B

@@ -1,4 +1,5 @@
--- What the origins say of the coordinates and of each other: as many, each traced to the ring or to a line, positions rising; and closing the ring first changes none. Assumes nothing.
+-- What the origins say of the coordinates and of each other: as many, each traced to the ring or to a line, positions rising; and closing
+-- the ring first changes none. Assumes nothing.
 use mathlib.Core.Path.{_≡_, refl, sym, _∙_, ap, subst}
 use mathlib.Core.Logic.{inl, inr}
 use mathlib.Core.Bool.{Bool, true, false, cond}
@@ -18,7 +19,20 @@ use Rattle.tile.specs.declared.Edge.the-variants.{Left, Right, Bottom, Top}
 use Rattle.tile.specs.Ring.{last, closed, close}
 use Rattle.sutherland_hodgman.specs.CuttingLines.{fixed, bound, inside, crossing}
 use Rattle.sutherland_hodgman.specs.Clip.{step, steps, leaveOff, around, pass, passes, finish, clipRing}
-use Rattle.sutherland_hodgman.specs.Origins.{lineOrigin, positionsFrom, stepOrigins, stepsOrigins, aroundOrigins, passOrigins, passesOrigins, closeOrigins, finishOrigins, clipOrigins, Traced, Rises}
+use Rattle.sutherland_hodgman.specs.Origins.{
+  lineOrigin,
+  positionsFrom,
+  stepOrigins,
+  stepsOrigins,
+  aroundOrigins,
+  passOrigins,
+  passesOrigins,
+  closeOrigins,
+  finishOrigins,
+  clipOrigins,
+  Traced,
+  Rises,
+}
 use Rattle.sutherland_hodgman.specs.Growth.{mostCoordinates}
 use Rattle.sutherland_hodgman.specs.Contracts.{Fits16}
 use Rattle.sutherland_hodgman.proofs.Growth.{leaveOff-length}
@@ -101,19 +115,22 @@ module _ (P : Coord → ℕ → Type 0) where
   along-at (p ∷ r) (o ∷ os) d (suc i) l h = along-at r os d i (omega arith) (h .1)
 
   module _ (b : TileBounds) (c : (l : Edge) (s e : Coord) → P (crossing l b s e) (lineOrigin l)) where
-    along-step : (l : Edge) (v f : Bool) (s e : Coord) (o : ℕ) → P e o → Along P (step v f (crossing l b s e) e) (stepOrigins v f (lineOrigin l) o)
+    along-step : (l : Edge) (v f : Bool) (s e : Coord) (o : ℕ) → P e o → Along P (step v f (crossing l b s e) e) (stepOrigins v f
+        (lineOrigin l) o)
     along-step l true true s e o h = (h, tt)
     along-step l true false s e o h = (c l s e, tt)
     along-step l false true s e o h = (c l s e, (h, tt))
     along-step l false false s e o h = tt
 
-    along-steps : (l : Edge) (v : Bool) (s : Coord) (r : List Coord) (os : List ℕ) → Along P r os → Along P (steps l b v s r) (stepsOrigins l b v r os)
+    along-steps : (l : Edge) (v : Bool) (s : Coord) (r : List Coord) (os : List ℕ) → Along P r os
+        → Along P (steps l b v s r) (stepsOrigins l b v r os)
     unfolding steps stepsOrigins
     along-steps l v s [] os h = tt
     along-steps l v s (e ∷ r) os h =
         let f = inside l b e in
         let o = getD os 0 0 in
-        along-append (step v f (crossing l b s e) e) (steps l b f e r) (stepOrigins v f (lineOrigin l) o) (stepsOrigins l b f r (drop 1 os)) (step-many v f (crossing l b s e) e (lineOrigin l) o)
+        along-append (step v f (crossing l b s e) e) (steps l b f e r) (stepOrigins v f (lineOrigin l) o) (stepsOrigins l b f r
+        (drop 1 os)) (step-many v f (crossing l b s e) e (lineOrigin l) o)
         (along-step l v f s e o (h .0)) (along-steps l f e r (drop 1 os) (h .1))
 
     along-around : (l : Edge) (r : List Coord) (os : List ℕ) → Along P r os → Along P (around l b r) (aroundOrigins l b r os)
@@ -127,7 +144,8 @@ module _ (P : Coord → ℕ → Type 0) where
 
     along-cut : (r : List Coord) → Along P r (positionsFrom 0 (length r)) → Along P (clipRing b r) (clipOrigins b r)
     unfolding clipRing clipOrigins passes passesOrigins
-    along-cut r h = along-finish (passes b r) (passesOrigins b r) (passes-many b r) (along-pass Top _ _ (along-pass Bottom _ _ (along-pass Right _ _ (along-pass Left r _ h))))
+    along-cut r h = along-finish (passes b r) (passesOrigins b r) (passes-many b r) (along-pass Top _ _ (along-pass Bottom _ _
+        (along-pass Right _ _ (along-pass Left r _ h))))
 
 -- ---- each vertex is traced to the ring, or to a line
 
@@ -172,7 +190,8 @@ not-below Bottom = omega arith
 not-below Top = omega arith
 
 -- the same by the numbers
-traced-position : (b : TileBounds) (ring : List Coord) (p : Coord) (o : ℕ) → Traced b ring p o → o < mostCoordinates → (o < length ring) × (p ≡ getD ring o p)
+traced-position : (b : TileBounds) (ring : List Coord) (p : Coord) (o : ℕ) → Traced b ring p o → o < mostCoordinates
+    → (o < length ring) × (p ≡ getD ring o p)
 traced-position b ring p o (inl t) h = (t .position, t .vertex)
 traced-position b ring p o (inr t) h = absurd (omega (arith, not-below (t .line), t .origin))
 
@@ -194,7 +213,8 @@ line-of Top Right e = absurd (omega arith)
 line-of Top Bottom e = absurd (omega arith)
 line-of Top Top e = refl
 
-traced-line : (b : TileBounds) (ring : List Coord) (p : Coord) (o : ℕ) (l : Edge) → Traced b ring p o → length ring ≤ mostCoordinates → o ≡ lineOrigin l → fixed l p ≡ bound l b
+traced-line : (b : TileBounds) (ring : List Coord) (p : Coord) (o : ℕ) (l : Edge) → Traced b ring p o → length ring ≤ mostCoordinates
+    → o ≡ lineOrigin l → fixed l p ≡ bound l b
 traced-line b ring p o l (inl t) h e = absurd (omega (arith, not-below l, t .position))
 traced-line b ring p o l (inr t) h e = let q : t .line ≡ l = line-of (t .line) l (sym (t .origin) ∙ e) in rw q at (t .stands)
 
@@ -245,13 +265,15 @@ line-first Bottom k os h = (λ p. absurd (omega arith), h)
 line-first Top k os h = (λ p. absurd (omega arith), h)
 
 module _ (l : Edge) (b : TileBounds) where
-  steps-rise : (v : Bool) (r : List Coord) (os : List ℕ) (k : ℕ) → length r ≤ length os → RisesFrom k os → RisesFrom k (stepsOrigins l b v r os)
+  steps-rise : (v : Bool) (r : List Coord) (os : List ℕ) (k : ℕ) → length r ≤ length os → RisesFrom k os
+      → RisesFrom k (stepsOrigins l b v r os)
   unfolding stepsOrigins
   steps-rise v [] os k n h = tt
   steps-rise v (e ∷ r) [] k n h = absurd (omega arith)
   steps-rise v (e ∷ r) (o ∷ os) k n h = go v (inside l b e) (λ w m g. steps-rise w r os m (omega arith) g)
     where
-      go : (v f : Bool) → ((w : Bool) (m : ℕ) → RisesFrom m os → RisesFrom m (stepsOrigins l b w r os)) → RisesFrom k (stepOrigins v f (lineOrigin l) o ++ stepsOrigins l b f r os)
+      go : (v f : Bool) → ((w : Bool) (m : ℕ) → RisesFrom m os → RisesFrom m (stepsOrigins l b w r os))
+          → RisesFrom k (stepOrigins v f (lineOrigin l) o ++ stepsOrigins l b f r os)
       go true true ih = (h .0, ih true (next k o) (h .1))
       go true false ih = line-first l k (stepsOrigins l b false r os) (ih false k (skip k o os h))
       go false true ih = line-first l k (o ∷ stepsOrigins l b true r os) (h .0, ih true (next k o) (h .1))
@@ -269,7 +291,11 @@ module _ (l : Edge) (b : TileBounds) where
 positions-rise : (i n : ℕ) → RisesFrom i (positionsFrom i n)
 unfolding positionsFrom
 positions-rise i zero = tt
-positions-rise i (suc n) = (λ p. le-refl i, lower (next i i) (suc i) (positionsFrom (suc i) n) (most (ltb i mostCoordinates)) (positions-rise (suc i) n))
+positions-rise i (suc n) = (
+  λ p. le-refl i,
+  lower (next i i) (suc i) (positionsFrom (suc i) n) (most (ltb i mostCoordinates))
+      (positions-rise (suc i) n),
+)
   where
     most : (t : Bool) → cond t (suc i) i ≤ suc i
     most true = le-refl (suc i)
@@ -283,7 +309,11 @@ later k (o ∷ os) (suc j) h l p = later k os j (skip k o os h) (omega arith) p
 rises-of : (k : ℕ) (os : List ℕ) → RisesFrom k os → Rises os
 rises-of k [] h i j l n p q = absurd (omega arith)
 rises-of k (o ∷ os) h i zero l n p q = absurd (omega arith)
-rises-of k (o ∷ os) h zero (suc j) l n p q = let e : next k o ≡ suc o = rw (lt-ltb o mostCoordinates p) in omega (arith, later (next k o) os j (h .1) (omega arith) q)
+rises-of k (o ∷ os) h zero (suc j) l n p q = let e : next k o ≡ suc o = rw (lt-ltb o mostCoordinates p) in omega (
+  arith,
+  later
+      (next k o) os j (h .1) (omega arith) q,
+)
 rises-of k (o ∷ os) h (suc i) (suc j) l n p q = rises-of (next k o) os (h .1) i j (omega arith) (omega arith) p q
 
 pub rises : (b : TileBounds) (r : List Coord) → Rises (passesOrigins b r)
@@ -309,11 +339,13 @@ take-positions i zero n h = refl
 take-positions i (suc k) zero h = absurd (omega arith)
 take-positions i (suc k) (suc n) h = ap (λ (l : List ℕ). i ∷ l) (take-positions (suc i) k n (omega arith))
 
-first-pass : (b : TileBounds) (r : List Coord) → passOrigins Left b r (positionsFrom 0 (length r)) ≡ aroundOrigins Left b (leaveOff r) (positionsFrom 0 (length (leaveOff r)))
+first-pass : (b : TileBounds) (r : List Coord) → passOrigins Left b r (positionsFrom 0 (length r)) ≡ aroundOrigins Left b (leaveOff r)
+    (positionsFrom 0 (length (leaveOff r)))
 unfolding passOrigins
 first-pass b r =
     let k = length (leaveOff r) in
-    sym (pass-enough Left b k r (positionsFrom 0 (length r)) (le-refl k)) ∙ ap (aroundOrigins Left b (leaveOff r)) (take-positions 0 k (length r) (leaveOff-length r))
+    sym (pass-enough Left b k r (positionsFrom 0 (length r)) (le-refl k)) ∙ ap (aroundOrigins Left b (leaveOff r)) (take-positions 0 k
+    (length r) (leaveOff-length r))
 
 pub origins-close : (b : TileBounds) (r : List Coord) → closed (close r) ≡ true → clipOrigins b (close r) ≡ clipOrigins b r
 unfolding clipOrigins passesOrigins passes pass

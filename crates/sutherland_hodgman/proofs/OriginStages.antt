@@ -1,4 +1,5 @@
--- The origins over two slices in turn, and the closing: after each pass they stand at the front of a slice beside the ring. Assumes nothing.
+-- The origins over two slices in turn, and the closing: after each pass they stand at the front of a slice beside the ring. Assumes
+-- nothing.
 use mathlib.Core.Path.{_≡_, refl, sym, _∙_}
 use mathlib.Core.Bool.{Bool, true, false, true≢false}
 use mathlib.Core.List.{List, [], _∷_, _++_, append-assoc}
@@ -29,8 +30,10 @@ pub numbered : (n : ℕ) (d d′ : List ℕ) → d′ ≡ positionsFrom 0 n ++ d
 numbered n d d′ h = rw h (take-at (positionsFrom 0 n) (drop n d) n (length-positions 0 n))
 
 -- a pass over the ring r, k vertices at the front of d, with the origins os at the front of o
-pub origins-next : (l : Edge) (b : TileBounds) {r : List Coord} {k : ℕ} {d : List Float} {os : List ℕ} (o o0 o′ : List ℕ) (d0 d′ : List Float) (k′ : ℕ) → Stands r k d → take k o ≡ os
-    → Written (pass l b (coords (take (2 * k) d))) d0 k′ d′ → o′ ≡ passOrigins l b (coords (take (2 * k) d)) (take k o) ++ drop k′ o0 → take k′ o′ ≡ passOrigins l b r os
+pub origins-next : (l : Edge) (b : TileBounds) {r : List Coord} {k : ℕ} {d : List Float} {os : List ℕ} (o o0 o′ : List ℕ)
+    (d0 d′ : List Float) (k′ : ℕ) → Stands r k d → take k o ≡ os
+    → Written (pass l b (coords (take (2 * k) d))) d0 k′ d′ → o′ ≡ passOrigins l b (coords (take (2 * k) d)) (take k o) ++ drop k′ o0
+    → take k′ o′ ≡ passOrigins l b r os
 origins-next l b {r} {k} {d} {os} o o0 o′ d0 d′ k′ s e w h =
     let q = stands-front s in
     let p : o′ ≡ passOrigins l b r os ++ drop k′ o0 = rw (q, e) at h in
@@ -38,11 +41,22 @@ origins-next l b {r} {k} {d} {os} o o0 o′ d0 d′ k′ s e w h =
     rw p (take-at (passOrigins l b r os) (drop k′ o0) k′ n)
 
 -- the room for the origins is half that for the numbers
-pub origins-room : {j n : ℕ} {r : List Coord} {d : List Float} {k : ℕ} (here there : ℕ) → suc j ≤ 4 → B n ≤ here → B n ≤ there → Stage j n r d k → (k ≤ here) × (halfGrowth k ≤ there)
-origins-room here there h p q s = let m = stage-room (2 * here) (2 * there) h (omega arith) (omega arith) s in (omega (arith, m .0), omega (arith, m .1))
+pub origins-room : {j n : ℕ} {r : List Coord} {d : List Float} {k : ℕ} (here there : ℕ) → suc j ≤ 4 → B n ≤ here → B n ≤ there
+    → Stage j n r d k → (k ≤ here) × (halfGrowth k ≤ there)
+origins-room here there h p q s = let m = stage-room (2 * here) (2 * there) h (omega arith) (omega arith) s in (
+  omega (arith, m .0),
+  omega
+      (arith, m .1),
+)
 
-pub origins-last : {n : ℕ} {r : List Coord} {d : List Float} {k : ℕ} (here there : ℕ) → B n ≤ here → B n ≤ there → Stage 3 n r d k → (k ≤ here) × (halfGrowth k ≤ there) × (0 < k → halfGrowth k + 1 ≤ there)
-origins-last here there p q s = let m = stage-last (2 * here) (2 * there) (omega arith) (omega arith) s in (omega (arith, m .0), omega (arith, m .1), λ t. omega (arith, m .2 t))
+pub origins-last : {n : ℕ} {r : List Coord} {d : List Float} {k : ℕ} (here there : ℕ) → B n ≤ here → B n ≤ there → Stage 3 n r d k
+    → (k ≤ here) × (halfGrowth k ≤ there) × (0 < k → halfGrowth k + 1 ≤ there)
+origins-last here there p q s = let m = stage-last (2 * here) (2 * there) (omega arith) (omega arith) s in (
+  omega (arith, m .0),
+  omega
+      (arith, m .1),
+  λ t. omega (arith, m .2 t),
+)
 
 -- ---- closing and finishing the n vertices at the front of a slice
 
@@ -86,8 +100,10 @@ module _ (s : List Float) (n : ℕ) (h : 2 * n ≤ length s) where
 
 -- ---- the last pass and the closing
 
-pub origins-topped : (b : TileBounds) (r : List Coord) (os o o₁ o₂ : List ℕ) (d d₁ d₂ : List Float) (k₁ k₂ : ℕ) → Written (pass Top b r) d k₁ d₁ → o₁ ≡ passOrigins Top b r os ++ drop k₁ o
-    → Written (finish (coords (take (2 * k₁) d₁))) d₁ k₂ d₂ → o₂ ≡ finishOrigins (coords (take (2 * k₁) d₁)) (take k₁ o₁) ++ drop k₂ o₁ → take k₂ o₂ ≡ topOrigins b r os
+pub origins-topped : (b : TileBounds) (r : List Coord) (os o o₁ o₂ : List ℕ) (d d₁ d₂ : List Float) (k₁ k₂ : ℕ)
+    → Written (pass Top b r) d k₁ d₁ → o₁ ≡ passOrigins Top b r os ++ drop k₁ o
+    → Written (finish (coords (take (2 * k₁) d₁))) d₁ k₂ d₂ → o₂ ≡ finishOrigins (coords (take (2 * k₁) d₁)) (take k₁ o₁) ++ drop k₂ o₁
+    → take k₂ o₂ ≡ topOrigins b r os
 unfolding topOrigins
 origins-topped b r os o o₁ o₂ d d₁ d₂ k₁ k₂ w h f g =
     let P = pass Top b r in
@@ -99,7 +115,8 @@ origins-topped b r os o o₁ o₂ d d₁ d₂ k₁ k₂ w h f g =
     let c : k₂ ≡ length (finish P) = rw q at (f .count) in
     rw e (take-at (finishOrigins P O) (drop k₂ o₁) k₂ (finish-many P O (pass-many Top b r os) ∙ sym c))
 
-pub origins-cut : (b : TileBounds) (ring : List Coord) (k : ℕ) (d : List Float) (three top : List ℕ) → Stands (threePasses b ring) k d → three ≡ threePassesOrigins b ring
+pub origins-cut : (b : TileBounds) (ring : List Coord) (k : ℕ) (d : List Float) (three top : List ℕ) → Stands (threePasses b ring) k d
+    → three ≡ threePassesOrigins b ring
     → top ≡ topOrigins b (coords (take (2 * k) d)) three → top ≡ clipOrigins b ring
 unfolding clipOrigins passesOrigins passes topOrigins threePasses threePassesOrigins
 origins-cut b ring k d three top s e t = t ∙ rw (stands-front s, e)

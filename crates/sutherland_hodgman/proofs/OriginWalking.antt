@@ -38,7 +38,14 @@ module _ (l : Edge) (b : TileBounds) where
   steps-many v s (e ∷ r) os =
       let f = inside l b e in
       let o = getD os 0 0 in
-      omega (arith, length-append (stepOrigins v f (lineOrigin l) o) (stepsOrigins l b f r (drop 1 os)), length-append (step v f (crossing l b s e) e) (steps l b f e r), step-many v f (crossing l b s e) e (lineOrigin l) o, steps-many f e r (drop 1 os))
+      omega (
+        arith,
+        length-append (stepOrigins v f (lineOrigin l) o) (stepsOrigins l b f r (drop 1 os)),
+        length-append (step v f
+            (crossing l b s e) e) (steps l b f e r),
+        step-many v f (crossing l b s e) e (lineOrigin l) o,
+        steps-many f e r (drop 1 os),
+      )
 
   pub around-many : (r : List Coord) (os : List ℕ) → length (aroundOrigins l b r os) ≡ length (around l b r)
   unfolding aroundOrigins around
@@ -60,14 +67,20 @@ module _ (l : Edge) (b : TileBounds) where
   steps-enough : (v : Bool) (r : List Coord) (os : List ℕ) → stepsOrigins l b v r (take (length r) os) ≡ stepsOrigins l b v r os
   unfolding stepsOrigins
   steps-enough v [] os = refl
-  steps-enough v (e ∷ r) os = rw (getD-take (suc (length r)) os 0 0 (omega arith), ← take-drop-one (length r) os, steps-enough (inside l b e) r (drop 1 os))
+  steps-enough v (e ∷ r) os = rw (
+    getD-take (suc (length r)) os 0 0 (omega arith),
+    ← take-drop-one (length r) os,
+    steps-enough
+        (inside l b e) r (drop 1 os),
+  )
 
   around-enough : (n : ℕ) (r : List Coord) (os : List ℕ) → length r ≤ n → aroundOrigins l b r (take n os) ≡ aroundOrigins l b r os
   unfolding aroundOrigins
   around-enough n [] os h = refl
   around-enough n (p ∷ r) os h =
       let v = inside l b (last p r) in
-      sym (steps-enough v (p ∷ r) (take n os)) ∙ ap (stepsOrigins l b v (p ∷ r)) (take-take (suc (length r)) n os h) ∙ steps-enough v (p ∷ r) os
+      sym (steps-enough v (p ∷ r) (take n os)) ∙ ap (stepsOrigins l b v (p ∷ r)) (take-take (suc (length r)) n os h) ∙ steps-enough v
+      (p ∷ r) os
 
   pub pass-enough : (n : ℕ) (r : List Coord) (os : List ℕ) → length (leaveOff r) ≤ n → passOrigins l b r (take n os) ≡ passOrigins l b r os
   unfolding passOrigins
@@ -93,12 +106,15 @@ module _ (l : Edge) (b : TileBounds) (ring : List Coord) (os : List ℕ) where
     unfolding originsLeft stepsOrigins
     origins-left-step = rw (drop-cons ring i noVertex h, ← he, hf, getD-drop i os 0 0, add-zero i, drop-drop 1 i os, add-one)
 
-    pub origins-step : (k : ℕ) (d : List ℕ) (k′ : ℕ) (d′ : List ℕ) → k′ ≡ k + length (stepOrigins v f (lineOrigin l) (getD os i 0)) → d′ ≡ sets d k (stepOrigins v f (lineOrigin l) (getD os i 0))
+    pub origins-step : (k : ℕ) (d : List ℕ) (k′ : ℕ) (d′ : List ℕ) → k′ ≡ k + length (stepOrigins v f (lineOrigin l) (getD os i 0))
+        → d′ ≡ sets d k (stepOrigins v f (lineOrigin l) (getD os i 0))
         → SameOrigins l b ring os v i k d f (i + 1) k′ d′
-    origins-step k d k′ d′ hk hd = rw (origins-left-step, hk, hd) (sets-append d k (stepOrigins v f (lineOrigin l) (getD os i 0)) (originsLeft l b ring os f (i + 1)))
+    origins-step k d k′ d′ hk hd = rw (origins-left-step, hk, hd) (sets-append d k (stepOrigins v f (lineOrigin l) (getD os i 0))
+        (originsLeft l b ring os f (i + 1)))
 
   -- the pass starts from the last vertex
-  pub around-origins-left : (v : Bool) → 0 < length ring → inside l b (getD ring (length ring - 1) noVertex) ≡ v → aroundOrigins l b ring os ≡ originsLeft l b ring os v 0
+  pub around-origins-left : (v : Bool) → 0 < length ring → inside l b (getD ring (length ring - 1) noVertex) ≡ v
+      → aroundOrigins l b ring os ≡ originsLeft l b ring os v 0
   unfolding aroundOrigins originsLeft
   around-origins-left v h e = go ring refl
     where
@@ -111,7 +127,8 @@ module _ (l : Edge) (b : TileBounds) (ring : List Coord) (os : List ℕ) where
           rw (← q, w)
 
   -- it ends where nothing is left
-  pub origins-walked : (v v′ : Bool) (d0 : List ℕ) (i k : ℕ) (d : List ℕ) → aroundOrigins l b ring os ≡ originsLeft l b ring os v 0 → SameOrigins l b ring os v 0 0 d0 v′ i k d
+  pub origins-walked : (v v′ : Bool) (d0 : List ℕ) (i k : ℕ) (d : List ℕ) → aroundOrigins l b ring os ≡ originsLeft l b ring os v 0
+      → SameOrigins l b ring os v 0 0 d0 v′ i k d
       → length ring ≤ i → k ≡ length (around l b ring) → length (around l b ring) ≤ length d0 → d ≡ aroundOrigins l b ring os ++ drop k d0
   origins-walked v v′ d0 i k d q o h c room =
       let A = aroundOrigins l b ring os in
@@ -137,10 +154,12 @@ module _ (l : Edge) (b : TileBounds) (s : List Float) (m : ℕ) (fits : 2 * m �
     the-vertex : coordAt s i ≡ getD (coords (take (2 * m) s)) i noVertex
     the-vertex = sym (front-at s m i noVertex fits h)
 
-    pub out-out-origin : inside l b (coordAt s i) ≡ false → (os : List ℕ) → originsLeft l b (coords (take (2 * m) s)) os false i ≡ originsLeft l b (coords (take (2 * m) s)) os false (i + 1)
+    pub out-out-origin : inside l b (coordAt s i) ≡ false → (os : List ℕ)
+        → originsLeft l b (coords (take (2 * m) s)) os false i ≡ originsLeft l b (coords (take (2 * m) s)) os false (i + 1)
     out-out-origin f os = origins-left-step l b (coords (take (2 * m) s)) os false false i (coordAt s i) in-ring the-vertex f
 
-    pub in-in-origin : inside l b (coordAt s i) ≡ true → (i₀ : ℕ) → i₀ ≤ i → CopiedOrigins l b (coords (take (2 * m) s)) i₀ i → CopiedOrigins l b (coords (take (2 * m) s)) i₀ (i + 1)
+    pub in-in-origin : inside l b (coordAt s i) ≡ true → (i₀ : ℕ) → i₀ ≤ i → CopiedOrigins l b (coords (take (2 * m) s)) i₀ i
+        → CopiedOrigins l b (coords (take (2 * m) s)) i₀ (i + 1)
     in-in-origin f i₀ k g os n =
         let D = drop i₀ os in
         let j = i - i₀ in
@@ -152,19 +171,24 @@ module _ (l : Edge) (b : TileBounds) (s : List Float) (m : ℕ) (fits : 2 * m �
         let z = origins-left-step l b (coords (take (2 * m) s)) os true true i (coordAt s i) in-ring the-vertex f in
         g os (omega arith) ∙ rw (z, t, append-assoc)
 
-    pub in-out-origin : inside l b (coordAt s i) ≡ false → (os : List ℕ) (o k : ℕ) (d d′ : List ℕ) → o ≡ lineOrigin l → d′ ≡ sets d k (o ∷ []) → SameOrigins l b (coords (take (2 * m) s)) os true i k d false (i + 1) (k + 1) d′
-    in-out-origin f os o k d d′ ho hd = origins-step l b (coords (take (2 * m) s)) os true false i (coordAt s i) in-ring the-vertex f k d (k + 1) d′ refl (hd ∙ rw ho)
+    pub in-out-origin : inside l b (coordAt s i) ≡ false → (os : List ℕ) (o k : ℕ) (d d′ : List ℕ) → o ≡ lineOrigin l
+        → d′ ≡ sets d k (o ∷ []) → SameOrigins l b (coords (take (2 * m) s)) os true i k d false (i + 1) (k + 1) d′
+    in-out-origin f os o k d d′ ho hd = origins-step l b (coords (take (2 * m) s)) os true false i (coordAt s i) in-ring the-vertex f k d
+        (k + 1) d′ refl (hd ∙ rw ho)
 
-    pub out-in-origin : inside l b (coordAt s i) ≡ true → (os : List ℕ) (o k : ℕ) (d d₁ d₂ : List ℕ) → o ≡ lineOrigin l → d₁ ≡ sets d k (o ∷ []) → d₂ ≡ sets d₁ (k + 1) (getD os i 0 ∷ [])
+    pub out-in-origin : inside l b (coordAt s i) ≡ true → (os : List ℕ) (o k : ℕ) (d d₁ d₂ : List ℕ) → o ≡ lineOrigin l
+        → d₁ ≡ sets d k (o ∷ []) → d₂ ≡ sets d₁ (k + 1) (getD os i 0 ∷ [])
         → SameOrigins l b (coords (take (2 * m) s)) os false i k d true (i + 1) (k + 2) d₂
     out-in-origin f os o k d d₁ d₂ ho h₁ h₂ =
-        origins-step l b (coords (take (2 * m) s)) os false true i (coordAt s i) in-ring the-vertex f k d (k + 2) d₂ refl (h₂ ∙ rw (h₁, ho, add-one))
+        origins-step l b (coords (take (2 * m) s)) os false true i (coordAt s i) in-ring the-vertex f k d (k + 2) d₂ refl (h₂ ∙ rw
+        (h₁, ho, add-one))
 
 pub copied-none : (l : Edge) (b : TileBounds) (ring : List Coord) (i : ℕ) → CopiedOrigins l b ring i i
 copied-none l b ring i os n = let e : i - i ≡ 0 = omega arith in rw e
 
 -- a run of vertices that are in, and their origins copied
-pub origins-copied : (l : Edge) (b : TileBounds) (ring : List Coord) (os : List ℕ) (i j k k′ : ℕ) (d d′ : List ℕ) → CopiedOrigins l b ring i j → i ≤ j → j ≤ length os → k′ + i ≡ k + j
+pub origins-copied : (l : Edge) (b : TileBounds) (ring : List Coord) (os : List ℕ) (i j k k′ : ℕ) (d d′ : List ℕ)
+    → CopiedOrigins l b ring i j → i ≤ j → j ≤ length os → k′ + i ≡ k + j
     → d′ ≡ sets d k (take (j - i) (drop i os)) → SameOrigins l b ring os true i k d true j k′ d′
 origins-copied l b ring os i j k k′ d d′ g h n e hd =
     let run = take (j - i) (drop i os) in
@@ -173,7 +197,8 @@ origins-copied l b ring os i j k k′ d d′ g h n e hd =
     rw (g os n, m, hd) (sets-append d k run (originsLeft l b ring os true j))
 
 -- one more origin of a run
-pub copied-more : (from to : List ℕ) (i len k : ℕ) → i + k < length from → set (sets to len (take k (drop i from))) (len + k) (getD from (i + k) 0) ≡ sets to len (take (k + 1) (drop i from))
+pub copied-more : (from to : List ℕ) (i len k : ℕ) → i + k < length from
+    → set (sets to len (take k (drop i from))) (len + k) (getD from (i + k) 0) ≡ sets to len (take (k + 1) (drop i from))
 copied-more from to i len k h =
     let D = drop i from in
     let n : k < length D = omega (arith, length-drop i from) in

@@ -14,8 +14,10 @@ use Rattle.sutherland_hodgman.proofs.enter.Statement.{statement}
 use Rattle.sutherland_hodgman.proofs.enter.Tie as tie
 
 -- where the line is crossed there is room for two more vertices and their origins
-room : (c : tie.Else1) → (2 * (c .before .before .skip-outside .result .len + 2) ≤ length (now (c .before .before .before .before .before .before .before .args .out)))
-    × (c .before .before .skip-outside .result .len + 2 ≤ length (now (c .before .before .before .before .before .before .before .args .out-origins)))
+room : (c : tie.Else1) → (2 * (c .before .before .skip-outside .result .len + 2) ≤ length (now
+    (c .before .before .before .before .before .before .before .args .out)))
+    × (c .before .before .skip-outside .result .len + 2 ≤ length (now (c .before .before .before .before .before .before .before .args
+    .out-origins)))
     × (c .before .before .skip-outside .result .len + 2 < 2 ^ 63) × (2 * (c .before .before .skip-outside .result .i + 1) < 2 ^ 63)
 room c =
     let a = c .before .before .before .before .before .before .before in
@@ -68,25 +70,49 @@ line-origin-requires : tie.Need-line-origin-requires
 line-origin-requires c κs = search needs
 
 put-with-origin-requires : tie.Need-put-with-origin-requires
-put-with-origin-requires c κs = let r = room (c .before .before .before .before .before .before) in (omega (arith, r .0), omega (arith, r .1))
+put-with-origin-requires c κs = let r = room (c .before .before .before .before .before .before) in (
+  omega (arith, r .0),
+  omega
+      (arith, r .1),
+)
 
 add-put-with-origin : tie.Need-add-put-with-origin
-add-put-with-origin c = fits-under _ _ (2 ^ 63) (omega (arith, room (c .before .before .before .before .before .before .before .before .before .before .before .before .before .before) .2)) tt
+add-put-with-origin c = fits-under _ _ (2 ^ 63) (omega (
+  arith,
+  room (c .before .before .before .before .before .before .before .before
+      .before .before .before .before .before .before) .2,
+)) tt
 
 mul-put-with-origin : tie.Need-mul-put-with-origin
-mul-put-with-origin c = fits-under _ _ (2 ^ 63) (omega (arith, room (c .before .before .before .before .before .before .before .before .before .before .before .before .before .before) .3)) tt
+mul-put-with-origin c = fits-under _ _ (2 ^ 63) (omega (
+  arith,
+  room (c .before .before .before .before .before .before .before .before
+      .before .before .before .before .before .before) .3,
+)) tt
 
 shared-slice-read-put-with-origin : tie.Need-shared-slice-read-put-with-origin
-shared-slice-read-put-with-origin c = omega (arith, c .before .before .before .before .before .before .before .before .before .before .before .before .before .before .before .if1 .left, c .before .before .before .before .before .before .before .before .before .before .before .before .before .before .before .before .before .before .before .before .before .before .pre .1 .0)
+shared-slice-read-put-with-origin c = omega (
+  arith,
+  c .before .before .before .before .before .before .before .before .before .before
+      .before .before .before .before .before .if1 .left,
+  c .before .before .before .before .before .before .before .before .before .before
+      .before .before .before .before .before .before .before .before .before .before .before .before .pre .1 .0,
+)
 
 put-with-origin-requires-2 : tie.Need-put-with-origin-requires-2
-put-with-origin-requires-2 c κs = let r = room (c .before .before .before .before .before .before .before .before .before .before .before .before .before .before .before) in (omega (arith, r .0), omega (arith, r .1))
+put-with-origin-requires-2 c κs = let r = room (c .before .before .before .before .before .before .before .before .before .before .before
+    .before .before .before .before) in (omega (arith, r .0), omega (arith, r .1))
 
 add-t25 : tie.Need-add-t25
-add-t25 c = fits-under _ _ (2 ^ 63) (omega (arith, room (c .before .before .before .before .before .before .before .before .before .before .before .before .before .before .before .before .before .before .before .before .before) .3)) tt
+add-t25 c = fits-under _ _ (2 ^ 63) (omega (
+  arith,
+  room (c .before .before .before .before .before .before .before .before .before .before
+      .before .before .before .before .before .before .before .before .before .before .before) .3,
+)) tt
 
 add-t26 : tie.Need-add-t26
-add-t26 c = fits-under _ _ (2 ^ 63) (room (c .before .before .before .before .before .before .before .before .before .before .before .before .before .before .before .before .before .before .before .before .before .before) .2) tt
+add-t26 c = fits-under _ _ (2 ^ 63) (room (c .before .before .before .before .before .before .before .before .before .before .before
+    .before .before .before .before .before .before .before .before .before .before .before) .2) tt
 
 same-length : tie.Need-same-length
 same-length c = search needs
@@ -96,28 +122,39 @@ same-length-2 c = search needs
 
 returns-2 : tie.Need-returns-2
 returns-2 c =
-    let a = c .before .before .before .before .before .before .before .before .before .before .before .before .before .before .before .before .before .before .before .before .before .before .before .before .before .before .before .before .before in
+    let a = c .before .before .before .before .before .before .before .before .before .before .before .before .before .before .before
+    .before .before .before .before .before .before .before .before .before .before .before .before .before .before in
     let s = now (a .args .ring) in
     let m = a .args .m in
     let os = now (a .args .origins) in
-    let next = c .before .before .before .before .before .before .before .before .before .before .before .before .before .before .before .before .before .before .before .before .before .before .before .before .skip-outside .result in
-    let e = c .before .before .before .before .before .before .before .before .before .before .before .before .before .before .before .before .before .before .before .before .before .before .before .before .skip-outside .ensures in
-    let h = c .before .before .before .before .before .before .before .before .before .before .before .before .before .before .before .before .before .before .before .before .before .before .if1 .left in
-    let p = c .before .before .before .before .before .before .before .before .before .before .before .before .before .before .before .put-with-origin .ensures in
+    let next = c .before .before .before .before .before .before .before .before .before .before .before .before .before .before .before
+    .before .before .before .before .before .before .before .before .before .skip-outside .result in
+    let e = c .before .before .before .before .before .before .before .before .before .before .before .before .before .before .before
+    .before .before .before .before .before .before .before .before .before .skip-outside .ensures in
+    let h = c .before .before .before .before .before .before .before .before .before .before .before .before .before .before .before
+    .before .before .before .before .before .before .before .if1 .left in
+    let p = c .before .before .before .before .before .before .before .before .before .before .before .before .before .before .before
+    .put-with-origin .ensures in
     let q = c .before .before .before .before .before .before .put-with-origin2 .ensures in (
       (
         search needs,
         search needs,
         rest-then (a .args .edge) (a .args .bounds) (coords (take (2 * m) s))
             (rest-skip (a .args .edge) (a .args .bounds) (coords (take (2 * m) s)) _ _ _ _ _ (e .0 .3) (e .0 .4))
-            (out-in (a .args .edge) (a .args .bounds) s m (a .pre .0 .0) (next .i) h _ _ _ (c .before .before .before .before .before .before .before .before .before .before .before .before .before .before .before .before .before .before .before .before .before .previous .ensures)
-            (c .before .before .before .before .before .before .before .before .before .before .before .before .before .before .before .before .before .before .before .before .coord-at .ensures) (c .before .before .before .before .before .before .before .before .before .before .before .before .before .before .before .before .before .intersect .ensures) (e .0 .2 h) (next .len) (now (a .args .out)) _ _ (p .0) (q .0)),
+            (out-in (a .args .edge) (a .args .bounds) s m (a .pre .0 .0) (next .i) h _ _ _
+            (c .before .before .before .before .before .before .before .before .before .before .before .before .before .before .before
+            .before .before .before .before .before .before .previous .ensures)
+            (c .before .before .before .before .before .before .before .before .before .before .before .before .before .before .before
+            .before .before .before .before .before .coord-at .ensures)
+            (c .before .before .before .before .before .before .before .before .before .before .before .before .before .before .before
+            .before .before .intersect .ensures) (e .0 .2 h) (next .len) (now (a .args .out)) _ _ (p .0) (q .0)),
       ),
       (
         omega (arith, e .1 .0 .at-vertex h),
         origins-skip (a .args .edge) (a .args .bounds) (coords (take (2 * m) s)) os _ _ _ _ _ (e .1 .1 os) (e .0 .4)
             ∙ out-in-origin (a .args .edge) (a .args .bounds) s m (a .pre .0 .0) (next .i) h (e .0 .2 h) os _ (next .len)
-            (now (a .args .out-origins)) _ _ (c .before .before .before .before .before .before .before .before .before .before .before .before .before .before .before .before .line-origin .ensures) (p .1) (q .1),
+            (now (a .args .out-origins)) _ _ (c .before .before .before .before .before .before .before .before .before .before .before
+            .before .before .before .before .before .line-origin .ensures) (p .1) (q .1),
       ),
     )
 

@@ -17,7 +17,11 @@ returns c =
 
 close-with-origins-requires : tie.Need-close-with-origins-requires
 close-with-origins-requires c κs =
-    let a = c .before .before .before .before .before in (a .pre .0 .1 (c .before .before .if1 .left), a .pre .1 .1 (c .before .before .if1 .left))
+    let a = c .before .before .before .before .before in (
+      a .pre .0 .1 (c .before .before .if1 .left),
+      a .pre .1 .1
+          (c .before .before .if1 .left),
+    )
 
 same-length : tie.Need-same-length
 same-length c = search needs

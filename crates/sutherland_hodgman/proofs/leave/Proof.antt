@@ -14,10 +14,16 @@ use Rattle.sutherland_hodgman.proofs.leave.Statement.{statement}
 use Rattle.sutherland_hodgman.proofs.leave.Tie as tie
 
 -- where the line is crossed: the room for one more
-room : (c : tie.Else1) → (2 * (c .before .before .before .before .before .before .before .before .before .before .copy-inside .result .len + 1) ≤ length (now (c .before .before .before .before .before .before .before .before .before .before .before .before .before .before .before .before .args .out))) × (c .before .before .before .before .before .before .before .before .before .before .copy-inside .result .len + 1 ≤ length (now (c .before .before .before .before .before .before .before .before .before .before .before .before .before .before .before .before .args .out-origins)))
-    × (c .before .before .before .before .before .before .before .before .before .before .copy-inside .result .len + 1 < 2 ^ 63) × (c .before .before .before .before .before .before .before .before .before .before .copy-inside .result .i + 1 < 2 ^ 63)
+room : (c : tie.Else1) → (2 * (c .before .before .before .before .before .before .before .before .before .before .copy-inside .result .len
+    + 1) ≤ length (now (c .before .before .before .before .before .before .before .before .before .before .before .before .before .before
+    .before .before .args .out))) × (c .before .before .before .before .before .before .before .before .before .before .copy-inside .result
+    .len + 1 ≤ length (now (c .before .before .before .before .before .before .before .before .before .before .before .before .before
+    .before .before .before .args .out-origins)))
+    × (c .before .before .before .before .before .before .before .before .before .before .copy-inside .result .len + 1 < 2 ^ 63) ×
+    (c .before .before .before .before .before .before .before .before .before .before .copy-inside .result .i + 1 < 2 ^ 63)
 room c =
-    let a = c .before .before .before .before .before .before .before .before .before .before .before .before .before .before .before .before in
+    let a = c .before .before .before .before .before .before .before .before .before .before .before .before .before .before .before
+    .before in
     let s = now (a .args .ring) in
     let m = a .args .m in
     let to = c .before .before .before .before .before .before .before .before .before .before .copy-inside .result in
@@ -51,17 +57,21 @@ same-length-2 c = search needs
 
 returns : tie.Need-returns
 returns c =
-    let a = c .before .before .before .before .before .before .before .before .before .before .before .before .before .before .before .before in
+    let a = c .before .before .before .before .before .before .before .before .before .before .before .before .before .before .before
+    .before in
     let s = now (a .args .ring) in
     let m = a .args .m in
     let os = now (a .args .origins) in
     let e = c .before .before .before .before .before .before .before .before .before .before .copy-inside .ensures in
     let p = past-end s m (a .pre .0 .0) _ (c .if1 .taken) in
-    let g = origins-copied (a .args .edge) (a .args .bounds) (coords (take (2 * m) s)) os _ _ _ _ (now (a .args .out-origins)) _ (e .1 .1 .1) (e .0 .0) (omega (arith, e .0 .1, a .pre .1 .0)) (e .1 .1 .0) (c .before .before .before .before .copy-origins .ensures) in (
+    let g = origins-copied (a .args .edge) (a .args .bounds) (coords (take (2 * m) s)) os _ _ _ _ (now (a .args .out-origins)) _
+    (e .1 .1 .1) (e .0 .0) (omega (arith, e .0 .1, a .pre .1 .0)) (e .1 .1 .0)
+    (c .before .before .before .before .copy-origins .ensures) in (
       (
         search needs,
         search needs,
-        rest-then (a .args .edge) (a .args .bounds) (coords (take (2 * m) s)) (e .0 .3) (rest-end (a .args .edge) (a .args .bounds) (coords (take (2 * m) s)) true false _ _ _ p),
+        rest-then (a .args .edge) (a .args .bounds) (coords (take (2 * m) s)) (e .0 .3) (rest-end (a .args .edge) (a .args .bounds)
+            (coords (take (2 * m) s)) true false _ _ _ p),
       ),
       (e .1 .0 .at-end (c .if1 .taken), g ∙ origins-end (a .args .edge) (a .args .bounds) (coords (take (2 * m) s)) os true false _ _ _ p),
     )
@@ -70,7 +80,12 @@ previous-requires : tie.Need-previous-requires
 previous-requires c κs = search needs
 
 coord-at-requires : tie.Need-coord-at-requires
-coord-at-requires c κs = omega (arith, c .before .if1 .left, c .before .before .before .before .before .before .before .before .before .before .before .before .before .before .before .before .before .pre .0 .0)
+coord-at-requires c κs = omega (
+  arith,
+  c .before .if1 .left,
+  c .before .before .before .before .before .before .before .before .before
+      .before .before .before .before .before .before .before .before .pre .0 .0,
+)
 
 intersect-requires : tie.Need-intersect-requires
 intersect-requires c κs = search needs
@@ -80,8 +95,15 @@ line-origin-requires c κs = search needs
 
 put-with-origin-requires : tie.Need-put-with-origin-requires
 put-with-origin-requires c κs =
-    let r = room (c .before .before .before .before .before .before) in
-    (omega (arith, r .0), omega (arith, r .1, c .before .before .before .before .before .before .before .before .before .before .copy-origins .kept))
+    let r = room (c .before .before .before .before .before .before) in (
+      omega (arith, r .0),
+      omega (
+        arith,
+        r .1,
+        c .before .before .before .before .before .before .before .before .before .before
+            .copy-origins .kept,
+      ),
+    )
 
 add-t17 : tie.Need-add-t17
 add-t17 c =
@@ -89,34 +111,56 @@ add-t17 c =
 
 add-t25 : tie.Need-add-t25
 add-t25 c =
-    fits-under _ _ (2 ^ 63) (room (c .before .before .before .before .before .before .before .before .before .before .before .before .before) .2) tt
+    fits-under _ _ (2 ^ 63) (room (c .before .before .before .before .before .before .before .before .before .before .before .before
+    .before) .2) tt
 
 same-length-3 : tie.Need-same-length-3
-same-length-3 c = omega (arith, c .before .before .before .before .before .before .before .before .before .before .before .before .before .before .before .before .before .before .before .before .before .before .before .copy-inside .kept, c .before .before .before .before .before .before .put-with-origin .kept)
+same-length-3 c = omega (
+  arith,
+  c .before .before .before .before .before .before .before .before .before .before .before .before .before
+      .before .before .before .before .before .before .before .before .before .before .copy-inside .kept,
+  c .before .before .before .before
+      .before .before .put-with-origin .kept,
+)
 
 same-length-4 : tie.Need-same-length-4
-same-length-4 c = omega (arith, c .before .before .before .before .before .before .before .before .before .before .before .before .before .before .before .before .before .copy-origins .kept, c .before .before .before .before .before .before .put-with-origin .kept)
+same-length-4 c = omega (
+  arith,
+  c .before .before .before .before .before .before .before .before .before .before .before .before .before
+      .before .before .before .before .copy-origins .kept,
+  c .before .before .before .before .before .before .put-with-origin .kept,
+)
 
 returns-2 : tie.Need-returns-2
 returns-2 c =
-    let a = c .before .before .before .before .before .before .before .before .before .before .before .before .before .before .before .before .before .before .before .before .before .before .before .before .before .before .before .before .before in
+    let a = c .before .before .before .before .before .before .before .before .before .before .before .before .before .before .before
+    .before .before .before .before .before .before .before .before .before .before .before .before .before .before in
     let s = now (a .args .ring) in
     let m = a .args .m in
     let os = now (a .args .origins) in
-    let to = c .before .before .before .before .before .before .before .before .before .before .before .before .before .before .before .before .before .before .before .before .before .before .before .copy-inside .result in
-    let e = c .before .before .before .before .before .before .before .before .before .before .before .before .before .before .before .before .before .before .before .before .before .before .before .copy-inside .ensures in
+    let to = c .before .before .before .before .before .before .before .before .before .before .before .before .before .before .before
+    .before .before .before .before .before .before .before .before .copy-inside .result in
+    let e = c .before .before .before .before .before .before .before .before .before .before .before .before .before .before .before
+    .before .before .before .before .before .before .before .before .copy-inside .ensures in
     let h = c .before .before .before .before .before .before .before .before .before .before .before .before .before .if1 .left in
-    let g = origins-copied (a .args .edge) (a .args .bounds) (coords (take (2 * m) s)) os _ _ _ _ (now (a .args .out-origins)) _ (e .1 .1 .1) (e .0 .0) (omega (arith, e .0 .1, a .pre .1 .0)) (e .1 .1 .0) (c .before .before .before .before .before .before .before .before .before .before .before .before .before .before .before .before .before .copy-origins .ensures) in
+    let g = origins-copied (a .args .edge) (a .args .bounds) (coords (take (2 * m) s)) os _ _ _ _ (now (a .args .out-origins)) _
+    (e .1 .1 .1) (e .0 .0) (omega (arith, e .0 .1, a .pre .1 .0)) (e .1 .1 .0)
+    (c .before .before .before .before .before .before .before .before .before .before .before .before .before .before .before .before
+    .before .copy-origins .ensures) in
     let p = c .before .before .before .before .before .before .put-with-origin .ensures in (
       (
         search needs,
         search needs,
         rest-then (a .args .edge) (a .args .bounds) (coords (take (2 * m) s)) (e .0 .3)
-            (in-out (a .args .edge) (a .args .bounds) s m (a .pre .0 .0) (to .i) h _ _ _ (c .before .before .before .before .before .before .before .before .before .before .before .before .previous .ensures) (c .before .before .before .before .before .before .before .before .before .before .before .coord-at .ensures) (c .before .before .before .before .before .before .before .before .intersect .ensures) (e .0 .2 h) (to .len) _ _ (p .0)),
+            (in-out (a .args .edge) (a .args .bounds) s m (a .pre .0 .0) (to .i) h _ _ _
+            (c .before .before .before .before .before .before .before .before .before .before .before .before .previous .ensures)
+            (c .before .before .before .before .before .before .before .before .before .before .before .coord-at .ensures)
+            (c .before .before .before .before .before .before .before .before .intersect .ensures) (e .0 .2 h) (to .len) _ _ (p .0)),
       ),
       (
         omega (arith, e .1 .0 .at-vertex h),
-        g ∙ in-out-origin (a .args .edge) (a .args .bounds) s m (a .pre .0 .0) (to .i) h (e .0 .2 h) os _ (to .len) _ _ (c .before .before .before .before .before .before .before .line-origin .ensures) (p .1),
+        g ∙ in-out-origin (a .args .edge) (a .args .bounds) s m (a .pre .0 .0) (to .i) h (e .0 .2 h) os _ (to .len) _ _
+            (c .before .before .before .before .before .before .before .line-origin .ensures) (p .1),
       ),
     )
 

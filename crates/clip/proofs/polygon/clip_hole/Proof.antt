@@ -35,17 +35,22 @@ same-length-4 c = search needs
 returns : tie.Need-returns
 unfolding cutHole holeOrigins flat
 returns c =
-    let a = c .before .before .before .before .before .before .before .before .before .before .before .before .before .before .before .before .before .before .before in
-    let e = cut-count (a .args .n) (now (a .args .ring)) _ _ (a .pre .0) (a .args .bounds) _ _ (c .before .before .before .before .before .before .before .before .before .clip-ring .ensures .0) in
-    let t = lt-ltb (c .before .before .before .before .before .before .before .before .before .clip-ring .result) 4 (omega (arith, c .if1 .taken)) in
+    let a = c .before .before .before .before .before .before .before .before .before .before .before .before .before .before .before
+    .before .before .before .before in
+    let e = cut-count (a .args .n) (now (a .args .ring)) _ _ (a .pre .0) (a .args .bounds) _ _
+    (c .before .before .before .before .before .before .before .before .before .clip-ring .ensures .0) in
+    let t = lt-ltb (c .before .before .before .before .before .before .before .before .before .clip-ring .result) 4 (omega
+    (arith, c .if1 .taken)) in
     (record { count = rw (← e, t); numbers = rw (← e, t) refl }, rw (← e, t))
 
 close-with-origins-requires : tie.Need-close-with-origins-requires
 close-with-origins-requires c κs =
-    let a = c .before .before .before .before .before .before .before .before .before .before .before .before .before .before .before .before .before .before .before .before .before in
+    let a = c .before .before .before .before .before .before .before .before .before .before .before .before .before .before .before
+    .before .before .before .before .before .before in
     let k = c .before .before .before .before .before .before .before .before .before .before .before .clip-ring .kept in
     let f = cut-fits (a .args .n) (now (a .args .ring)) _ _ (a .pre .0) (a .args .bounds) _ _
-    (c .before .before .before .before .before .before .before .before .before .before .before .clip-ring .ensures .0) (omega (arith, c .before .before .if1 .left)) in
+    (c .before .before .before .before .before .before .before .before .before .before .before .clip-ring .ensures .0) (omega
+    (arith, c .before .before .if1 .left)) in
     (omega (arith, k, f, a .pre .0 .output-room), omega (arith, k, f, a .pre .1 .output-room))
 
 same-length-5 : tie.Need-same-length-5
@@ -63,9 +68,11 @@ same-length-8 c = search needs
 returns-2 : tie.Need-returns-2
 unfolding cutHole holeOrigins
 returns-2 c =
-    let a = c .before .before .before .before .before .before .before .before .before .before .before .before .before .before .before .before .before .before .before .before .before .before .before .before .before .before in
+    let a = c .before .before .before .before .before .before .before .before .before .before .before .before .before .before .before
+    .before .before .before .before .before .before .before .before .before .before .before in
     let s = now (a .args .ring) in
-    let cut = c .before .before .before .before .before .before .before .before .before .before .before .before .before .before .before .before .clip-ring .ensures in
+    let cut = c .before .before .before .before .before .before .before .before .before .before .before .before .before .before .before
+    .before .clip-ring .ensures in
     let closed = c .before .before .before .before .close-with-origins .ensures in
     let e = cut-count (a .args .n) s _ _ (a .pre .0) (a .args .bounds) _ _ (cut .0) in
     let t = le-ltb _ _ (c .before .before .before .before .before .before .before .if1 .left) in (

@@ -37,25 +37,33 @@ same-length-4 c = search needs
 returns : tie.Need-returns
 unfolding routeCut
 returns c =
-    let a = c .before .before .before .before .before .before .before .before .before .before .before .before .before .before .before .before .before .before .before .before in
-    let e = cut-count (a .args .n) (now (a .args .ring)) _ _ (a .pre .0 .room) (a .args .bounds) _ _ (c .before .before .before .before .before .before .before .before .before .clip-ring .ensures .0) in
+    let a = c .before .before .before .before .before .before .before .before .before .before .before .before .before .before .before
+    .before .before .before .before .before in
+    let e = cut-count (a .args .n) (now (a .args .ring)) _ _ (a .pre .0 .room) (a .args .bounds) _ _
+    (c .before .before .before .before .before .before .before .before .before .clip-ring .ensures .0) in
     (rw (← e, c .if1 .taken), (tt, tt))
 
 close-with-origins-requires : tie.Need-close-with-origins-requires
 close-with-origins-requires c κs =
-    let a = c .before .before .before .before .before .before .before .before .before .before .before .before .before .before .before .before .before .before .before .before .before .before in
+    let a = c .before .before .before .before .before .before .before .before .before .before .before .before .before .before .before
+    .before .before .before .before .before .before .before in
     let k = c .before .before .before .before .before .before .before .before .before .before .before .clip-ring .kept in
     let f = cut-fits (a .args .n) (now (a .args .ring)) _ _ (a .pre .0 .room) (a .args .bounds) _ _
-    (c .before .before .before .before .before .before .before .before .before .before .before .clip-ring .ensures .0) (omega (arith, c .before .before .if1 .left)) in
+    (c .before .before .before .before .before .before .before .before .before .before .before .clip-ring .ensures .0) (omega
+    (arith, c .before .before .if1 .left)) in
     (omega (arith, k, f, a .pre .0 .room .output-room), omega (arith, k, f, a .pre .1 .output-room))
 
 find-issue-requires : tie.Need-find-issue-requires
 find-issue-requires c κs =
-    let a = c .before .before .before .before .before .before .before .before .before .before .before .before .before .before .before .before .before .before .before .before .before .before .before .before .before .before .before .before .before .before in
-    let k = c .before .before .before .before .before .before .before .before .before .before .before .before .before .before .before .before .before .before .before .clip-ring .kept in
+    let a = c .before .before .before .before .before .before .before .before .before .before .before .before .before .before .before
+    .before .before .before .before .before .before .before .before .before .before .before .before .before .before .before in
+    let k = c .before .before .before .before .before .before .before .before .before .before .before .before .before .before .before
+    .before .before .before .before .clip-ring .kept in
     let l = c .before .before .before .before .before .before .before .close-with-origins .kept in
     let f = closed-fits (a .args .n) (now (a .args .ring)) _ _ (a .pre .0 .room) (a .args .bounds) _ _
-    (c .before .before .before .before .before .before .before .before .before .before .before .before .before .before .before .before .before .before .before .clip-ring .ensures .0) _ _ (c .before .before .before .before .before .before .before .close-with-origins .ensures .0) (omega (arith, c .before .before .before .before .before .before .before .before .before .before .if1 .left)) in
+    (c .before .before .before .before .before .before .before .before .before .before .before .before .before .before .before .before
+    .before .before .before .clip-ring .ensures .0) _ _ (c .before .before .before .before .before .before .before .close-with-origins
+    .ensures .0) (omega (arith, c .before .before .before .before .before .before .before .before .before .before .if1 .left)) in
     record {
       ring-room = omega (arith, k, l, f, a .pre .0 .room .output-room);
       work-room = omega (arith, k, f, a .pre .0 .room .scratch-room);
@@ -65,11 +73,22 @@ find-issue-requires c κs =
 
 judge-cut-requires : tie.Need-judge-cut-requires
 judge-cut-requires c κs =
-    let a = c .before .before .before .before .before .before .before .before .before .before .before .before .before .before .before .before .before .before .before .before .before .before .before .before .before .before .before .before .before .before .before .before .before .before .before .before in
-    let k = c .before .before .before .before .before .before .before .before .before .before .before .before .before .before .before .before .before .before .before .before .before .before .before .before .before .clip-ring .kept in
-    let l = c .before .before .before .before .before .before .before .before .before .before .before .before .before .close-with-origins .kept in
+    let a = c .before .before .before .before .before .before .before .before .before .before .before .before .before .before .before
+    .before .before .before .before .before .before .before .before .before .before .before .before .before .before .before .before
+    .before .before .before .before .before in
+    let k = c .before .before .before .before .before .before .before .before .before .before .before .before .before .before .before
+    .before .before .before .before .before .before .before .before .before .before .clip-ring .kept in
+    let l = c .before .before .before .before .before .before .before .before .before .before .before .before .before .close-with-origins
+    .kept in
     let f = closed-fits (a .args .n) (now (a .args .ring)) _ _ (a .pre .0 .room) (a .args .bounds) _ _
-    (c .before .before .before .before .before .before .before .before .before .before .before .before .before .before .before .before .before .before .before .before .before .before .before .before .before .clip-ring .ensures .0) _ _ (c .before .before .before .before .before .before .before .before .before .before .before .before .before .close-with-origins .ensures .0) (omega (arith, c .before .before .before .before .before .before .before .before .before .before .before .before .before .before .before .before .if1 .left)) in
+    (c .before .before .before .before .before .before .before .before .before .before .before .before .before .before .before .before
+    .before .before .before .before .before .before .before .before .before .clip-ring .ensures .0) _ _
+    (c .before .before .before .before .before .before .before .before .before .before .before .before .before .close-with-origins
+    .ensures .0) (omega (
+      arith,
+      c .before .before .before .before .before .before .before .before .before .before .before .before
+          .before .before .before .before .if1 .left,
+    )) in
     omega (arith, k, l, f, a .pre .0 .room .output-room)
 
 same-length-5 : tie.Need-same-length-5
@@ -89,12 +108,17 @@ same-length-9 c = search needs
 
 returns-2 : tie.Need-returns-2
 returns-2 c =
-    let a = c .before .before .before .before .before .before .before .before .before .before .before .before .before .before .before .before .before .before .before .before .before .before .before .before .before .before .before .before .before .before .before .before .before .before .before .before .before in
+    let a = c .before .before .before .before .before .before .before .before .before .before .before .before .before .before .before
+    .before .before .before .before .before .before .before .before .before .before .before .before .before .before .before .before
+    .before .before .before .before .before .before in
     let s = now (a .args .ring) in
-    let cut = c .before .before .before .before .before .before .before .before .before .before .before .before .before .before .before .before .before .before .before .before .before .before .before .before .before .before .clip-ring .ensures in
-    let h = pos-of-ne-zero (c .before .before .before .before .before .before .before .before .before .before .before .before .before .before .before .before .before .if1 .left) in
+    let cut = c .before .before .before .before .before .before .before .before .before .before .before .before .before .before .before
+    .before .before .before .before .before .before .before .before .before .before .before .clip-ring .ensures in
+    let h = pos-of-ne-zero (c .before .before .before .before .before .before .before .before .before .before .before .before .before
+    .before .before .before .before .if1 .left) in
     let ring = close (coords (take (2 * a .args .n) s)) in
-    let e = c .before .before .before .before .before .before .before .before .before .before .before .before .before .before .close-with-origins .ensures in
+    let e = c .before .before .before .before .before .before .before .before .before .before .before .before .before .before
+    .close-with-origins .ensures in
     let w = closed-written (a .args .n) s _ _ (a .pre .0 .room) (a .args .bounds) _ _ (cut .0) _ _ (e .0) in
     let is = c .judge-cut .ensures in (
       judged-route (a .args .flags) (a .args .bounds) ring _ _ _ _ is

@@ -33,7 +33,8 @@ unfolding routeExterior
 returns-2 c = (
   rw (
     ← c .before .before .before .before .before .before .before .before .before .before .before .before .before .intersects-bounds .ensures,
-    not-false (c .before .before .before .before .before .before .before .before .before .before .before .before .before .intersects-bounds .result) (c .before .before .before .before .before .before .before .before .before .before .before .before .if1 .left),
+    not-false (c .before .before .before .before .before .before .before .before .before .before .before .before .before .intersects-bounds
+        .result) (c .before .before .before .before .before .before .before .before .before .before .before .before .if1 .left),
     ← c .before .before .before .before .before .before .before .before .closed-issue .ensures,
     ← c .before .has-issue .ensures,
     c .if2 .taken,
@@ -57,8 +58,11 @@ returns-3 : tie.Need-returns-3
 unfolding routeExterior
 returns-3 c = (
   rw (
-    ← c .before .before .before .before .before .before .before .before .before .before .before .before .before .before .before .intersects-bounds .ensures,
-    not-false (c .before .before .before .before .before .before .before .before .before .before .before .before .before .before .before .intersects-bounds .result) (c .before .before .before .before .before .before .before .before .before .before .before .before .before .before .if1 .left),
+    ← c .before .before .before .before .before .before .before .before .before .before .before .before .before .before .before
+        .intersects-bounds .ensures,
+    not-false (c .before .before .before .before .before .before .before .before .before .before .before .before .before .before .before
+        .intersects-bounds .result) (c .before .before .before .before .before .before .before .before .before .before .before .before
+        .before .before .if1 .left),
     ← c .before .before .before .before .before .before .before .before .before .before .closed-issue .ensures,
     ← c .before .before .before .has-issue .ensures,
     c .before .before .if2 .left,
@@ -70,9 +74,11 @@ returns-3 c = (
 
 route-cut-requires : tie.Need-route-cut-requires
 route-cut-requires c κs =
-    let p = c .before .before .before .before .before .before .before .before .before .before .before .before .before .before .before .before .before .before .before .before .before .before .before .before .before .before .before .pre .0 in
+    let p = c .before .before .before .before .before .before .before .before .before .before .before .before .before .before .before
+    .before .before .before .before .before .before .before .before .before .before .before .before .pre .0 in
     let r = p .room in
-    let k = c .before .before .before .before .before .before .before .before .before .before .before .before .before .before .before .closed-issue .kept in (
+    let k = c .before .before .before .before .before .before .before .before .before .before .before .before .before .before .before
+    .closed-issue .kept in (
       record {
         room = record {
           lent = r .lent;
@@ -83,7 +89,8 @@ route-cut-requires c κs =
         };
         positions = omega (arith, k, p .positions);
       },
-      c .before .before .before .before .before .before .before .before .before .before .before .before .before .before .before .before .before .before .before .before .before .before .before .before .before .before .before .pre .1,
+      c .before .before .before .before .before .before .before .before .before .before .before .before .before .before .before .before
+          .before .before .before .before .before .before .before .before .before .before .before .pre .1,
     )
 
 same-length-7 : tie.Need-same-length-7
@@ -105,13 +112,24 @@ returns-4 : tie.Need-returns-4
 unfolding routeExterior
 returns-4 c = (
   rw (
-    ← c .before .before .before .before .before .before .before .before .before .before .before .before .before .before .before .before .before .before .before .before .before .before .before .before .before .before .before .before .before .before .before .intersects-bounds .ensures,
-    not-false (c .before .before .before .before .before .before .before .before .before .before .before .before .before .before .before .before .before .before .before .before .before .before .before .before .before .before .before .before .before .before .before .intersects-bounds .result) (c .before .before .before .before .before .before .before .before .before .before .before .before .before .before .before .before .before .before .before .before .before .before .before .before .before .before .before .before .before .before .if1 .left),
-    ← c .before .before .before .before .before .before .before .before .before .before .before .before .before .before .before .before .before .before .before .before .before .before .before .before .before .before .closed-issue .ensures,
-    ← c .before .before .before .before .before .before .before .before .before .before .before .before .before .before .before .before .before .before .before .has-issue .ensures,
-    c .before .before .before .before .before .before .before .before .before .before .before .before .before .before .before .before .before .before .if2 .left,
-    ← c .before .before .before .before .before .before .before .before .before .before .before .before .before .before .before .before .before .is-fully-inside .ensures,
-    c .before .before .before .before .before .before .before .before .before .before .before .before .before .before .before .before .if3 .left,
+    ← c .before .before .before .before .before .before .before .before .before .before .before .before .before .before .before .before
+        .before .before .before .before .before .before .before .before .before .before .before .before .before .before .before
+        .intersects-bounds .ensures,
+    not-false (c .before .before .before .before .before .before .before .before .before .before .before .before .before .before .before
+        .before .before .before .before .before .before .before .before .before .before .before .before .before .before .before .before
+        .intersects-bounds .result) (c .before .before .before .before .before .before .before .before .before .before .before .before
+        .before .before .before .before .before .before .before .before .before .before .before .before .before .before .before .before
+        .before .before .if1 .left),
+    ← c .before .before .before .before .before .before .before .before .before .before .before .before .before .before .before .before
+        .before .before .before .before .before .before .before .before .before .before .closed-issue .ensures,
+    ← c .before .before .before .before .before .before .before .before .before .before .before .before .before .before .before .before
+        .before .before .before .has-issue .ensures,
+    c .before .before .before .before .before .before .before .before .before .before .before .before .before .before .before .before
+        .before .before .if2 .left,
+    ← c .before .before .before .before .before .before .before .before .before .before .before .before .before .before .before .before
+        .before .is-fully-inside .ensures,
+    c .before .before .before .before .before .before .before .before .before .before .before .before .before .before .before .before .if3
+        .left,
   ) (c .before .before .before .before .before .before .before .before .before .before .route-cut .ensures .0),
   c .before .before .before .before .before .before .before .before .before .before .route-cut .ensures .1,
 )

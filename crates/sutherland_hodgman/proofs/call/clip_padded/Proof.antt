@@ -24,42 +24,68 @@ clip-three-edges-requires c κs = search needs
 
 clip-top-requires : tie.Need-clip-top-requires
 clip-top-requires c κs =
-    let a = c .before .before .before .before .before .before .before .before .before .before .before .before .before .before .before .before .before .before .before .before .before .before in
+    let a = c .before .before .before .before .before .before .before .before .before .before .before .before .before .before .before
+    .before .before .before .before .before .before .before in
     let p = a .pre .0 in
     let q = a .pre .1 in
     let s = now (a .args .ring) in
     let k = c .before .before .before .before .before .before .before .before .before .before .before .before .clip-three-edges .kept in
     let t = stage-three (a .args .bounds) (coords (take (2 * a .args .n) s)) (a .args .n) _ _
-    (length-front s (a .args .n) (p .vertices)) (c .before .before .before .before .before .before .before .before .before .before .before .before .clip-three-edges .ensures .0) in (
+    (length-front s (a .args .n) (p .vertices)) (c .before .before .before .before .before .before .before .before .before .before .before
+    .before .clip-three-edges .ensures .0) in (
       stage-last _ _ (omega (arith, p .scratch-room, k)) (omega (arith, p .output-room, k)) t,
       origins-last _ _ (omega (arith, q .scratch-room, k)) (omega (arith, q .output-room, k)) t,
     )
 
 -- what the two leave in the outputs is the cut with its origins, and the outputs are as long as they were
 record Done (c : tie.After-slice-known10) : Type 0 where
-  cut : RingCut (c .before .before .before .before .before .before .before .before .before .before .before .before .before .before .before .before .before .before .before .before .before .before .before .before .before .before .before .args .bounds) (coords (take (2 * c .before .before .before .before .before .before .before .before .before .before .before .before .before .before .before .before .before .before .before .before .before .before .before .before .before .before .before .args .n) (now (c .before .before .before .before .before .before .before .before .before .before .before .before .before .before .before .before .before .before .before .before .before .before .before .before .before .before .before .args .ring))))
+  cut : RingCut (c .before .before .before .before .before .before .before .before .before .before .before .before .before .before .before
+      .before .before .before .before .before .before .before .before .before .before .before .before .args .bounds) (coords (take
+      (2 * c .before .before .before .before .before .before .before .before .before .before .before .before .before .before .before
+      .before .before .before .before .before .before .before .before .before .before .before .before .args .n) (now
+      (c .before .before .before .before .before .before .before .before .before .before .before .before .before .before .before .before
+      .before .before .before .before .before .before .before .before .before .before .before .args .ring))))
       (c .before .before .before .before .clip-top .result) (c .before .before .before .before .clip-top .last .1 .1 .1 .1 .0)
   origins : take (c .before .before .before .before .clip-top .result) (c .before .before .before .before .clip-top .last .1 .1 .1 .1 .1 .0)
-      ≡ clipOrigins (c .before .before .before .before .before .before .before .before .before .before .before .before .before .before .before .before .before .before .before .before .before .before .before .before .before .before .before .args .bounds) (coords (take (2 * c .before .before .before .before .before .before .before .before .before .before .before .before .before .before .before .before .before .before .before .before .before .before .before .before .before .before .before .args .n) (now (c .before .before .before .before .before .before .before .before .before .before .before .before .before .before .before .before .before .before .before .before .before .before .before .before .before .before .before .args .ring))))
-  same : length (c .before .before .before .before .clip-top .last .1 .1 .1 .1 .0) ≡ length (now (c .before .before .before .before .before .before .before .before .before .before .before .before .before .before .before .before .before .before .before .before .before .before .before .before .before .before .before .args .out))
-  origins-same : length (c .before .before .before .before .clip-top .last .1 .1 .1 .1 .1 .0) ≡ length (now (c .before .before .before .before .before .before .before .before .before .before .before .before .before .before .before .before .before .before .before .before .before .before .before .before .before .before .before .args .out-origins))
-  within : c .before .before .before .before .clip-top .result ≤ B (c .before .before .before .before .before .before .before .before .before .before .before .before .before .before .before .before .before .before .before .before .before .before .before .before .before .before .before .args .n)
-  few : B (c .before .before .before .before .before .before .before .before .before .before .before .before .before .before .before .before .before .before .before .before .before .before .before .before .before .before .before .args .n) ≤ 8 * mostCoordinates
+      ≡ clipOrigins (c .before .before .before .before .before .before .before .before .before .before .before .before .before .before
+      .before .before .before .before .before .before .before .before .before .before .before .before .before .args .bounds) (coords
+      (take (2 * c .before .before .before .before .before .before .before .before .before .before .before .before .before .before
+      .before .before .before .before .before .before .before .before .before .before .before .before .before .args .n) (now
+      (c .before .before .before .before .before .before .before .before .before .before .before .before .before .before .before
+      .before .before .before .before .before .before .before .before .before .before .before .before .args .ring))))
+  same : length (c .before .before .before .before .clip-top .last .1 .1 .1 .1 .0) ≡ length (now
+      (c .before .before .before .before .before .before .before .before .before .before .before .before .before .before .before .before
+      .before .before .before .before .before .before .before .before .before .before .before .args .out))
+  origins-same : length (c .before .before .before .before .clip-top .last .1 .1 .1 .1 .1 .0) ≡ length (now
+      (c .before .before .before .before .before .before .before .before .before .before .before .before .before .before .before .before
+      .before .before .before .before .before .before .before .before .before .before .before .args .out-origins))
+  within : c .before .before .before .before .clip-top .result ≤ B (c .before .before .before .before .before .before .before .before
+      .before .before .before .before .before .before .before .before .before .before .before .before .before .before .before .before
+      .before .before .before .args .n)
+  few : B (c .before .before .before .before .before .before .before .before .before .before .before .before .before .before .before
+      .before .before .before .before .before .before .before .before .before .before .before .before .args .n) ≤ 8 * mostCoordinates
 
 done : (c : tie.After-slice-known10) → Done c
 done c =
-    let a = c .before .before .before .before .before .before .before .before .before .before .before .before .before .before .before .before .before .before .before .before .before .before .before .before .before .before .before in
+    let a = c .before .before .before .before .before .before .before .before .before .before .before .before .before .before .before
+    .before .before .before .before .before .before .before .before .before .before .before .before in
     let s = now (a .args .ring) in
     let r = coords (take (2 * a .args .n) s) in
     let h : FittingBounds (a .args .bounds) = (search needs, search needs, search needs, search needs) in
-    let e = c .before .before .before .before .before .before .before .before .before .before .before .before .before .before .before .before .before .clip-three-edges .ensures in
+    let e = c .before .before .before .before .before .before .before .before .before .before .before .before .before .before .before
+    .before .before .clip-three-edges .ensures in
     let t = c .before .before .before .before .clip-top .ensures in
-    let cut = last-pass-cut (a .args .bounds) r _ _ _ _ h (fitting-front s (a .args .n) (c .before .before .before .before .before .before .before .before .before .before .before .before .before .before .before .before .before .before .before .before .before .before .before .before .before .before .shared-slice-known .given)) (e .0) (t .0) in
+    let cut = last-pass-cut (a .args .bounds) r _ _ _ _ h (fitting-front s (a .args .n)
+    (c .before .before .before .before .before .before .before .before .before .before .before .before .before .before .before .before
+    .before .before .before .before .before .before .before .before .before .before .shared-slice-known .given)) (e .0) (t .0) in
     record {
       cut = cut;
       origins = origins-cut (a .args .bounds) r _ _ _ _ (e .0) (e .1) (t .1);
-      same = c .before .before .before .before .clip-top .kept .1 .1 .1 .1 .0 ∙ c .before .before .before .before .before .before .before .before .before .before .before .before .before .before .before .before .before .clip-three-edges .kept .1 .1 .1 .1 .1 .0;
-      origins-same = c .before .before .before .before .clip-top .kept .1 .1 .1 .1 .1 .0 ∙ c .before .before .before .before .before .before .before .before .before .before .before .before .before .before .before .before .before .clip-three-edges .kept .1 .1 .1 .1 .1 .1 .0;
+      same = c .before .before .before .before .clip-top .kept .1 .1 .1 .1 .0 ∙ c .before .before .before .before .before .before .before
+          .before .before .before .before .before .before .before .before .before .before .clip-three-edges .kept .1 .1 .1 .1 .1 .0;
+      origins-same = c .before .before .before .before .clip-top .kept .1 .1 .1 .1 .1 .0 ∙ c .before .before .before .before .before
+          .before .before .before .before .before .before .before .before .before .before .before .before .clip-three-edges .kept .1 .1 .1
+          .1 .1 .1 .0;
       within = cut-room (a .args .bounds) _ (a .args .n) (length-front s (a .args .n) (a .pre .0 .vertices)) _ _ cut;
       few = B-le (a .args .n) (a .pre .1 .positions);
     }
@@ -71,10 +97,24 @@ mul-clear : tie.Need-mul-clear
 mul-clear c = let d = done c in omega (arith, d .within, d .few)
 
 sub-clear : tie.Need-sub-clear
-sub-clear c = let d = done c in omega (arith, d .within, d .same, c .before .before .before .before .before .before .before .before .before .before .before .before .before .before .before .before .before .before .before .before .before .before .before .before .before .before .before .pre .0 .output-room)
+sub-clear c = let d = done c in omega (
+  arith,
+  d .within,
+  d .same,
+  c .before .before .before .before .before .before .before .before .before
+      .before .before .before .before .before .before .before .before .before .before .before .before .before .before .before .before .before
+      .before .pre .0 .output-room,
+)
 
 part-clear-start : tie.Need-part-clear-start
-part-clear-start c = let d = done c in omega (arith, d .within, d .same, c .before .before .before .before .before .before .before .before .before .before .before .before .before .before .before .before .before .before .before .before .before .before .before .before .before .before .before .pre .0 .output-room)
+part-clear-start c = let d = done c in omega (
+  arith,
+  d .within,
+  d .same,
+  c .before .before .before .before .before .before .before .before
+      .before .before .before .before .before .before .before .before .before .before .before .before .before .before .before .before .before
+      .before .before .pre .0 .output-room,
+)
 
 part-clear-end : tie.Need-part-clear-end
 part-clear-end c = search needs
@@ -86,10 +126,24 @@ mul-clear-origins : tie.Need-mul-clear-origins
 mul-clear-origins c = let d = done (c .before .before .before .before) in omega (arith, d .within, d .few)
 
 sub-clear-origins : tie.Need-sub-clear-origins
-sub-clear-origins c = let d = done (c .before .before .before .before) in omega (arith, d .within, d .origins-same, c .before .before .before .before .before .before .before .before .before .before .before .before .before .before .before .before .before .before .before .before .before .before .before .before .before .before .before .before .before .before .before .pre .1 .output-room)
+sub-clear-origins c = let d = done (c .before .before .before .before) in omega (
+  arith,
+  d .within,
+  d .origins-same,
+  c .before .before .before .before .before .before .before .before .before .before .before .before
+      .before .before .before .before .before .before .before .before .before .before .before .before .before .before .before .before .before
+      .before .before .pre .1 .output-room,
+)
 
 part-clear-origins-start : tie.Need-part-clear-origins-start
-part-clear-origins-start c = let d = done (c .before .before .before .before) in omega (arith, d .within, d .origins-same, c .before .before .before .before .before .before .before .before .before .before .before .before .before .before .before .before .before .before .before .before .before .before .before .before .before .before .before .before .before .before .before .pre .1 .output-room)
+part-clear-origins-start c = let d = done (c .before .before .before .before) in omega (
+  arith,
+  d .within,
+  d .origins-same,
+  c .before .before .before .before .before .before .before .before .before .before .before .before
+      .before .before .before .before .before .before .before .before .before .before .before .before .before .before .before .before .before
+      .before .before .pre .1 .output-room,
+)
 
 part-clear-origins-end : tie.Need-part-clear-origins-end
 part-clear-origins-end c = search needs
@@ -111,12 +165,17 @@ same-length-4 c = search needs
 
 returns : tie.Need-returns
 returns c =
-    let a = c .before .before .before .before .before .before .before .before .before .before .before .before .before .before .before .before .before .before .before .before .before .before .before .before .before .before .before .before .before .before .before .before .before .before .before in
+    let a = c .before .before .before .before .before .before .before .before .before .before .before .before .before .before .before
+    .before .before .before .before .before .before .before .before .before .before .before .before .before .before .before .before
+    .before .before .before .before in
     let s = now (a .args .ring) in
     let d = done (c .before .before .before .before .before .before .before .before) in (
       rw (← d .same) (cut-padded (a .args .bounds) (coords (take (2 * a .args .n) s)) (a .args .n)
-          (length-front s (a .args .n) (a .pre .0 .vertices)) _ _ (d .cut) _ (c .before .before .before .before .before .before .clear .ensures)),
-      rw (← d .origins-same) (rest-cleared 0 _ (c .before .before .before .before .before .before .before .before .before .before .before .before .clip-top .last .1 .1 .1 .1 .1 .0) _ (c .before .before .before .before .before .before .before .before .before .before .before .before .clip-top .result) (d .origins) (c .before .before .clear-origins .ensures)),
+          (length-front s (a .args .n) (a .pre .0 .vertices)) _ _ (d .cut) _
+          (c .before .before .before .before .before .before .clear .ensures)),
+      rw (← d .origins-same) (rest-cleared 0 _ (c .before .before .before .before .before .before .before .before .before .before .before
+          .before .clip-top .last .1 .1 .1 .1 .1 .0) _ (c .before .before .before .before .before .before .before .before .before .before
+          .before .before .clip-top .result) (d .origins) (c .before .before .clear-origins .ensures)),
     )
 
 pub clip-padded-spec : {M : Type 1} → statement M

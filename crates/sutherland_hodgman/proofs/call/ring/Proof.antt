@@ -17,8 +17,11 @@ use Rattle.sutherland_hodgman.proofs.call.ring.Statement.{statement}
 use Rattle.sutherland_hodgman.proofs.call.ring.Tie as tie
 
 -- where no check fails, the ring can be cut in the lent slices
-cuttable : (c : tie.After-enum-told) → Cuttable (length (now (c .before .before .before .before .before .before .before .before .args .ring))) (length (now (c .before .before .before .before .before .before .before .before .args .scratch)))
-    (length (now (c .before .before .before .before .before .before .before .before .args .origin-scratch))) (length (now (c .before .before .before .before .before .before .before .before .args .out))) (length (now (c .before .before .before .before .before .before .before .before .args .out-origins)))
+cuttable : (c : tie.After-enum-told) → Cuttable (length (now (c .before .before .before .before .before .before .before .before .args
+    .ring))) (length (now (c .before .before .before .before .before .before .before .before .args .scratch)))
+    (length (now (c .before .before .before .before .before .before .before .before .args .origin-scratch))) (length (now
+    (c .before .before .before .before .before .before .before .before .args .out))) (length (now
+    (c .before .before .before .before .before .before .before .before .args .out-origins)))
 cuttable c = passes-cuttable _ _ _ _ _ (sym (c .before .before .check-ring .ensures) ∙ c .enum-told .given .1)
 
 check-ring-requires : tie.Need-check-ring-requires
@@ -34,28 +37,50 @@ room-for-requires : tie.Need-room-for-requires
 room-for-requires c κs = cuttable c .few
 
 mul-numbers : tie.Need-mul-numbers
-mul-numbers c = omega (arith, c .room-for .ensures, B-le (length (now (c .before .before .before .before .before .before .before .before .before .args .ring)) / 2) (cuttable (c .before) .few))
+mul-numbers c = omega (
+  arith,
+  c .room-for .ensures,
+  B-le (length (now (c .before .before .before .before .before .before .before .before
+      .before .args .ring)) / 2) (cuttable (c .before) .few),
+)
 
 slice-relend-prefix-clip-padded : tie.Need-slice-relend-prefix-clip-padded
 slice-relend-prefix-clip-padded c = omega (arith, c .before .before .room-for .ensures, cuttable (c .before .before .before) .output-room)
 
 slice-aggregate-clip-padded : tie.Need-slice-aggregate-clip-padded
-slice-aggregate-clip-padded c = sym (length-take-le _ _ (omega (arith, c .before .before .before .room-for .ensures, cuttable (c .before .before .before .before) .output-room)))
+slice-aggregate-clip-padded c = sym (length-take-le _ _ (omega (
+  arith,
+  c .before .before .before .room-for .ensures,
+  cuttable
+      (c .before .before .before .before) .output-room,
+)))
 
 slice-relend-prefix-clip-padded-2 : tie.Need-slice-relend-prefix-clip-padded-2
-slice-relend-prefix-clip-padded-2 c = omega (arith, c .before .before .before .room-for .ensures, cuttable (c .before .before .before .before) .origin-output-room)
+slice-relend-prefix-clip-padded-2 c = omega (
+  arith,
+  c .before .before .before .room-for .ensures,
+  cuttable
+      (c .before .before .before .before) .origin-output-room,
+)
 
 slice-aggregate-clip-padded-2 : tie.Need-slice-aggregate-clip-padded-2
 slice-aggregate-clip-padded-2 c =
-    sym (length-take-le _ _ (omega (arith, c .before .before .before .before .room-for .ensures, cuttable (c .before .before .before .before .before) .origin-output-room)))
+    sym (length-take-le _ _ (omega (
+      arith,
+      c .before .before .before .before .room-for .ensures,
+      cuttable
+          (c .before .before .before .before .before) .origin-output-room,
+    )))
 
 clip-padded-requires : tie.Need-clip-padded-requires
 clip-padded-requires c κs =
     let p = cuttable (c .before .before .before .before .before) in
     let e = c .before .before .before .before .room-for .ensures in
     let room = c .before .before .before .before .room-for .result in
-    let l = length-take-le (2 * room) (now (c .before .before .before .before .before .before .before .before .before .before .before .before .before .args .out)) (omega (arith, e, p .output-room)) in
-    let m = length-take-le room (now (c .before .before .before .before .before .before .before .before .before .before .before .before .before .args .out-origins)) (omega (arith, e, p .origin-output-room)) in (
+    let l = length-take-le (2 * room) (now (c .before .before .before .before .before .before .before .before .before .before .before
+    .before .before .args .out)) (omega (arith, e, p .output-room)) in
+    let m = length-take-le room (now (c .before .before .before .before .before .before .before .before .before .before .before .before
+    .before .args .out-origins)) (omega (arith, e, p .origin-output-room)) in (
       record { vertices = omega (arith, p .even); scratch-room = p .scratch-room; output-room = omega (arith, l, e) },
       record { positions = p .few; scratch-room = p .origin-scratch-room; output-room = omega (arith, m, e) },
     )
@@ -89,13 +114,21 @@ same-length-4 c = search needs
 returns-2 : tie.Need-returns-2
 unfolding ringCallAnswer ringCallRoom ringCallOriginRoom
 returns-2 c =
-    let a = c .before .before .before .before .before .before .before .before .before .before .before .before .before .before .before .before .before .before .before .before .before .before .before .before .before .before .before .before .before .before .args in
+    let a = c .before .before .before .before .before .before .before .before .before .before .before .before .before .before .before
+    .before .before .before .before .before .before .before .before .before .before .before .before .before .before .before .args in
     let lent = ringSlices (now (a .scratch)) (now (a .origin-scratch)) (now (a .out)) (now (a .out-origins)) in
-    let e = sym (c .before .before .before .before .before .before .before .before .before .before .before .before .before .before .before .before .before .before .before .before .before .before .before .before .check-ring .ensures) ∙ c .before .before .before .before .before .before .before .before .before .before .before .before .before .before .before .before .before .before .before .before .before .before .enum-told .given .1 in
-    let p = cuttable (c .before .before .before .before .before .before .before .before .before .before .before .before .before .before .before .before .before .before .before .before .before .before) in
-    let room = c .before .before .before .before .before .before .before .before .before .before .before .before .before .before .before .before .before .before .before .before .before .room-for .ensures in
-    let r = c .before .before .before .before .before .before .before .before .before .before .before .before .before .before .before .before .before .before .before .before .before .room-for .result in
-    let clipped = c .before .before .before .before .before .before .before .before .before .before .before .before .before .before .before .before .clip-padded in
+    let e = sym (c .before .before .before .before .before .before .before .before .before .before .before .before .before .before .before
+    .before .before .before .before .before .before .before .before .before .check-ring .ensures) ∙ c .before .before .before .before
+    .before .before .before .before .before .before .before .before .before .before .before .before .before .before .before .before
+    .before .before .enum-told .given .1 in
+    let p = cuttable (c .before .before .before .before .before .before .before .before .before .before .before .before .before .before
+    .before .before .before .before .before .before .before .before) in
+    let room = c .before .before .before .before .before .before .before .before .before .before .before .before .before .before .before
+    .before .before .before .before .before .before .room-for .ensures in
+    let r = c .before .before .before .before .before .before .before .before .before .before .before .before .before .before .before
+    .before .before .before .before .before .before .room-for .result in
+    let clipped = c .before .before .before .before .before .before .before .before .before .before .before .before .before .before .before
+    .before .clip-padded in
     let l = length-take-le (2 * r) (now (a .out)) (omega (arith, room, p .output-room)) in
     let m = length-take-le r (now (a .out-origins)) (omega (arith, room, p .origin-output-room)) in
     let cut = lent-padded (now (a .ring)) (p .even) (a .bounds) _ _ _ (omega (arith, l, room)) (clipped .ensures .0) in

@@ -15,8 +15,11 @@ same-length c = search needs
 returns : tie.Need-returns
 returns c =
     let a = c .before .before .before .before .before .before .before in
-    let e = c .before .before .before .close .ensures in
-    (e, close-origins-closed (now (a .args .ring)) (a .args .n) (omega (arith, a .pre .0)) (now (a .args .origins)) _ (e .count) (c .if1 .taken))
+    let e = c .before .before .before .close .ensures in (
+      e,
+      close-origins-closed (now (a .args .ring)) (a .args .n) (omega (arith, a .pre .0)) (now (a .args .origins)) _ (e .count)
+          (c .if1 .taken),
+    )
 
 slice-read-first : tie.Need-slice-read-first
 slice-read-first c = search needs

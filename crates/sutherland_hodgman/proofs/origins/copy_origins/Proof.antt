@@ -53,7 +53,8 @@ loop-again c =
     let h = c .before .loop-test .taken in (
       search needs,
       simp length-set (l .inv .1),
-      rw (l .inv .2) (copied-more (now (a .args .origins)) (now (a .args .out-origins)) (a .args .i) (a .args .len) (l .k) (omega (arith, a .pre .0))),
+      rw (l .inv .2) (copied-more (now (a .args .origins)) (now (a .args .out-origins)) (a .args .i) (a .args .len) (l .k) (omega
+          (arith, a .pre .0))),
     )
 
 same-length : tie.Need-same-length Inv-loop μ-loop
