@@ -1,10 +1,19 @@
-/// The private function that the harness asks, under its own name.
+/// The private functions that the harness asks, under their own names. The edge is its place in the order of the passes: Left,
+/// Right, Bottom, Top.
 pub mod opened {
     use super::*;
 
-    /// The edge by its place in the order of the passes: Left, Right, Bottom, Top.
+    const EDGES: [Edge; 4] = [Edge::Left, Edge::Right, Edge::Bottom, Edge::Top];
+
     pub fn clip_ring_against_edge(ring: &[Coord<f64>], edge: usize, bounds: &TileBounds) -> Vec<Coord<f64>> {
-        let edges = [Edge::Left, Edge::Right, Edge::Bottom, Edge::Top];
-        super::clip_ring_against_edge(ring, edges[edge], bounds)
+        super::clip_ring_against_edge(ring, EDGES[edge], bounds)
+    }
+
+    pub fn is_inside(coord: &Coord<f64>, edge: usize, bounds: &TileBounds) -> bool {
+        super::is_inside(coord, EDGES[edge], bounds)
+    }
+
+    pub fn intersect(a: &Coord<f64>, b: &Coord<f64>, edge: usize, bounds: &TileBounds) -> Coord<f64> {
+        super::intersect(a, b, EDGES[edge], bounds)
     }
 }

@@ -2,7 +2,8 @@
 //! buffer is kept from frame to frame. The port is measured beside them.
 //!
 //! The source gives no part numbers and no reasons, so not every answer can be told from its result. Refusals, nothing, dropped
-//! and unchanged always can, and so can a list in which every part stands and none is an overlay.
+//! and unchanged always can, and so can a list in which every part stands and none is an overlay. It gives no origins either: answers
+//! here are document 01's, without them.
 
 mod decode;
 mod encode;

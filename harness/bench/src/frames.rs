@@ -1,8 +1,10 @@
-//! The frame entry against decode, `clip_geometry_simple` and encode in Rust, on frames of one ring or of many parts.
+//! The frame entry against decode, `clip_geometry_simple` and encode in Rust, on frames of one ring or of many parts. The port answers
+//! with origins, the Rust without.
 
 use std::hint::black_box;
 
 use baseline::Cutter;
+use formats::answer::Answer;
 use formats::frame::{Frame, LONGEST, MULTIPOLYGON, POLYGON};
 use formats::Ring;
 use geo::Coord;
@@ -82,7 +84,7 @@ pub struct Sides {
 }
 
 impl Sides {
-    /// Both have answered the frame once, with the same bytes.
+    /// Both have answered the frame once, with the same bytes but for the origins.
     pub fn new(size: &Size, case: &Case) -> Sides {
         let frame = frame_of(size, case);
         let bytes = frame.encode();
@@ -96,7 +98,8 @@ impl Sides {
         };
         sides.rust();
         sides.port();
-        assert_eq!(sides.out[..sides.length], sides.answer, "{}, {}", size.name, case.name);
+        let without_origins = without_origins(&sides.out[..sides.length]);
+        assert_eq!(without_origins, sides.answer, "{}, {}", size.name, case.name);
         assert_eq!(sides.out[0], case.answer, "{}, {}", size.name, case.name);
         sides
     }
@@ -108,6 +111,14 @@ impl Sides {
     pub fn port(&mut self) {
         let code = calls::frame(black_box(&self.frame), &mut self.out);
         self.length = usize::try_from(code).expect("the frame is accepted");
+    }
+}
+
+/// An answer as the Rust gives it.
+pub fn without_origins(answer: &[u8]) -> Vec<u8> {
+    match Answer::decode(answer) {
+        Some(Ok(decoded)) => decoded.encode_without_origins(),
+        _ => answer.to_vec(),
     }
 }
 

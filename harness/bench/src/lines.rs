@@ -8,8 +8,9 @@ use std::process::{Command, Stdio};
 use std::time::Instant;
 
 use compare::hex;
+use formats::from_hex;
 
-use crate::frames::{frame_bytes, CASES, SIZES};
+use crate::frames::{frame_bytes, without_origins, CASES, SIZES};
 use crate::table::Row;
 
 const LINES: usize = 200_000;
@@ -76,7 +77,7 @@ pub fn programs() -> [Command; 2] {
 fn rows(name: &str, input: &Input) -> [Row; 2] {
     let mut programs = programs();
     let [rust, port] = programs.each_mut().map(|program| printed(program, input));
-    assert!(rust == port, "the two programs print other bytes");
+    assert!(rust == lines_without_origins(&port), "the two programs print other bytes");
     assert_eq!(rust.iter().filter(|&&byte| byte == b'\n').count(), LINES);
     let mut times = [Vec::new(), Vec::new()];
     for _ in 0..RUNS {
@@ -99,6 +100,13 @@ fn printed(program: &mut Command, input: &Input) -> Vec<u8> {
     let output = program.stdin(input.open()).stdout(Stdio::piped()).output().expect("the program can be run");
     assert!(output.status.success(), "{program:?}: {}", output.status);
     output.stdout
+}
+
+/// Lines of answers as the Rust prints them.
+fn lines_without_origins(printed: &[u8]) -> Vec<u8> {
+    let line = |line: &[u8]| hex(&without_origins(&from_hex(line).expect("the program prints digits"))) + "\n";
+    let lines = printed.strip_suffix(b"\n").expect("the last line ends too").split(|&byte| byte == b'\n');
+    lines.flat_map(|digits| line(digits).into_bytes()).collect()
 }
 
 /// The wall time of a run, by line, in nanoseconds; what is printed is thrown away.

@@ -1,4 +1,4 @@
-//! The slice call against the Rust's `clip_polygon`. The Rust clears nothing, and the library has no call that doesn't clear, so
+//! The slice call against the Rust's `clip_polygon`, which has no origins. It clears nothing, and the library has no call that doesn't, so
 //! the clearing is timed by itself, by a call that does little else: on rings as long as these, dropped at its first
 //! coordinate. What is left of the whole call without it stands beside the Rust's time. Such a call clears all the room of the
 //! output, and a cut only what it leaves of that: its share in the whole call is a little less. Where an overlay is wanted the
@@ -6,7 +6,7 @@
 
 use std::hint::black_box;
 
-use formats::calls::SliceAfter;
+use formats::calls::{SliceAfter, MOST_COORDINATES};
 use formats::room::most_cut;
 use geo::{Coord, Geometry, LineString, Polygon};
 use i_overlay::record::take_calls;
@@ -85,7 +85,7 @@ fn with_a_nan_first(n: usize) -> Vec<Coord<f64>> {
 }
 
 pub fn measure() {
-    for vertices in [64, 1_024, 65_536] {
+    for vertices in [64, 1_024, MOST_COORDINATES] {
         for case in &TIMED {
             row(Size::of_one_ring(vertices), case).print();
         }
@@ -174,9 +174,11 @@ fn lent_for(size: Size) -> SliceAfter {
     SliceAfter {
         answer: 0,
         scratch: vec![0.0; 2 * room],
+        origin_scratch: vec![0; room],
         order: vec![0; room],
         out: vec![0.0; 2 * room * size.rings],
         out_lengths: vec![0; size.rings],
+        out_origins: vec![0; room * size.rings],
     }
 }
 

@@ -1,13 +1,16 @@
 //! Ring calls and slice calls: answers and lent slices afterwards. The oracle's answers with what `formats` says they leave
-//! stand on one side, the second reading's answers with what it leaves itself on the other.
+//! stand on one side, the second reading's answers with what it leaves itself on the other. The origins that it leaves are looked at
+//! besides.
 
 use formats::calls::{RingAfter, RingCall, SliceAfter, SliceAnswer, SliceCall};
-use formats::Refusal;
+use formats::origins::CutRing;
+use formats::{pairs, Refusal};
 use generator::{Kind, Style};
 use reading::{Flags, Lent, Reading, Slices};
 
 use crate::campaign::{self, Campaign};
 use crate::frames::{reason_label, refusal_label};
+use crate::origins::{broken, broken_rings, buffered};
 
 pub fn styles() -> Vec<(&'static str, Style)> {
     Style::ALL.iter().map(|&style| (Kind::Drawn(style).name(), style)).collect()
@@ -22,16 +25,45 @@ pub fn compare_ring_calls(seed: u64, count: u64) -> Campaign {
         if let Some(difference) = call.after(&oracle).difference(&reading) {
             return Err(format!("{call}: oracle and reading differ in {difference}"));
         }
-        Ok(ring_label(&oracle))
+        match broken_in_ring_call(&call, &reading) {
+            Some(broken) => Err(format!("{call}, both sides: {broken}")),
+            None => Ok(ring_label(&oracle)),
+        }
     })
 }
 
-pub fn ring_label(answer: &Result<Vec<f64>, Refusal>) -> &'static str {
+pub fn ring_label(answer: &Result<CutRing, Refusal>) -> &'static str {
     match answer {
         Err(refusal) => refusal_label(*refusal),
-        Ok(numbers) if numbers.is_empty() => "empty",
+        Ok(cut) if cut.ring.is_empty() => "empty",
         Ok(_) => "ring",
     }
+}
+
+/// The ring of so many coordinates that stands in an output from one coordinate on, with its origins.
+fn cut_from(out: &[f64], out_origins: &[u16], from: usize, length: usize) -> CutRing {
+    let end = from + length;
+    CutRing { ring: pairs(&out[2 * from..2 * end]), origins: out_origins[from..end].to_vec() }
+}
+
+/// What does not hold of the origins that a ring call leaves.
+pub fn broken_in_ring_call(call: &RingCall, after: &RingAfter) -> Option<&'static str> {
+    let count = usize::try_from(after.answer).ok()?;
+    let cut = cut_from(&after.out, &after.out_origins, 0, count);
+    broken(&call.bounds, &pairs(&call.ring), &cut)
+}
+
+/// What does not hold of the origins that a slice call leaves.
+pub fn broken_in_slice_call(call: &SliceCall, after: &SliceAfter) -> Option<&'static str> {
+    let rings = if after.answer & 0xff == 4 { after.answer as usize >> 16 } else { 0 };
+    let mut at = 0;
+    let next_ring = |&length: &u32| {
+        let from = at;
+        at += length as usize;
+        cut_from(&after.out, &after.out_origins, from, length as usize)
+    };
+    let cut: Vec<CutRing> = after.out_lengths[..rings].iter().map(next_ring).collect();
+    broken_rings(&buffered(&call.bounds, call.buffer), &call.rings().ok()?, &cut)
 }
 
 /// `count` slice calls of each style.
@@ -43,7 +75,10 @@ pub fn compare_slice_calls(seed: u64, count: u64) -> Campaign {
         if let Some(difference) = call.after(&oracle).difference(&reading) {
             return Err(format!("{call}: oracle and reading differ in {difference}"));
         }
-        Ok(slice_label_with_reason(&oracle))
+        match broken_in_slice_call(&call, &reading) {
+            Some(broken) => Err(format!("{call}, both sides: {broken}")),
+            None => Ok(slice_label_with_reason(&oracle)),
+        }
     })
 }
 
@@ -74,9 +109,16 @@ fn label(answer: &SliceAnswer) -> &'static str {
 
 /// The second reading's answer to a ring call, and the lent slices as it leaves them.
 pub fn ring_call(reading: &Reading, call: &RingCall) -> RingAfter {
-    let mut lent = Lent { scratch: call.scratch.clone(), out: call.out.clone(), ..Lent::default() };
+    let mut lent = Lent {
+        scratch: call.scratch.clone(),
+        origin_scratch: call.origin_scratch.clone(),
+        out: call.out.clone(),
+        out_origins: call.out_origins.clone(),
+        ..Lent::default()
+    };
     let answer = reading.ring_call(&call.ring, call.bounds, &mut lent);
-    RingAfter { answer, scratch: lent.scratch, out: lent.out }
+    let Lent { scratch, origin_scratch, out, out_origins, .. } = lent;
+    RingAfter { answer, scratch, origin_scratch, out, out_origins }
 }
 
 /// The second reading's answer to a slice call, and the lent slices as it leaves them.
@@ -90,11 +132,13 @@ pub fn slice_call(reading: &Reading, call: &SliceCall) -> SliceAfter {
     };
     let mut lent = Lent {
         scratch: call.scratch.clone(),
+        origin_scratch: call.origin_scratch.clone(),
         order: call.order.clone(),
         out: call.out.clone(),
         out_lengths: call.out_lengths.clone(),
+        out_origins: call.out_origins.clone(),
     };
     let answer = reading.slice_call(&slices, &mut lent);
-    let Lent { scratch, order, out, out_lengths } = lent;
-    SliceAfter { answer, scratch, order, out, out_lengths }
+    let Lent { scratch, origin_scratch, order, out, out_lengths, out_origins } = lent;
+    SliceAfter { answer, scratch, origin_scratch, order, out, out_lengths, out_origins }
 }

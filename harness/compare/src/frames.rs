@@ -1,4 +1,4 @@
-//! Frames: the oracle's bytes against the second reading's.
+//! Frames: the oracle's bytes against the second reading's, whose origins are looked at besides.
 
 use std::panic::catch_unwind;
 
@@ -7,6 +7,7 @@ use reading::Reading;
 
 use crate::campaign::{self, Campaign, Checked};
 use crate::hex;
+use crate::origins::broken_frame;
 use crate::shrink::shrink;
 
 pub fn kinds() -> Vec<(&'static str, Kind)> {
@@ -21,7 +22,11 @@ pub fn compare(seed: u64, count: u64) -> Campaign {
 fn check(specimen: &Specimen) -> Checked {
     let answers = Answers::to(specimen);
     if !answers.differ() {
-        return Ok(label(&answers.reading));
+        let broken = answers.reading.as_ref().ok().and_then(|bytes| broken_frame(&specimen.frame, bytes));
+        return match broken {
+            Some(broken) => Err(format!("frame {}, both sides: {broken}", hex(&specimen.frame))),
+            None => Ok(label(&answers.reading)),
+        };
     }
     let smallest = shrink(specimen.clone(), |specimen| Answers::to(specimen).differ());
     let Answers { oracle, reading } = Answers::to(&smallest);

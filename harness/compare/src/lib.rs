@@ -6,6 +6,7 @@ pub mod command;
 pub mod frames;
 pub mod lines;
 pub mod mistakes;
+pub mod origins;
 pub mod passes;
 pub mod shrink;
 pub mod vectors;

@@ -1,10 +1,10 @@
-//! Single passes: vertices, the count of verdicts and the lent output afterwards. The oracle's answer with what `formats` says it
-//! leaves stands on one side, the second reading's, with its own counter and what it leaves itself, on the other.
+//! Single passes: vertices, their origins, the count of verdicts and the lent outputs afterwards. The oracle's answer with what
+//! `formats` says it leaves stands on one side, the second reading's, with its own counter and what it leaves itself, on the other.
 
 use formats::passes::{Edge, PassAfter, PassCall, Passed, NO_ROOM};
 use formats::room::most_passed;
 use formats::{flat, Coord};
-use reading::{PassCounts, Reading, Side};
+use reading::{PassCounts, PassInput, Reading, Side};
 
 use crate::calls::styles;
 use crate::campaign::{self, Campaign, Checked};
@@ -21,10 +21,17 @@ pub const WORKED: [(&str, &[Coord], usize); 8] = [
     ("an open triangle", &[(-5.0, 5.0), (15.0, -5.0), (5.0, 15.0)], 4),
 ];
 
-/// A pass over one of them, with the room that it asks for and so much more.
+/// A pass over one of them, with the room that it asks for and so much more. The origins of its vertices begin at 100.
 pub fn worked_call(ring: &[Coord], edge: Edge, spare: usize) -> PassCall {
-    let out = vec![7.0; 2 * most_passed(ring.len()) + spare];
-    PassCall { ring: flat(ring), edge, bounds: [0.0, 0.0, 10.0, 10.0], out }
+    let most = most_passed(ring.len());
+    PassCall {
+        ring: flat(ring),
+        origins: (100..65_532).cycle().take(ring.len()).collect(),
+        edge,
+        bounds: [0.0, 0.0, 10.0, 10.0],
+        out: vec![7.0; 2 * most + spare],
+        out_origins: vec![7; most + spare],
+    }
 }
 
 /// `count` passes of each style.
@@ -45,17 +52,20 @@ pub fn label(passed: Option<&Passed>) -> &'static str {
     match passed {
         None => "no room",
         Some(Passed { verdicts: 0, .. }) => "no vertex",
-        Some(Passed { numbers, .. }) if numbers.is_empty() => "all out",
+        Some(Passed { cut, .. }) if cut.ring.is_empty() => "all out",
         Some(_) => "some in",
     }
 }
 
 /// The second reading's answer to a pass, and the output as it leaves it.
 pub fn pass(reading: &Reading, call: &PassCall) -> PassAfter {
-    let mut out = call.out.clone();
+    let (mut out, mut out_origins) = (call.out.clone(), call.out_origins.clone());
     let side = Side::ORDER[call.edge as usize];
-    match reading.pass_call(&call.ring, side, call.bounds, &mut out) {
-        None => PassAfter { answer: NO_ROOM, verdicts: None, out },
-        Some(PassCounts { vertices, verdicts }) => PassAfter { answer: vertices, verdicts: Some(verdicts), out },
+    let input = PassInput { ring: &call.ring, origins: &call.origins, side, bounds: call.bounds };
+    match reading.pass_call(&input, &mut out, &mut out_origins) {
+        None => PassAfter { answer: NO_ROOM, verdicts: None, out, out_origins },
+        Some(PassCounts { vertices, verdicts }) => {
+            PassAfter { answer: vertices, verdicts: Some(verdicts), out, out_origins }
+        }
     }
 }

@@ -5,7 +5,10 @@ use std::collections::BTreeMap;
 
 use formats::calls::{RingCall, SliceCall, MOST_COORDINATES};
 use formats::frame::{Frame, POLYGON};
-use formats::vectors::{encode_rings, encode_slices, marks, RingVector, SliceVector, MARK, MOST_LENT, WHOLE_MARK};
+use formats::vectors::{
+    encode_rings, encode_slices, marks, origin_marks, whole_marks, RingVector, SliceVector, MARK, MOST_LENT,
+    ORIGIN_MARK, WHOLE_MARK,
+};
 use generator::Style;
 
 use crate::calls::{ring_label, slice_label_with_reason, styles};
@@ -44,8 +47,8 @@ impl Kept {
     }
 }
 
-/// Input of the program: frames of each kind, up to `count` for each answer, worked ones of each reason, and lines that are right
-/// and wrong. The last one has no newline.
+/// Input of the program: frames of each kind, up to `count` for each answer, worked ones of each reason and one that closes twice, and
+/// lines that are right and wrong. The last one has no newline.
 pub fn lines(seed: u64, count: u64) -> Vec<u8> {
     let mut input = Vec::new();
     for (_, kind) in kinds() {
@@ -58,9 +61,10 @@ pub fn lines(seed: u64, count: u64) -> Vec<u8> {
             }
         }
     }
-    for (_, flags, ring) in worked::exterior_of_each_reason() {
+    let of_each_reason = worked::exterior_of_each_reason().into_iter().map(|(_, flags, ring)| (flags[0], ring));
+    for (flags, ring) in of_each_reason.chain([(3, worked::OVERFLOWING.to_vec())]) {
         let parts = vec![vec![ring]];
-        let frame = Frame { kind: POLYGON, flags: flags[0], bounds: worked::BOUNDS, buffer: 0.0, parts };
+        let frame = Frame { kind: POLYGON, flags, bounds: worked::BOUNDS, buffer: 0.0, parts };
         push_line(&mut input, hex(&frame.encode()).as_bytes());
     }
     let mut kept = Kept::new(10 * count);
@@ -85,9 +89,10 @@ fn push_line(input: &mut Vec<u8>, line: &[u8]) {
 pub fn rings(seed: u64, count: u64) -> Vec<u8> {
     let sampled = |style, index| {
         let (call, answer) = answered_ring_call(generator::ring_call(style, seed, index));
+        let lent = [call.scratch.len(), call.origin_scratch.len(), call.out.len(), call.out_origins.len()];
         Sampled {
             numbers: call.ring.len(),
-            longest: call.scratch.len().max(call.out.len()),
+            longest: lent.into_iter().fold(0, usize::max),
             answer: ring_label(&answer).to_string(),
             vector: (call, answer),
         }
@@ -102,11 +107,12 @@ pub fn rings(seed: u64, count: u64) -> Vec<u8> {
 pub fn slices(seed: u64, count: u64) -> Vec<u8> {
     let sampled = |style, index| {
         let (call, answer) = answered_slice_call(generator::slice_call(style, seed, index));
-        let lent = [call.scratch.len(), call.order.len(), call.out.len(), call.out_lengths.len()];
+        let work = [call.scratch.len(), call.origin_scratch.len(), call.order.len()];
+        let output = [call.out.len(), call.out_lengths.len(), call.out_origins.len()];
         let rings = answer.as_ref().map_or(0, |answer| answer.cut_rings().len());
         Sampled {
             numbers: call.coords.len(),
-            longest: lent.into_iter().fold(0, usize::max),
+            longest: work.into_iter().chain(output).fold(0, usize::max),
             answer: format!("{}, {rings} rings", slice_label_with_reason(&answer)),
             vector: (call, answer),
         }
@@ -145,8 +151,9 @@ fn worked_rings() -> Vec<RingCall> {
     let mut calls = vec![worked::one_vertex()];
     for (_, ring) in worked::ring_of_each_answer() {
         let exact = worked::ring_call(&ring, Beside::default());
-        calls.extend(spare(exact.out.len()).map(|beside| worked::ring_call(&ring, beside)));
+        calls.extend(spare(exact.out_origins.len()).map(|beside| worked::ring_call(&ring, beside)));
     }
+    calls.extend(worked::ring_of_each_origin().iter().map(|(ring, _)| worked::ring_call(ring, Beside::default())));
     calls
 }
 
@@ -155,17 +162,23 @@ fn worked_slices() -> Vec<SliceCall> {
     let mut calls = vec![worked::lone_nan()];
     for (_, flags, part) in worked::polygon_of_each_answer() {
         let exact = worked::slice_call(flags, &part, Beside::default());
-        calls.extend(spare(exact.out.len()).map(|beside| worked::slice_call(flags, &part, beside)));
+        calls.extend(spare(exact.out_origins.len()).map(|beside| worked::slice_call(flags, &part, beside)));
     }
+    calls.push(worked::slice_call(3, &[worked::OVERFLOWING.to_vec()], Beside::default()));
     for (_, flags, ring) in worked::exterior_of_each_reason() {
         calls.push(worked::slice_call(flags[0], &[ring], Beside::default()));
     }
     calls
 }
 
-/// How much longer than asked the outputs of worked calls are, of which so many numbers are asked.
+/// How much longer than asked the outputs of worked calls are, of which room for so many coordinates is asked.
 fn spare(asked: usize) -> [Beside; 3] {
-    [0, 1, (MOST_LENT - asked) as isize].map(|out| Beside { out, ..Beside::default() })
+    let longest = |asked: usize| (MOST_LENT - asked) as isize;
+    [(0, 0), (1, 1), (longest(2 * asked), longest(asked))].map(|(out, out_origins)| Beside {
+        out,
+        out_origins,
+        ..Beside::default()
+    })
 }
 
 fn answered_ring_call(call: RingCall) -> RingVector {
@@ -184,6 +197,9 @@ fn with_marks_in_ring_call(mut call: RingCall) -> RingCall {
     for lent in [&mut call.scratch, &mut call.out] {
         lent.fill(MARK);
     }
+    for lent in [&mut call.origin_scratch, &mut call.out_origins] {
+        lent.fill(ORIGIN_MARK);
+    }
     call
 }
 
@@ -194,12 +210,22 @@ fn with_marks_in_slice_call(mut call: SliceCall) -> SliceCall {
     for lent in [&mut call.order, &mut call.out_lengths] {
         lent.fill(WHOLE_MARK);
     }
+    for lent in [&mut call.origin_scratch, &mut call.out_origins] {
+        lent.fill(ORIGIN_MARK);
+    }
     call
 }
 
 fn too_long_ring_call() -> RingCall {
     let ring = vec![0.0; 2 * MOST_COORDINATES + 2];
-    RingCall { ring, bounds: [0.0; 4], scratch: marks(2), out: marks(2) }
+    RingCall {
+        ring,
+        bounds: [0.0; 4],
+        scratch: marks(2),
+        origin_scratch: origin_marks(1),
+        out: marks(2),
+        out_origins: origin_marks(1),
+    }
 }
 
 fn too_long_slice_call() -> SliceCall {
@@ -212,8 +238,10 @@ fn too_long_slice_call() -> SliceCall {
         coords: vec![0.0; 2 * coordinates],
         lengths: vec![coordinates as u32],
         scratch: marks(2),
-        order: vec![WHOLE_MARK; 2],
+        origin_scratch: origin_marks(1),
+        order: whole_marks(2),
         out: marks(2),
-        out_lengths: vec![WHOLE_MARK],
+        out_lengths: whole_marks(1),
+        out_origins: origin_marks(1),
     }
 }

@@ -1,7 +1,8 @@
 //! Calls that are worked by hand on the bounds 0, 0, 10, 10: one of each answer and of each reason, and those that document 02's
-//! points 1 and 4 are most easily misread on.
+//! points 1, 4 and 12 are most easily misread on.
 
 use formats::calls::{RingCall, SliceCall};
+use formats::origins::CutRing;
 use formats::reason::Reason;
 use formats::room::most_cut;
 use formats::{closed_length, flat, Bounds, Coord, Part, Ring};
@@ -19,18 +20,46 @@ pub const APART: [Coord; 4] = [(20., 20.), (30., 20.), (30., 30.), (20., 20.)];
 pub const BEYOND_SOUTH_EAST: [Coord; 3] = [(9., -2.), (12., 1.), (12., -2.)];
 pub const BEYOND_NORTH_EAST: [Coord; 3] = [(9., 12.), (12., 9.), (12., 12.)];
 
+/// The difference of its second and third vertex overflows. Cut, it begins with a NaN, and so as a polygon's exterior it is closed
+/// twice.
+pub const OVERFLOWING: [Coord; 4] = [(8., 8.), (1e308, 1e308), (-1.7e308, -1.7e308), (8., 8.)];
+
+/// What it is cut to, with the origins.
+pub fn overflowing_cut() -> CutRing {
+    let nan = (f64::NAN, 0.);
+    CutRing {
+        ring: vec![nan, (0., 0.), (8., 8.), (10., 10.), nan, nan, nan],
+        origins: vec![BOTTOM, LEFT, 0, RIGHT, BOTTOM, BOTTOM, BOTTOM],
+    }
+}
+
+/// Document 02's numbers of the lines.
+pub const LEFT: u16 = 65_532;
+pub const RIGHT: u16 = 65_533;
+pub const BOTTOM: u16 = 65_534;
+pub const TOP: u16 = 65_535;
+
 /// How much longer each lent slice is than it has to be; a ring call has no order slice and no second length slice.
 #[derive(Clone, Copy, Debug, Default)]
 pub struct Beside {
     pub scratch: isize,
+    pub origin_scratch: isize,
     pub order: isize,
     pub out: isize,
     pub out_lengths: isize,
+    pub out_origins: isize,
 }
 
 impl Beside {
     pub fn all(beside: isize) -> Beside {
-        Beside { scratch: beside, order: beside, out: beside, out_lengths: beside }
+        Beside {
+            scratch: beside,
+            origin_scratch: beside,
+            order: beside,
+            out: beside,
+            out_lengths: beside,
+            out_origins: beside,
+        }
     }
 }
 
@@ -47,9 +76,26 @@ fn lent_wholes(asked: usize, beside: isize) -> Vec<u32> {
     (0..asked.saturating_add_signed(beside) as u32).map(|place| 1_000 + place).collect()
 }
 
+/// What stands at a place of a lent slice of origins before a call: neighbours differ, and none is 0. No ring that is worked here is
+/// so long that it is a position.
+pub fn unwritten_origin(place: usize) -> u16 {
+    40_000 + (place % 20_000) as u16
+}
+
+fn lent_origins(asked: usize, beside: isize) -> Vec<u16> {
+    (0..asked.saturating_add_signed(beside)).map(unwritten_origin).collect()
+}
+
 pub fn ring_call(ring: &[Coord], beside: Beside) -> RingCall {
-    let room = 2 * most_cut(ring.len());
-    RingCall { ring: flat(ring), bounds: BOUNDS, scratch: lent(room, beside.scratch), out: lent(room, beside.out) }
+    let room = most_cut(ring.len());
+    RingCall {
+        ring: flat(ring),
+        bounds: BOUNDS,
+        scratch: lent(2 * room, beside.scratch),
+        origin_scratch: lent_origins(room, beside.origin_scratch),
+        out: lent(2 * room, beside.out),
+        out_origins: lent_origins(room, beside.out_origins),
+    }
 }
 
 /// A call on these rings with document 01's flags 0 to 3 and buffer 0.
@@ -64,20 +110,40 @@ pub fn slice_call(flags: u8, part: &[Ring], beside: Beside) -> SliceCall {
         coords: part.iter().flat_map(|ring| flat(ring)).collect(),
         lengths: part.iter().map(|ring| ring.len() as u32).collect(),
         scratch: lent(2 * largest, beside.scratch),
+        origin_scratch: lent_origins(largest, beside.origin_scratch),
         order: lent_wholes(largest, beside.order),
         out: lent(2 * sum, beside.out),
         out_lengths: lent_wholes(part.len(), beside.out_lengths),
+        out_origins: lent_origins(sum, beside.out_origins),
     }
 }
 
-/// One vertex, with an output of seven numbers: none is left, and six zeros are written, B(1) being 3.
+/// One vertex, with an output of seven numbers and four origins: none is left, and six zeros and three are written, B(1) being 3.
 pub fn one_vertex() -> RingCall {
-    ring_call(&[(5., 5.)], Beside { out: 1, ..Beside::default() })
+    ring_call(&[(5., 5.)], Beside { out: 1, out_origins: 1, ..Beside::default() })
 }
 
-/// One coordinate with a NaN, which closed has two: dropped, and 22 zeros are written, B(2) being 11 and B(1) 3.
+/// One coordinate with a NaN, which closed has two: dropped, and 22 zeros and 11 are written, B(2) being 11 and B(1) 3.
 pub fn lone_nan() -> SliceCall {
-    slice_call(0, &[vec![(f64::NAN, 5.)]], Beside { out: 1, ..Beside::default() })
+    slice_call(0, &[vec![(f64::NAN, 5.)]], Beside { out: 1, out_origins: 1, ..Beside::default() })
+}
+
+/// Rings with the origins of the ring that a ring call cuts them to.
+pub fn ring_of_each_origin() -> Vec<(Ring, Vec<u16>)> {
+    vec![
+        (ACROSS_EAST.to_vec(), vec![0, RIGHT, RIGHT, 3, 0]),
+        (INSIDE.to_vec(), vec![0, 1, 2, 3, 0]),
+        // Vertices on a line, and crossings that equal them.
+        (vec![(10., 2.), (20., 2.), (20., 8.), (10., 8.)], vec![0, RIGHT, RIGHT, 3, 0]),
+        // The corner is made by Bottom out of vertices of Left.
+        (vec![(-5., -5.), (5., -5.), (5., 5.), (-5., 5.)], vec![BOTTOM, BOTTOM, 2, LEFT, BOTTOM]),
+        // The last vertex equals the crossing that the ring then begins with: Bottom leaves it off, and that crossing closes the ring.
+        (vec![(15., 5.), (5., 5.), (5., 8.), (10., 5.)], vec![RIGHT, RIGHT, 1, 2, RIGHT]),
+        // The last vertex equals the first, but for the sign of a zero: it is left off, and the first closes the ring.
+        (vec![(0., 0.), (5., 0.), (5., 5.), (-0., 0.)], vec![0, 1, 2, 0]),
+        // Around the bounds: each corner is made by Bottom or Top.
+        (vec![(-5., -5.), (15., -5.), (15., 15.), (-5., 15.)], vec![TOP, BOTTOM, BOTTOM, TOP, TOP]),
+    ]
 }
 
 /// Rings with the counts of coordinates that they are cut to. Of those that are cut to none the first has no vertex, Bottom and
@@ -162,7 +228,7 @@ pub fn exterior_of_each_reason() -> Vec<(Reason, &'static [u8], Ring)> {
     ]
 }
 
-/// A ring of as many coordinates as a call may have whose cut repeats corner 89,999, with flag 1. It is in and out of the east
+/// A ring of as many coordinates as a call may have, closed, whose cut repeats corner 89,999, with flag 1. It is in and out of the east
 /// bound at every vertex: vertex 2 k is cut to corner 3 k, and has a corner of the bound on either side. Vertex 60,000 lies on the
 /// bound itself.
 pub fn late_repeat() -> (Reason, Ring) {
@@ -171,7 +237,7 @@ pub fn late_repeat() -> (Reason, Ring) {
         _ if k.is_multiple_of(2) => 9.,
         _ => 11.,
     };
-    let ring = (0..65_535).map(|k| (across(k), 1. + f64::from(k) / 8_192.)).collect();
+    let ring = (0..65_531).map(|k| (across(k), 1. + f64::from(k) / 8_192.)).collect();
     (Reason { number: 9, first: 89_999, second: 0 }, ring)
 }
 

@@ -1,13 +1,14 @@
-//! Ring calls and slice calls: lent slices at the limits of 21 and 22, what mistaken readings leave in the output, and that the
+//! Ring calls and slice calls: lent slices at the limits of 21 and 22, what mistaken readings leave in the outputs, and that the
 //! generator meets what an output with zeros past the answer is easily wrong about.
 
 use std::collections::BTreeMap;
 
 use compare::calls::{ring_call, ring_label, slice_call, slice_label};
-use compare::worked::{self, unwritten, Beside, ACROSS_EAST};
+use compare::passes::worked_call;
+use compare::worked::{self, unwritten, unwritten_origin, Beside, ACROSS_EAST, RIGHT};
 use formats::calls::{RingCall, SliceAnswer, SliceCall};
 use formats::passes::{Edge, PassCall};
-use formats::room::{most_cut, most_passed};
+use formats::room::most_cut;
 use formats::{closed_length, flat, pairs, Bounds, Ring};
 use generator::Style;
 use reading::{Mistake, Reading};
@@ -25,34 +26,63 @@ fn slice_answer(call: &SliceCall) -> &'static str {
     slice_label(&oracle)
 }
 
-/// B(1) to B(5), worked by hand: 21 asks for twice as many numbers of the scratch slice, 22 of the output.
+/// A ring call with slices of these lengths: scratch, origin scratch, output, origins.
+fn ring_call_with(ring: Vec<f64>, [scratch, origin_scratch, out, out_origins]: [usize; 4]) -> RingCall {
+    RingCall {
+        ring,
+        bounds: worked::BOUNDS,
+        scratch: vec![7.0; scratch],
+        origin_scratch: vec![7; origin_scratch],
+        out: vec![7.0; out],
+        out_origins: vec![7; out_origins],
+    }
+}
+
+/// B(1) to B(5), worked by hand: 21 asks for twice as many numbers of the scratch slice and as many origins of theirs, 22 of the
+/// output.
 #[test]
 fn ring_calls_at_the_limits_of_21_and_22() {
     for (n, b) in [(1, 3), (2, 11), (3, 15), (4, 21), (5, 24)] {
-        let lent = |scratch: usize, out: usize| {
-            let ring = flat(&ACROSS_EAST[..n]);
-            ring_answer(&RingCall { ring, bounds: worked::BOUNDS, scratch: vec![7.0; scratch], out: vec![7.0; out] })
-        };
+        let lent = |lengths: [usize; 4]| ring_answer(&ring_call_with(flat(&ACROSS_EAST[..n]), lengths));
         let answer = if n < 3 { "empty" } else { "ring" };
+        let exact = [2 * b, b, 2 * b, b];
         for longer in [0, 1, 50] {
-            assert_eq!(lent(2 * b, 2 * b + longer), answer, "{n} vertices");
-            assert_eq!(lent(2 * b + longer, 2 * b), answer, "{n} vertices");
-            assert_eq!(lent(2 * b - 1, 2 * b + longer), "21", "{n} vertices");
-            assert_eq!(lent(2 * b + longer, 2 * b - 1), "22", "{n} vertices");
+            for slice in 0..4 {
+                let one_longer = |k: usize| exact[k] + if k == slice { longer } else { 0 };
+                assert_eq!(lent([0, 1, 2, 3].map(one_longer)), answer, "{n} vertices, slice {slice}");
+                let one_short = |k: usize| if k == slice { exact[k] - 1 } else { exact[k] + longer };
+                let refusal = if slice < 2 { "21" } else { "22" };
+                assert_eq!(lent([0, 1, 2, 3].map(one_short)), refusal, "{n} vertices, slice {slice}");
+            }
         }
-        assert_eq!(lent(2 * b - 1, 2 * b - 1), "21", "{n} vertices");
-        assert_eq!([lent(0, 2 * b), lent(2 * b, 0), lent(0, 0)], ["21", "22", "21"], "{n} vertices");
+        // 21 comes before 22.
+        for [scratch, out] in [[0, 2], [0, 3], [1, 2], [1, 3]] {
+            let mut both_short = exact;
+            both_short[scratch] -= 1;
+            both_short[out] -= 1;
+            assert_eq!(lent(both_short), "21", "{n} vertices");
+        }
+        assert_eq!(lent([0, b, 2 * b, b]), "21", "{n} vertices");
+        assert_eq!(lent([2 * b, 0, 2 * b, b]), "21", "{n} vertices");
+        assert_eq!(lent([2 * b, b, 0, b]), "22", "{n} vertices");
+        assert_eq!(lent([2 * b, b, 2 * b, 0]), "22", "{n} vertices");
     }
-    let nothing_lent = RingCall { ring: vec![], bounds: worked::BOUNDS, scratch: vec![], out: vec![] };
-    assert_eq!(ring_answer(&nothing_lent), "empty");
+    assert_eq!(ring_answer(&ring_call_with(vec![], [0; 4])), "empty");
     // 19 comes before 21 and 22.
-    assert_eq!(ring_answer(&RingCall { ring: vec![5.0; 3], ..nothing_lent }), "19");
+    assert_eq!(ring_answer(&ring_call_with(vec![5.0; 3], [0; 4])), "19");
 }
 
 /// Closed, the rings have five and three coordinates: S is B(5), which is 24, and B(3) is 15.
 #[test]
 fn slice_calls_at_the_limits_of_21_and_22() {
     for rings in [[ACROSS_EAST.to_vec(), vec![(6., 6.), (7., 7.)]], [vec![(6., 6.), (7., 7.)], ACROSS_EAST.to_vec()]] {
+        let with_origins = |origin_scratch: usize, out_origins: usize| {
+            slice_answer(&SliceCall {
+                origin_scratch: vec![7; origin_scratch],
+                out_origins: vec![7; out_origins],
+                ..worked::slice_call(3, &rings, Beside::default())
+            })
+        };
         let lent = |scratch: usize, order: usize, out: usize, out_lengths: usize| {
             slice_answer(&SliceCall {
                 scratch: vec![7.0; scratch],
@@ -72,7 +102,10 @@ fn slice_calls_at_the_limits_of_21_and_22() {
             assert_eq!(lent(48 + longer, 23, 78 + longer, 2 + longer), "21");
             assert_eq!(lent(48 + longer, 24 + longer, 77, 2 + longer), "22");
             assert_eq!(lent(48 + longer, 24 + longer, 78 + longer, 1), "22");
+            assert_eq!([with_origins(24 + longer, 39), with_origins(24, 39 + longer)], [answer; 2]);
+            assert_eq!([with_origins(23, 39 + longer), with_origins(24 + longer, 38)], ["21", "22"]);
         }
+        assert_eq!([with_origins(23, 38), with_origins(0, 39), with_origins(24, 0)], ["21", "21", "22"]);
         assert_eq!([lent(47, 24, 77, 1), lent(48, 23, 77, 1), lent(48, 24, 77, 1)], ["21", "21", "22"]);
         assert_eq!([lent(0, 24, 78, 2), lent(48, 0, 78, 2)], ["21", "21"]);
         assert_eq!([lent(48, 24, 0, 2), lent(48, 24, 78, 0)], ["22", "22"]);
@@ -111,6 +144,8 @@ fn a_mistaken_ring_call_leaves_what_the_mistake_says() {
         let call = worked::ring_call(ring, Beside { out: 2, ..Beside::default() });
         let after = ring_call(&Reading::with(mistake), &call);
         assert_eq!((after.answer, bits(&after.out)), (answer, bits(expected)), "{mistake:?}");
+        let right = ring_call(&Reading::RIGHT, &call);
+        assert!(answer < 0 || after.out_origins == right.out_origins, "{mistake:?}");
     };
     // B(1) is 3: of eight numbers six have to be zeros.
     let vertex = [(5., 5.)];
@@ -127,6 +162,65 @@ fn a_mistaken_ring_call_leaves_what_the_mistake_says() {
     // A scratch slice one number short.
     let short = worked::ring_call(&triangle, Beside { scratch: -1, ..Beside::default() });
     assert_eq!(ring_call(&Reading::with(Mistake::ScratchUnseen), &short).answer, 4);
+}
+
+/// The origins from one place of a lent slice up to another, as they were before the call.
+fn origins_as_they_were(from: usize, to: usize) -> Vec<u16> {
+    (from..to).map(unwritten_origin).collect()
+}
+
+#[test]
+fn a_mistaken_ring_call_leaves_origins_as_the_mistake_says() {
+    use Mistake::*;
+
+    let spare = Beside { origin_scratch: 2, out_origins: 40, ..Beside::default() };
+    let left = |mistake: Mistake, ring: &[(f64, f64)], origins: &[u16]| {
+        let call = worked::ring_call(ring, spare);
+        let (right, after) = (ring_call(&Reading::RIGHT, &call), ring_call(&Reading::with(mistake), &call));
+        assert_eq!((after.answer, bits(&after.out)), (right.answer, bits(&right.out)), "{mistake:?}");
+        assert_eq!((after.out_origins, after.origin_scratch), (origins.to_vec(), right.origin_scratch), "{mistake:?}");
+    };
+    // B(1) is 3, and B(5) 24.
+    let (vertex, cut) = ([(5., 5.)], vec![0, RIGHT, RIGHT, 3, 0]);
+    left(KeepsOriginsPastAnswer, &vertex, &origins_as_they_were(0, 43));
+    left(ClearsOriginsOnCutOnly, &vertex, &origins_as_they_were(0, 43));
+    left(ClearsOriginsToEnd, &vertex, &[0; 43]);
+    left(ClearsOriginsTwiceAsFar, &vertex, &[vec![0; 6], origins_as_they_were(6, 43)].concat());
+    left(KeepsOriginsPastAnswer, &ACROSS_EAST, &[cut.clone(), origins_as_they_were(5, 64)].concat());
+    left(ClearsOriginsOnCutOnly, &ACROSS_EAST, &[cut.clone(), vec![0; 19], origins_as_they_were(24, 64)].concat());
+    left(ClearsOriginsTwiceAsFar, &ACROSS_EAST, &[cut, vec![0; 43], origins_as_they_were(48, 64)].concat());
+    let scratch = |mistake: Mistake| {
+        let call = worked::ring_call(&ACROSS_EAST, spare);
+        ring_call(&Reading::with(mistake), &call).origin_scratch
+    };
+    assert_eq!(scratch(KeepsOriginScratch), origins_as_they_were(0, 26));
+    assert_eq!(scratch(ClearsOriginScratchUsed), [vec![0; 24], origins_as_they_were(24, 26)].concat());
+    // Slices one origin short, and exact.
+    let answer = |mistake: Mistake, origin_scratch: isize, out_origins: isize| {
+        let call = worked::ring_call(&ACROSS_EAST, Beside { origin_scratch, out_origins, ..Beside::default() });
+        ring_call(&Reading::with(mistake), &call).answer
+    };
+    assert_eq!([answer(OriginScratchUnseen, -1, 0), answer(OriginScratchUnseen, 0, -1)], [5, -22]);
+    assert_eq!([answer(OriginsUnseen, 0, -1), answer(OriginsUnseen, -1, 0)], [5, -21]);
+    assert_eq!([answer(ShortOriginScratchIs22, -1, 0), answer(ShortOriginsAre21, 0, -1)], [-22, -21]);
+    assert_eq!([answer(OriginScratchInNumbers, 23, 0), answer(OriginScratchInNumbers, 24, 0)], [-21, 5]);
+    assert_eq!([answer(OriginsInNumbers, 0, 23), answer(OriginsInNumbers, 0, 24)], [-22, 5]);
+    let refused = worked::ring_call(&ACROSS_EAST, Beside { out: -1, ..Beside::default() });
+    let after = ring_call(&Reading::with(WritesOriginsBeforeRefusing), &refused);
+    assert_eq!((after.answer, after.origin_scratch), (-22, vec![0; 24]));
+}
+
+#[test]
+fn a_mistaken_slice_call_leaves_origins_as_the_mistake_says() {
+    let call = worked::slice_call(0, &[ACROSS_EAST.to_vec()], Beside { out_origins: 1, ..Beside::default() });
+    let left = |mistake: Mistake| slice_call(&Reading::with(mistake), &call).out_origins;
+    // The bridge along the east bound is found once the exterior is cut. B(5) is 24.
+    let cut = vec![0, RIGHT, RIGHT, 3, 0];
+    assert_eq!(left(Mistake::OverlayLeavesCut), [vec![0; 24], origins_as_they_were(24, 25)].concat());
+    assert_eq!(left(Mistake::OverlayLeavesOrigins), [cut, vec![0; 19], origins_as_they_were(24, 25)].concat());
+    assert_eq!(left(Mistake::ClearsOriginsOnCutOnly), origins_as_they_were(0, 25));
+    let two_rings = worked::slice_call(0, &[ACROSS_EAST.to_vec(), ACROSS_EAST.to_vec()], Beside::default());
+    assert_eq!(slice_call(&Reading::with(Mistake::OriginScratchBySum), &two_rings).answer, -21);
 }
 
 #[test]
@@ -182,17 +276,24 @@ fn the_generator_meets_every_shape_of_a_ring_call() {
     let mut met = Met::new();
     for call in specimens(generator::ring_call, |call| call.ring.len()) {
         assert!(call.out.iter().chain(&call.scratch).all(|&number| number != 0.0), "a zero is lent");
+        assert!(call.out_origins.iter().chain(&call.origin_scratch).all(|&origin| origin != 0), "a zero is lent");
         count(&mut met, ring_shapes(&call));
     }
     let mut expected = Vec::new();
     for answer in ["ring", "empty"] {
-        expected.extend(each_length(answer, "output", ["exact", "longer by one", "longer by many"]));
-        expected.extend(each_length(answer, "scratch", ["exact", "longer by one", "longer by many"]));
+        for slice in ["output", "scratch", "origins", "origin scratch"] {
+            expected.extend(each_length(answer, slice, ["exact", "longer by one", "longer by many"]));
+        }
         expected.push(format!("{answer}, open"));
     }
-    expected.extend(each_length("21", "output", ["exact", "one short", "longer by many"]));
-    expected.extend(each_length("22", "scratch", ["exact", "longer by one", "longer by many"]));
-    expected.extend(["21, scratch one short", "22, output one short"].map(String::from));
+    for slice in ["output", "origins"] {
+        expected.extend(each_length("21", slice, ["exact", "one short", "longer by many"]));
+        expected.extend(each_length("22", slice, ["one short"]));
+    }
+    for slice in ["scratch", "origin scratch"] {
+        expected.extend(each_length("22", slice, ["exact", "longer by one", "longer by many"]));
+        expected.extend(each_length("21", slice, ["one short"]));
+    }
     expected.extend(["none after Bottom", "none after Top", "too few after Top"].map(String::from));
     assert_met(&met, &expected);
 }
@@ -203,21 +304,25 @@ fn the_generator_meets_every_shape_of_a_slice_call() {
     for call in specimens(generator::slice_call, |call| call.coords.len()) {
         assert!(call.out.iter().chain(&call.scratch).all(|&number| number != 0.0), "a zero is lent");
         assert!(call.order.iter().chain(&call.out_lengths).all(|&whole| whole != 0), "a zero is lent");
+        assert!(call.out_origins.iter().chain(&call.origin_scratch).all(|&origin| origin != 0), "a zero is lent");
         count(&mut met, slice_shapes(&call));
     }
     let mut expected = Vec::new();
     let before_a_cut = ["nothing", "dropped", "unchanged", "overlay"];
     let behind_a_cut = ["cut", "nothing behind a cut", "dropped behind a cut", "overlay behind a cut"];
     for answer in before_a_cut.into_iter().chain(behind_a_cut) {
-        for slice in ["output", "scratch", "order"] {
+        for slice in ["output", "scratch", "order", "origins", "origin scratch"] {
             expected.extend(each_length(answer, slice, ["exact", "longer by one", "longer by many"]));
         }
         expected.push(format!("{answer}, a ring open"));
         expected.push(format!("{answer}, several rings"));
     }
-    expected.extend(each_length("21", "scratch", ["exact", "one short", "longer by many"]));
-    expected.extend(each_length("21", "order", ["exact", "one short", "longer by many"]));
-    expected.extend(each_length("22", "output", ["exact", "one short", "longer by many"]));
+    for slice in ["scratch", "order", "origin scratch"] {
+        expected.extend(each_length("21", slice, ["exact", "one short", "longer by many"]));
+    }
+    for slice in ["output", "origins"] {
+        expected.extend(each_length("22", slice, ["exact", "one short", "longer by many"]));
+    }
     expected.push("nothing behind a cut, none after Bottom".to_string());
     expected.push("a hole left out before one that stays".to_string());
     expected.push("a hole of which none is left after Bottom before one that stays".to_string());
@@ -264,6 +369,8 @@ fn ring_shapes(call: &RingCall) -> Vec<String> {
     let mut shapes = vec![
         format!("{answer}, output {}", beside(call.out.len(), call.room())),
         format!("{answer}, scratch {}", beside(call.scratch.len(), call.room())),
+        format!("{answer}, origins {}", beside(call.out_origins.len(), call.origin_room())),
+        format!("{answer}, origin scratch {}", beside(call.origin_scratch.len(), call.origin_room())),
     ];
     let ring = pairs(&call.ring);
     if closed_length(&ring) != ring.len() {
@@ -277,12 +384,11 @@ fn ring_shapes(call: &RingCall) -> Vec<String> {
 
 /// Where the last vertices of a ring that is cut to none are lost, if Left and Right leave any.
 fn last_vertices(ring: &Ring, bounds: Bounds) -> Option<&'static str> {
-    let mut numbers = flat(ring);
+    let mut ring = ring.clone();
     let left = Edge::ALL.map(|edge| {
-        let out = vec![0.0; 2 * most_passed(numbers.len() / 2)];
-        let call = PassCall { ring: numbers.clone(), edge, bounds, out };
-        numbers = oracle::pass(&call).expect("the output has room").numbers;
-        numbers.len() / 2
+        let call = PassCall { bounds, ..worked_call(&ring, edge, 0) };
+        ring = oracle::pass(&call).expect("every slice has room").cut.ring;
+        ring.len()
     });
     match left {
         [_, 0, _, _] => None,
@@ -307,6 +413,8 @@ fn slice_shapes(call: &SliceCall) -> Vec<String> {
         format!("{answer}, output {}", beside(call.out.len(), call.room())),
         format!("{answer}, scratch {}", beside(call.scratch.len(), 2 * largest)),
         format!("{answer}, order {}", beside(call.order.len(), largest)),
+        format!("{answer}, origins {}", beside(call.out_origins.len(), call.origin_room())),
+        format!("{answer}, origin scratch {}", beside(call.origin_scratch.len(), largest)),
     ];
     if rings.iter().any(|ring| closed_length(ring) != ring.len()) {
         shapes.push(format!("{answer}, a ring open"));
@@ -345,7 +453,7 @@ fn hole_shapes(holes: &[Ring], bounds: Bounds) -> Vec<&'static str> {
         let mut ring = hole.clone();
         ring.extend((closed_length(hole) > hole.len()).then(|| hole[0]));
         let cut = RingCall { bounds, ..worked::ring_call(&ring, Beside::default()) };
-        oracle::ring_call(&cut).expect("every slice has room").len() >= 8
+        oracle::ring_call(&cut).expect("every slice has room").ring.len() >= 4
     };
     let last = holes.iter().rposition(stays).unwrap_or(0);
     let left_out: Vec<&Ring> = holes[..last].iter().filter(|hole| !stays(hole)).collect();

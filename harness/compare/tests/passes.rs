@@ -1,10 +1,11 @@
-//! The count of verdicts: on rings worked by hand, by document 02's sentence, and as mistaken readings have it; and that the
-//! generator meets what is easily miscounted.
+//! The count of verdicts and the origins of a pass: on rings worked by hand, by document 02's sentence, and as mistaken readings have
+//! it; and that the generator meets what is easily miscounted.
 
 use std::collections::BTreeMap;
 
 use compare::passes::{pass, worked_call, WORKED};
 use formats::calls::MOST_COORDINATES;
+use formats::origins::line_of;
 use formats::passes::{Edge, PassAfter, PassCall};
 use formats::room::most_passed;
 use formats::{flat, pairs, same_numbers, Coord};
@@ -19,6 +20,24 @@ fn worked_rings_have_their_counts() {
             let oracle = call.after(oracle::pass(&call).as_ref());
             assert_eq!(oracle.verdicts, Some(verdicts), "the Rust, {name}, {edge:?}");
             assert_eq!(oracle.difference(&pass(&Reading::RIGHT, &call)), None, "the reading, {name}, {edge:?}");
+        }
+    }
+}
+
+/// A triangle across the line, open: in, out, in. Its vertices come from 100, 101 and 102.
+#[test]
+fn a_kept_vertex_keeps_its_origin_and_a_crossing_has_the_line() {
+    for (edge, line, out) in [
+        (Edge::Left, 65_532, (-5., 5.)),
+        (Edge::Right, 65_533, (15., 5.)),
+        (Edge::Bottom, 65_534, (5., -5.)),
+        (Edge::Top, 65_535, (5., 15.)),
+    ] {
+        let call = worked_call(&[(4., 4.), out, (6., 6.)], edge, 0);
+        let mut expected = vec![100, line, line, 102];
+        expected.resize(call.out_origins.len(), 7);
+        for after in [call.after(oracle::pass(&call).as_ref()), pass(&Reading::RIGHT, &call)] {
+            assert_eq!((after.answer, after.out_origins.as_slice()), (4, &expected[..]), "{edge:?}");
         }
     }
 }
@@ -76,7 +95,7 @@ fn the_generator_meets_every_shape_at_every_edge() {
             *met.entry((call.edge, shape)).or_insert(false) |= has;
         }
     }
-    assert_eq!(met.len(), 4 * 15);
+    assert_eq!(met.len(), 4 * 20);
     let missed: Vec<_> = met.iter().filter(|(_, is_met)| !**is_met).collect();
     assert_eq!(missed, []);
 }
@@ -87,7 +106,7 @@ fn specimens(count: u64) -> impl Iterator<Item = PassCall> {
 }
 
 /// Whether a pass has each of these.
-fn shapes(call: &PassCall) -> [(&'static str, bool); 15] {
+fn shapes(call: &PassCall) -> [(&'static str, bool); 20] {
     let ring = pairs(&call.ring);
     let (n, asked) = (ring.len(), 2 * most_passed(ring.len()));
     let ends_equal = ring.first() == ring.last();
@@ -109,6 +128,11 @@ fn shapes(call: &PassCall) -> [(&'static str, bool); 15] {
         ("room to the number", call.out.len() == asked),
         ("one number too little room", call.out.len() + 1 == asked),
         ("more room", call.out.len() > asked),
+        ("origins to the vertex", call.out_origins.len() == asked / 2),
+        ("room for one origin too few", call.out.len() >= asked && call.out_origins.len() + 1 == asked / 2),
+        ("more room for origins", call.out_origins.len() > asked / 2),
+        ("one vertex without an origin", call.origins.len() + 1 == n),
+        ("vertices of lines", call.origins.iter().any(|&origin| line_of(origin).is_some())),
     ]
 }
 

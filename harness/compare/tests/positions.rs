@@ -193,7 +193,7 @@ fn looked_at(reason: Reason, bounds: Bounds, buffer: f64, exterior: &Ring) -> us
 fn cut_length([west, south, east, north]: Bounds, buffer: f64, exterior: &Ring) -> usize {
     let bounds = [west - buffer, south - buffer, east + buffer, north + buffer];
     let cut = RingCall { bounds, ..worked::ring_call(exterior, Beside::default()) };
-    oracle::ring_call(&cut).expect("every slice has room").len() / 2
+    oracle::ring_call(&cut).expect("every slice has room").ring.len()
 }
 
 /// What the port has to choose among where it sweeps: one pair alone is found whatever is taken for the first.

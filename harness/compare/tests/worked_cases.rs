@@ -1,13 +1,12 @@
 //! Document 01's worked cases on bounds 0, 0, 10, 10 with buffer 0, against the Rust and the second reading; and of document 02's
-//! point 4 the two inputs that tell its readings apart.
+//! point 4 the two inputs that tell its readings apart. Coordinates of cuts have the origins of point 12.
 
 use compare::calls::{ring_call, slice_call};
-use compare::worked::{self, unwritten};
+use compare::worked::{self, unwritten, unwritten_origin, Beside, BOTTOM, LEFT, RIGHT};
 use formats::answer::{Answer, Listed, ListedPart};
-use formats::calls::RingCall;
 use formats::frame::{Frame, MULTIPOLYGON, POLYGON};
 use formats::reason::merged;
-use formats::{same_numbers, Coord};
+use formats::{flat, same_numbers, Coord};
 use reading::Reading;
 
 const ROOM: usize = 60_000;
@@ -21,13 +20,15 @@ fn overlay(reason: u8, first: u8, second: u8) -> [u8; 13] {
     [3, 0, 0, 1, 0, 0, 0, 5, reason, first, 0, second, 0]
 }
 
-/// The one listed part is part 0, cut to this ring.
-fn cut(ring: &[Coord]) -> Vec<u8> {
+/// The one listed part is part 0, cut to this ring, whose vertices have these origins.
+fn cut(ring: &[Coord], origins: &[u16]) -> Vec<u8> {
+    assert_eq!(ring.len(), origins.len());
     let mut bytes = vec![3, 0, 0, 1, 0, 0, 0, 4, 0, 1, 0];
     bytes.extend((ring.len() as u16).to_le_bytes());
-    for (x, y) in ring {
+    for ((x, y), origin) in ring.iter().zip(origins) {
         bytes.extend(x.to_le_bytes());
         bytes.extend(y.to_le_bytes());
+        bytes.extend(origin.to_le_bytes());
     }
     bytes
 }
@@ -56,7 +57,8 @@ fn square_inside() {
 #[test]
 fn square_across_the_east_bound() {
     let ring = [(5., 5.), (15., 5.), (15., 8.), (5., 8.), (5., 5.)];
-    assert_polygon(&[3], &ring, &cut(&[(5., 5.), (10., 5.), (10., 8.), (5., 8.), (5., 5.)]));
+    let origins = [0, RIGHT, RIGHT, 3, 0];
+    assert_polygon(&[3], &ring, &cut(&[(5., 5.), (10., 5.), (10., 8.), (5., 8.), (5., 5.)], &origins));
     assert_polygon(&[0, 1, 2], &ring, &overlay(4, 0, 0));
 }
 
@@ -136,29 +138,30 @@ fn triangle_apart() {
 fn overflowing_differences_close_twice() {
     let ring = [(8., 8.), (1e308, 1e308), (-1.7e308, -1.7e308), (8., 8.)];
     let nan = (f64::from_bits(0x7ff8_0000_0000_0000), 0.);
-    assert_polygon(&[3], &ring, &cut(&[nan, (0., 0.), (8., 8.), (10., 10.), nan, nan, nan]));
+    let origins = [BOTTOM, LEFT, 0, RIGHT, BOTTOM, BOTTOM, BOTTOM];
+    assert_polygon(&[3], &ring, &cut(&[nan, (0., 0.), (8., 8.), (10., 10.), nan, nan, nan], &origins));
 }
 
-/// What a ring call answers and the numbers it writes.
-fn assert_cut_ring(ring: &[f64], expected: &[f64]) {
-    let lent = vec![1.0; 64];
-    let call = RingCall { ring: ring.to_vec(), bounds: [0.0, 0.0, 10.0, 10.0], scratch: lent.clone(), out: lent };
-    let cut = oracle::ring_call(&call).unwrap();
-    assert!(same_numbers(&cut, expected), "the Rust, {ring:?}: {cut:?}");
-    let after = ring_call(&Reading::RIGHT, &call);
-    assert_eq!(after.answer, expected.len() as i64 / 2, "the reading, {ring:?}");
-    assert!(same_numbers(&after.out[..expected.len()], expected), "the reading, {ring:?}: {:?}", after.out);
+/// What a ring call answers and the numbers and origins it writes.
+fn assert_cut_ring(ring: &[Coord], expected: &[Coord], origins: &[u16]) {
+    let call = worked::ring_call(ring, Beside::all(10));
+    for after in [call.after(&oracle::ring_call(&call)), ring_call(&Reading::RIGHT, &call)] {
+        assert_eq!(after.answer, expected.len() as i64, "{ring:?}");
+        assert!(same_numbers(&after.out[..2 * expected.len()], &flat(expected)), "{ring:?}: {:?}", after.out);
+        assert_eq!(after.out_origins[..expected.len()], *origins, "{ring:?}");
+    }
 }
 
 #[test]
 fn ring_cutter_gives_none() {
-    assert_cut_ring(&[1., 1., 2., 2., 1., 1., 1., 1.], &[]);
+    assert_cut_ring(&[(1., 1.), (2., 2.), (1., 1.), (1., 1.)], &[], &[]);
 }
 
+/// The ring call closes once: the closing vertex has the origin of the first.
 #[test]
 fn ring_cutter_gives_a_nan() {
-    let (infinity, nan) = (f64::INFINITY, f64::NAN);
-    assert_cut_ring(&[5., 5., infinity, infinity], &[nan, 0., 5., 5., nan, 0., nan, 0.]);
+    let (infinity, nan) = (f64::INFINITY, (f64::NAN, 0.));
+    assert_cut_ring(&[(5., 5.), (infinity, infinity)], &[nan, (5., 5.), nan, nan], &[BOTTOM, 0, BOTTOM, BOTTOM]);
 }
 
 /// So many zeros, none of them negative, and behind them what was lent.
@@ -167,7 +170,12 @@ fn assert_zeros(out: &[f64], zeros: usize) {
     assert!(out.iter().map(|number| number.to_bits()).eq(expected.map(f64::to_bits)), "{out:?}");
 }
 
-/// On one vertex an output of seven numbers gets six zeros, and the seventh stays.
+fn assert_zero_origins(origins: &[u16], zeros: usize) {
+    let expected = (0..origins.len()).map(|place| if place < zeros { 0 } else { unwritten_origin(place) });
+    assert!(origins.iter().copied().eq(expected), "{origins:?}");
+}
+
+/// On one vertex an output of seven numbers gets six zeros, and the seventh stays; of four origins the fourth stays.
 #[test]
 fn a_ring_call_that_leaves_no_vertex_writes_zeros() {
     let call = worked::one_vertex();
@@ -176,6 +184,9 @@ fn a_ring_call_that_leaves_no_vertex_writes_zeros() {
         assert_eq!(after.answer, 0);
         assert_zeros(&after.scratch, after.scratch.len());
         assert_zeros(&after.out, 6);
+        assert_zero_origins(&after.origin_scratch, after.origin_scratch.len());
+        assert_zero_origins(&after.out_origins, 3);
+        assert_eq!(after.out_origins.len(), 4);
     }
 }
 
@@ -189,6 +200,9 @@ fn a_slice_call_that_drops_writes_zeros_for_the_closed_ring() {
         assert_zeros(&after.scratch, after.scratch.len());
         assert_zeros(&after.out, 22);
         assert!(after.out.len() > 22);
+        assert_zero_origins(&after.origin_scratch, after.origin_scratch.len());
+        assert_zero_origins(&after.out_origins, 11);
+        assert!(after.out_origins.len() > 11);
         assert!(after.order.iter().all(|&position| position == 0));
         assert_eq!(after.out_lengths, call.out_lengths);
     }

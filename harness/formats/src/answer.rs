@@ -3,8 +3,9 @@
 use std::fmt::{self, Display};
 
 use crate::cursor::Cursor;
+use crate::origins::{in_words, CutRing};
 use crate::reason::Reason;
-use crate::{flat, Refusal, Ring};
+use crate::Refusal;
 
 #[derive(Debug)]
 pub enum Answer {
@@ -23,19 +24,28 @@ pub struct ListedPart {
 #[derive(Debug)]
 pub enum Listed {
     Unchanged,
-    Cut(Vec<Ring>),
+    Cut(Vec<CutRing>),
     Overlay(Reason),
 }
 
 impl Answer {
     pub fn encode(&self) -> Vec<u8> {
+        self.encode_with(encode_ring)
+    }
+
+    /// The answer as document 01 has it, without origins.
+    pub fn encode_without_origins(&self) -> Vec<u8> {
+        self.encode_with(encode_coordinates)
+    }
+
+    fn encode_with(&self, encode_ring: fn(&CutRing, &mut Vec<u8>)) -> Vec<u8> {
         match self {
             Answer::Nothing { guard_count } => head(0, *guard_count, 0),
             Answer::Dropped => head(1, 1, 0),
             Answer::Unchanged => head(2, 0, 0),
             Answer::Listed { guard_count, parts } => {
                 let mut bytes = head(3, *guard_count, parts.len() as u16);
-                parts.iter().for_each(|part| part.encode(&mut bytes));
+                parts.iter().for_each(|part| part.encode(encode_ring, &mut bytes));
                 bytes
             }
         }
@@ -69,7 +79,7 @@ fn head(answer: u8, guard_count: u16, listed: u16) -> Vec<u8> {
 }
 
 impl ListedPart {
-    fn encode(&self, bytes: &mut Vec<u8>) {
+    fn encode(&self, encode_ring: fn(&CutRing, &mut Vec<u8>), bytes: &mut Vec<u8>) {
         bytes.extend(self.index.to_le_bytes());
         match &self.listed {
             Listed::Unchanged => bytes.extend([2, 0]),
@@ -90,7 +100,7 @@ impl ListedPart {
         let index = cursor.count().ok()? as u16;
         let listed = match cursor.take().ok()? {
             [2, 0] => Listed::Unchanged,
-            [4, 0] => Listed::Cut(cursor.part().ok()?),
+            [4, 0] => Listed::Cut(cursor.cut_part().ok()?),
             [5, number] => Listed::Overlay(decode_reason(number, cursor)?),
             _ => return None,
         };
@@ -110,12 +120,23 @@ fn decode_reason(number: u8, cursor: &mut Cursor) -> Option<Reason> {
     reason.is_possible().then_some(reason)
 }
 
-fn encode_ring(ring: &Ring, bytes: &mut Vec<u8>) {
-    bytes.extend((ring.len() as u16).to_le_bytes());
-    for number in flat(ring) {
-        let written = if number.is_nan() { 0x7ff8_0000_0000_0000 } else { number.to_bits() };
-        bytes.extend(written.to_le_bytes());
+fn encode_ring(cut: &CutRing, bytes: &mut Vec<u8>) {
+    bytes.extend((cut.ring.len() as u16).to_le_bytes());
+    for ((x, y), origin) in cut.vertices() {
+        bytes.extend(written(x));
+        bytes.extend(written(y));
+        bytes.extend(origin.to_le_bytes());
     }
+}
+
+fn encode_coordinates(cut: &CutRing, bytes: &mut Vec<u8>) {
+    bytes.extend((cut.ring.len() as u16).to_le_bytes());
+    bytes.extend(cut.ring.iter().flat_map(|&(x, y)| [written(x), written(y)].concat()));
+}
+
+fn written(number: f64) -> [u8; 8] {
+    let bits = if number.is_nan() { 0x7ff8_0000_0000_0000 } else { number.to_bits() };
+    bits.to_le_bytes()
 }
 
 impl Display for Answer {
@@ -143,8 +164,9 @@ impl Display for ListedPart {
             Listed::Unchanged => write!(f, "unchanged"),
             Listed::Overlay(reason) => write!(f, "overlay, {reason}"),
             Listed::Cut(rings) => {
-                let shown = |ring: &Ring| ring.iter().map(|(x, y)| format!("({x},{y})")).collect::<String>();
-                write!(f, "cut {}", rings.iter().map(shown).collect::<Vec<_>>().join(" hole "))
+                let vertex = |((x, y), origin)| format!("({x},{y}) {}", in_words(origin));
+                let shown = |cut: &CutRing| cut.vertices().map(vertex).collect::<Vec<_>>().join(", ");
+                write!(f, "cut {}", rings.iter().map(shown).collect::<Vec<_>>().join("; hole "))
             }
         }
     }
@@ -157,15 +179,18 @@ mod tests {
     #[test]
     fn an_answer_is_read_as_it_was_written() {
         let ring = vec![(0.5, 1.0), (2.0, -3.0), (4.0, 5.0), (0.5, 1.0)];
+        let exterior = CutRing { ring: ring.clone(), origins: vec![0, 258, 65_535, 0] };
+        let hole = CutRing { ring, origins: vec![65_532, 65_533, 65_534, 65_532] };
         let parts = vec![
             ListedPart { index: 0, listed: Listed::Unchanged },
-            ListedPart { index: 2, listed: Listed::Cut(vec![ring.clone(), ring]) },
+            ListedPart { index: 2, listed: Listed::Cut(vec![exterior, hole]) },
             ListedPart { index: 258, listed: Listed::Overlay(Reason::without_positions(6)) },
             ListedPart { index: 3, listed: Listed::Overlay(Reason { number: 7, first: 315, second: 0 }) },
             ListedPart { index: 4, listed: Listed::Overlay(Reason { number: 10, first: 258, second: 1_609 }) },
         ];
         let words = "part 0 unchanged; \
-                     part 2 cut (0.5,1)(2,-3)(4,5)(0.5,1) hole (0.5,1)(2,-3)(4,5)(0.5,1); \
+                     part 2 cut (0.5,1) corner 0, (2,-3) corner 258, (4,5) Top, (0.5,1) corner 0; \
+                     hole (0.5,1) Left, (2,-3) Right, (4,5) Bottom, (0.5,1) Left; \
                      part 258 overlay, reason 6; part 3 overlay, reason 7: corner 315 is repeated; \
                      part 4 overlay, reason 10: edges 258 and 1609 of the cut cross; guard count 513";
         for (answer, words) in [
@@ -182,6 +207,23 @@ mod tests {
             assert!(Answer::decode(&bytes[..bytes.len() - 1]).is_none());
             assert!(Answer::decode(&[&bytes[..], &[0]].concat()).is_none());
         }
+    }
+
+    /// A coordinate of a cut has 18 bytes: x, y, origin. Without origins it has the 16 of a frame that is lent.
+    #[test]
+    fn a_coordinate_is_followed_by_its_origin() {
+        let cut = CutRing { ring: vec![(0.5, f64::NAN), (2.0, -0.0)], origins: vec![258, 65_534] };
+        let parts = vec![ListedPart { index: 1, listed: Listed::Cut(vec![cut]) }];
+        let answer = Answer::Listed { guard_count: 0, parts };
+        let head = [3, 0, 0, 1, 0, 1, 0, 4, 0, 1, 0, 2, 0];
+        let numbers = [0x3fe0, 0x7ff8, 0x4000, 0x8000_u64].map(|high| (high << 48).to_le_bytes());
+        let coordinates = [numbers[..2].concat(), numbers[2..].concat()];
+        let origins = [[2, 1], [0xfe, 0xff]];
+        let bytes = [&head, &coordinates[0][..], &origins[0], &coordinates[1], &origins[1]].concat();
+        assert_eq!(answer.encode(), bytes);
+        assert_eq!(answer.encode_without_origins(), [&head, &coordinates[0][..], &coordinates[1]].concat());
+        assert_eq!(Answer::decode(&bytes).unwrap().unwrap().encode(), bytes);
+        assert!(Answer::decode(&answer.encode_without_origins()).is_none());
     }
 
     /// An overlay part has eight bytes: number, 5, reason, first and second position.

@@ -1,7 +1,8 @@
 //! Counts, numbers and rings read from bytes, one behind the other.
 
 use crate::frame::{MOST_COORDINATES, MOST_RINGS};
-use crate::{Part, Refusal, Ring};
+use crate::origins::CutRing;
+use crate::{Coord, Part, Refusal};
 
 /// The bytes not read yet; what is not whole is refused with 15.
 pub(crate) struct Cursor<'a> {
@@ -23,19 +24,36 @@ impl Cursor<'_> {
         self.take().map(f64::from_le_bytes)
     }
 
+    /// A part as it is lent.
     pub fn part(&mut self) -> Result<Part, Refusal> {
+        self.rings(|cursor| cursor.coordinate())
+    }
+
+    /// A cut part, as it is answered: an origin follows each coordinate.
+    pub fn cut_part(&mut self) -> Result<Vec<CutRing>, Refusal> {
+        self.rings(|cursor| Ok((cursor.coordinate()?, cursor.count()? as u16)))
+    }
+
+    fn rings<T, R: FromIterator<T>>(
+        &mut self,
+        vertex: impl Fn(&mut Self) -> Result<T, Refusal>,
+    ) -> Result<Vec<R>, Refusal> {
         let ring_count = self.count()?;
         if !(1..=MOST_RINGS).contains(&ring_count) {
             return Err(16);
         }
-        (0..ring_count).map(|_| self.ring()).collect()
+        (0..ring_count).map(|_| self.ring(&vertex)).collect()
     }
 
-    fn ring(&mut self) -> Result<Ring, Refusal> {
+    fn ring<T, R: FromIterator<T>>(&mut self, vertex: impl Fn(&mut Self) -> Result<T, Refusal>) -> Result<R, Refusal> {
         let coordinate_count = self.count()?;
         if coordinate_count > MOST_COORDINATES {
             return Err(17);
         }
-        (0..coordinate_count).map(|_| Ok((self.number()?, self.number()?))).collect()
+        (0..coordinate_count).map(|_| vertex(self)).collect()
+    }
+
+    fn coordinate(&mut self) -> Result<Coord, Refusal> {
+        Ok((self.number()?, self.number()?))
     }
 }

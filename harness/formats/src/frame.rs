@@ -16,6 +16,9 @@ pub const MOST_COORDINATES: usize = 4_096;
 /// The output bytes that a frame of no parts asks for: an answer with nothing listed.
 pub const LEAST_ROOM: usize = 5;
 
+/// The bytes of a coordinate in an answer: x, y and its origin. In a frame that is lent it has no origin.
+pub const ANSWERED_COORDINATE: usize = 18;
+
 #[derive(Clone, Debug)]
 pub struct Frame {
     pub kind: u8,
@@ -75,7 +78,7 @@ impl Frame {
     pub fn room(&self) -> usize {
         let part = |rings: &Part| {
             let most: usize = rings.iter().map(|ring| most_cut(closed_length(ring))).sum();
-            6 + 2 * rings.len() + 16 * most
+            6 + 2 * rings.len() + ANSWERED_COORDINATE * most
         };
         LEAST_ROOM + self.parts.iter().map(part).sum::<usize>()
     }
@@ -83,4 +86,31 @@ impl Frame {
 
 fn put_count(bytes: &mut Vec<u8>, count: usize) {
     bytes.extend((count as u16).to_le_bytes());
+}
+
+#[cfg(test)]
+mod tests {
+    use super::{Frame, MULTIPOLYGON};
+
+    fn room(parts: Vec<Vec<Vec<(f64, f64)>>>) -> usize {
+        Frame { kind: MULTIPOLYGON, flags: 0, bounds: [0.0; 4], buffer: 0.0, parts }.room()
+    }
+
+    /// B(5) is 24, and B(2) 11.
+    #[test]
+    fn room_is_18_bytes_a_coordinate() {
+        assert_eq!(room(vec![]), 5);
+        assert_eq!(room(vec![vec![vec![(2.0, 2.0); 5]]]), 5 + 8 + 18 * 24);
+        assert_eq!(room(vec![vec![vec![(f64::NAN, 2.0)], vec![]]]), 5 + 10 + 18 * 11);
+    }
+
+    /// Rings of one NaN coordinate, which closing makes two: 281 in nine parts fill a frame of 5,120 bytes.
+    #[test]
+    fn no_frame_asks_for_more_than_56_259_bytes() {
+        let part = |rings: usize| vec![vec![(f64::NAN, 0.0)]; rings];
+        let parts: Vec<_> = [vec![part(32); 8], vec![part(25)]].concat();
+        let frame = Frame { kind: MULTIPOLYGON, flags: 0, bounds: [0.0; 4], buffer: 0.0, parts };
+        assert!(Frame::decode(&frame.encode()).is_ok());
+        assert_eq!(frame.room(), 56_259);
+    }
 }

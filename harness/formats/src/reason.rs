@@ -89,12 +89,12 @@ mod tests {
         assert!(!is_possible(0, 0, 0) && !is_possible(11, 0, 0));
     }
 
-    /// 331,776 is the highest position that there is, B(65,536) being 331,778 coordinates with the closing one; it needs more
+    /// 331,755 is the highest position that there is, B(65,532) being 331,757 coordinates with the closing one; it needs more
     /// than 16 bits.
     #[test]
     fn a_code_holds_both_positions() {
-        let reason = Reason { number: 10, first: 331_774, second: 331_776 };
-        assert_eq!(reason.code(), 10 * 256 + 331_774 * 65_536 + 331_776 * 1_099_511_627_776);
+        let reason = Reason { number: 10, first: 331_753, second: 331_755 };
+        assert_eq!(reason.code(), 10 * 256 + 331_753 * 65_536 + 331_755 * 1_099_511_627_776);
         assert_eq!(Reason::of_code(5 + reason.code()), reason);
     }
 

@@ -23,7 +23,8 @@ pub fn shortened<T: Debug>(values: &[T]) -> String {
 impl Display for RingCall {
     fn fmt(&self, f: &mut fmt::Formatter) -> fmt::Result {
         write!(f, "ring {} in {:?}, ", shortened(&self.ring), self.bounds)?;
-        write!(f, "lent scratch {}, output {}", self.scratch.len(), self.out.len())
+        write!(f, "lent scratch {}, origin scratch {}, ", self.scratch.len(), self.origin_scratch.len())?;
+        write!(f, "output {}, origins {}", self.out.len(), self.out_origins.len())
     }
 }
 
@@ -32,15 +33,17 @@ impl Display for SliceCall {
         write!(f, "numbers {} of lengths {:?} ", shortened(&self.coords), self.lengths)?;
         write!(f, "in {:?}, buffer {:?}, ", self.bounds, self.buffer)?;
         write!(f, "assume_simple {}, skip_boundary_fallback {}, ", self.assume_simple, self.skip_boundary_fallback)?;
-        write!(f, "lent scratch {}, order {}, ", self.scratch.len(), self.order.len())?;
-        write!(f, "output {}, lengths {}", self.out.len(), self.out_lengths.len())
+        write!(f, "lent scratch {}, origin scratch {}, ", self.scratch.len(), self.origin_scratch.len())?;
+        write!(f, "order {}, output {}, ", self.order.len(), self.out.len())?;
+        write!(f, "lengths {}, origins {}", self.out_lengths.len(), self.out_origins.len())
     }
 }
 
 impl Display for PassCall {
     fn fmt(&self, f: &mut fmt::Formatter) -> fmt::Result {
-        write!(f, "ring {} at {:?} of {:?}, ", shortened(&self.ring), self.edge, self.bounds)?;
-        write!(f, "lent output {}", self.out.len())
+        write!(f, "ring {} from {} ", shortened(&self.ring), shortened(&self.origins))?;
+        write!(f, "at {:?} of {:?}, ", self.edge, self.bounds)?;
+        write!(f, "lent output {}, origins {}", self.out.len(), self.out_origins.len())
     }
 }
 
@@ -51,10 +54,10 @@ mod tests {
     #[test]
     fn long_slices_are_shortened() {
         assert_eq!(shortened(&[1.0, 2.5]), "[1.0, 2.5]");
-        let long: Vec<usize> = (0..131_074).collect();
+        let long: Vec<usize> = (0..131_066).collect();
         assert_eq!(
             shortened(&long),
-            "[0, 1, 2, 3, 4, 5] to [131068, 131069, 131070, 131071, 131072, 131073] (131074 in all)"
+            "[0, 1, 2, 3, 4, 5] to [131060, 131061, 131062, 131063, 131064, 131065] (131066 in all)"
         );
     }
 }

@@ -4,6 +4,8 @@ use formats::calls::{RingCall, SliceCall, MOST_COORDINATES};
 use formats::room::most_cut;
 use formats::{closed_length, flat, Bounds, Part, Ring};
 
+use crate::corners::with_corner_holes;
+use crate::frames::is_vouched_for;
 use crate::holes::{beyond_a_corner, with_holes};
 use crate::numbers::any_bits;
 use crate::rng::Rng;
@@ -33,8 +35,15 @@ pub fn ring_call(style: Style, seed: u64, index: u64) -> RingCall {
     if rng.once_in(30) {
         ring.push(any_bits(rng));
     }
-    let needed = if long && has_little_room(rng) { LITTLE } else { 2 * most_cut(ring.len() / 2) };
-    RingCall { ring, bounds: scene.bounds, scratch: lent_numbers(needed, rng), out: lent_numbers(needed, rng) }
+    let needed = if long && has_little_room(rng) { LITTLE } else { most_cut(ring.len() / 2) };
+    RingCall {
+        ring,
+        bounds: scene.bounds,
+        scratch: lent_numbers(2 * needed, rng),
+        origin_scratch: lent_origins(needed, rng),
+        out: lent_numbers(2 * needed, rng),
+        out_origins: lent_origins(needed, rng),
+    }
 }
 
 pub fn slice_call(style: Style, seed: u64, index: u64) -> SliceCall {
@@ -47,6 +56,7 @@ pub fn slice_call(style: Style, seed: u64, index: u64) -> SliceCall {
         0 => vec![beyond_a_corner(scene.buffered_bounds(), rng)],
         1 | 2 => with_holes(scene.buffered_bounds(), rng),
         3 | 4 if style == Style::Tangled => vec![tangle(LONGEST_TANGLE, rng)],
+        3..=9 if style == Style::Corners => with_corner_holes(scene.buffered_bounds(), rng),
         _ => scene.part_with(rng.pick(&HOLES), rng),
     };
     if rng.once_in(50) {
@@ -59,18 +69,21 @@ pub fn slice_call(style: Style, seed: u64, index: u64) -> SliceCall {
     let (largest, sum) =
         if long && has_little_room(rng) { (LITTLE, LITTLE) } else { (rooms.clone().max().unwrap_or(0), rooms.sum()) };
     let (coords, lengths) = slices(&part, rng);
+    let vouched_for = is_vouched_for(style, rng);
     SliceCall {
         // The second reading looks at every pair of edges, which is too much for a long ring.
-        assume_simple: long || rng.once_in(2),
-        skip_boundary_fallback: rng.once_in(2),
+        assume_simple: long || vouched_for || rng.once_in(2),
+        skip_boundary_fallback: vouched_for || rng.once_in(2),
         bounds: scene.bounds,
         buffer: scene.buffer,
         coords,
         lengths,
         scratch: lent_numbers(2 * largest, rng),
+        origin_scratch: lent_origins(largest, rng),
         order: lent_positions(largest, rng),
         out: lent_numbers(2 * sum, rng),
         out_lengths: lent_positions(part.len(), rng),
+        out_origins: lent_origins(sum, rng),
     }
 }
 
@@ -95,13 +108,14 @@ fn slices(part: &Part, rng: &mut Rng) -> (Vec<f64>, Vec<u32>) {
     (coords, lengths)
 }
 
-/// Whether a call is about the limit of 65,536 coordinates; such calls take long, so they are rare.
+/// Whether a call is about the limit of 65,532 coordinates; such calls take long, so they are rare.
 pub fn is_long(rng: &mut Rng) -> bool {
     rng.once_in(500)
 }
 
+/// The last is what the limit was before origins.
 pub fn around_the_limit(rng: &mut Rng) -> usize {
-    rng.pick(&[MOST_COORDINATES - 1, MOST_COORDINATES, MOST_COORDINATES + 1])
+    rng.pick(&[MOST_COORDINATES - 1, MOST_COORDINATES, MOST_COORDINATES, MOST_COORDINATES + 1, 65_536])
 }
 
 /// One to three rings that together have about as many coordinates as a call may have.
@@ -143,11 +157,11 @@ fn has_little_room(rng: &mut Rng) -> bool {
 
 /// A length about the one needed: mostly enough, now and then many more.
 fn lent_length(needed: usize, rng: &mut Rng) -> usize {
-    match rng.below(30) {
+    match rng.below(45) {
         0 => needed.saturating_sub(1),
         1 => rng.below(needed + 1),
-        2..=9 => needed,
-        10 | 11 => needed + 100 + rng.below(900),
+        2..=13 => needed,
+        14..=16 => needed + 100 + rng.below(900),
         _ => needed + rng.below(6),
     }
 }
@@ -159,6 +173,10 @@ pub fn lent_numbers(needed: usize, rng: &mut Rng) -> Vec<f64> {
 
 fn lent_positions(needed: usize, rng: &mut Rng) -> Vec<u32> {
     lent(lent_length(needed, rng), || 1 | rng.bits() as u32)
+}
+
+pub fn lent_origins(needed: usize, rng: &mut Rng) -> Vec<u16> {
+    lent(lent_length(needed, rng), || 1 + rng.below(65_535) as u16)
 }
 
 fn other_than_zero(rng: &mut Rng) -> f64 {

@@ -21,7 +21,7 @@ pub enum Kind {
 }
 
 impl Kind {
-    pub const ALL: [Kind; 12] = [
+    pub const ALL: [Kind; 13] = [
         Kind::Drawn(Style::Grid),
         Kind::Drawn(Style::Outlines),
         Kind::Drawn(Style::Near),
@@ -34,6 +34,7 @@ impl Kind {
         Kind::Damaged,
         Kind::Limits,
         Kind::Drawn(Style::Tangled),
+        Kind::Drawn(Style::Corners),
     ];
 
     pub fn name(self) -> &'static str {
@@ -47,6 +48,7 @@ impl Kind {
             Kind::Drawn(Style::Long) => "long",
             Kind::Drawn(Style::Collinear) => "collinear",
             Kind::Drawn(Style::Tangled) => "tangled",
+            Kind::Drawn(Style::Corners) => "corners",
             Kind::Parts => "parts",
             Kind::Damaged => "damaged",
             Kind::Limits => "limits",
@@ -87,7 +89,13 @@ pub fn drawn(style: Style, rng: &mut Rng) -> Frame {
     let most = if style == Style::Long { 2 } else { 4 };
     let parts = if kind == POLYGON { 1 } else { rng.below(most + 1) };
     let parts = within_a_frame((0..parts).map(|_| scene.part(rng)));
-    Frame { kind, flags: rng.below(4) as u8, bounds: scene.bounds, buffer: scene.buffer, parts }
+    let flags = if is_vouched_for(style, rng) { 3 } else { rng.below(4) as u8 };
+    Frame { kind, flags, bounds: scene.bounds, buffer: scene.buffer, parts }
+}
+
+/// Whether a specimen has both flags whatever else is drawn: of rings about the corners few others are cut.
+pub fn is_vouched_for(style: Style, rng: &mut Rng) -> bool {
+    style == Style::Corners && rng.once_in(2)
 }
 
 fn many_parts(rng: &mut Rng) -> Frame {

@@ -24,7 +24,8 @@ pub fn beyond_a_corner([west, south, east, north]: Bounds, rng: &mut Rng) -> Rin
     from_any_vertex(vec![vertex(-1.0, 2.0), vertex(2.0, -1.0), vertex(2.0, 2.0)], rng)
 }
 
-fn across_east(bounds: Bounds, rng: &mut Rng) -> Ring {
+/// A rectangle that is cut without an issue.
+pub fn across_east(bounds: Bounds, rng: &mut Rng) -> Ring {
     let low = rng.pick(&[0.125, 0.25]);
     rectangle(bounds, [low, low, 1.5, 0.75], rng)
 }

@@ -4,6 +4,7 @@
 mod bounds;
 mod calls;
 mod collinear;
+mod corners;
 mod damage;
 mod exteriors;
 mod frames;

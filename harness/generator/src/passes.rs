@@ -1,11 +1,12 @@
 //! Single passes, with the output lent to them filled with any bits but those of a zero: rings of a scene, and rings whose
-//! verdicts are easily miscounted.
+//! verdicts are easily miscounted. The origins that they begin with are any: positions and lines in any order.
 
+use formats::origins::line_origin;
 use formats::passes::{Edge, PassCall};
 use formats::room::most_passed;
 use formats::{flat, Coord, Ring};
 
-use crate::calls::{around_the_limit, is_long, lent_numbers, zigzag};
+use crate::calls::{around_the_limit, is_long, lent_numbers, lent_origins, zigzag};
 use crate::numbers::{any_bits, grid};
 use crate::rng::Rng;
 use crate::scene::{lone_coordinate, Scene, Style};
@@ -22,8 +23,26 @@ pub fn pass(style: Style, seed: u64, index: u64) -> PassCall {
     if rng.once_in(30) {
         ring.push(any_bits(rng));
     }
-    let out = lent_numbers(2 * most_passed(ring.len() / 2), rng);
-    PassCall { ring, edge, bounds: scene.bounds, out }
+    let (vertices, most) = (ring.len() / 2, most_passed(ring.len() / 2));
+    PassCall {
+        ring,
+        origins: origins(vertices, rng),
+        edge,
+        bounds: scene.bounds,
+        out: lent_numbers(2 * most, rng),
+        out_origins: lent_origins(most, rng),
+    }
+}
+
+/// An origin for each vertex, and seldom one fewer or some more: any of them, lines more often than they would come by chance.
+fn origins(vertices: usize, rng: &mut Rng) -> Vec<u16> {
+    let length = match rng.below(60) {
+        0 => vertices.saturating_sub(1),
+        1 | 2 => vertices + 1 + rng.below(5),
+        _ => vertices,
+    };
+    let lines = Edge::ALL.map(line_origin);
+    (0..length).map(|_| if rng.once_in(3) { rng.pick(&lines) } else { rng.bits() as u16 }).collect()
 }
 
 fn ring(scene: &Scene, edge: Edge, rng: &mut Rng) -> Ring {

@@ -6,6 +6,7 @@ use formats::frame::{LONGEST, SHORTEST};
 use formats::{Bounds, Coord, Part, Ring};
 
 use crate::collinear::collinear;
+use crate::corners::{corner_ring, with_corner_holes};
 use crate::numbers::{any_bits, any_bounds, finite_bits, grid, huge, near, near_offset, order, seldom_huge};
 use crate::outlines::{crossed_last_segment, outline, star, teeth};
 use crate::rng::Rng;
@@ -31,10 +32,12 @@ pub enum Style {
     Collinear,
     /// Crossings and repeated corners at any place of rings around 32 edges and longer, before or after the cut.
     Tangled,
+    /// Vertices on the lines and in the corners of the bounds, edges along and through them.
+    Corners,
 }
 
 impl Style {
-    pub const ALL: [Style; 9] = [
+    pub const ALL: [Style; 10] = [
         Style::Grid,
         Style::Outlines,
         Style::Near,
@@ -44,6 +47,7 @@ impl Style {
         Style::Long,
         Style::Collinear,
         Style::Tangled,
+        Style::Corners,
     ];
 }
 
@@ -62,6 +66,10 @@ impl Scene {
             Style::Grid => ([0.0, 0.0, rng.between(1, 5) as f64, 4.0], rng.pick(&[0.0, 0.0, 0.0, 1.0, 0.5, -1.0])),
             Style::Outlines | Style::Long | Style::Tangled => {
                 ([0.0, 0.0, 10.0, 10.0], rng.pick(&[0.0, 0.0, 0.0, 1.0, -0.5, 2.0]))
+            }
+            Style::Corners => {
+                let low = rng.pick(&[0.0, 0.0, -0.0, -4.0]);
+                ([low, low, 8.0, rng.pick(&[4.0, 8.0])], rng.pick(&[0.0, 0.0, 0.0, 0.0, 1.0, -1.0]))
             }
             Style::Near => ([0.0, 0.0, 4.0, 4.0], rng.pick(&[0.0, 0.0, 1.0, 1e-10, 5e-11])),
             Style::Huge => ([0.0, 0.0, 10.0, 10.0], rng.pick(&[0.0, 0.0, 0.0, 1.0, 1e150, 1e308])),
@@ -98,6 +106,9 @@ impl Scene {
 
     /// An exterior, and holes anywhere: few, as a frame has little room.
     pub fn part(&self, rng: &mut Rng) -> Part {
+        if self.style == Style::Corners && rng.once_in(2) {
+            return with_corner_holes(self.buffered_bounds(), rng);
+        }
         let holes = if self.style == Style::Long { rng.pick(&[0, 0, 0, 1]) } else { rng.pick(&[0, 0, 0, 0, 1, 1, 2]) };
         self.part_with(holes, rng)
     }
@@ -121,6 +132,7 @@ impl Scene {
             Style::Long => long(rng),
             Style::Collinear => collinear(rng),
             Style::Tangled => tangle(LONGEST_RING, rng),
+            Style::Corners => corner_ring(self.buffered_bounds(), rng),
         };
         if ring.len() < LONGEST_RING && rng.once_in(6) {
             repeat_a_vertex(&mut ring, rng);

@@ -9,6 +9,7 @@ use tylertoo::clip::opened as clip;
 use tylertoo::tile::TileBounds;
 
 use crate::convert::rings_of;
+use crate::origins::cut_rings;
 use crate::route::{route_of_part, route_of_polygon, Route};
 use crate::run::{overlay_call_of, run, Hints, Run};
 
@@ -84,7 +85,7 @@ fn put_together(parts: &[Polygon<f64>], routes: Vec<Route>, buffered: &TileBound
             Route::Cut(cut) => {
                 let polygon = next();
                 assert_same(polygon, &cut);
-                Listed::Cut(rings_of(polygon))
+                Listed::Cut(cut_rings(part, buffered, polygon))
             }
             Route::Overlay(reason) => {
                 let (number, call) = overlay_calls.next().expect("the whole run asked for this overlay");

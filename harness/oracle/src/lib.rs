@@ -1,11 +1,13 @@
 //! The oracle: what the unchanged Rust answers to document 01's calls. Result, coordinates, guard count and overlay calls
 //! come from one run of `clip_geometry_simple` on the whole geometry; only part numbers and reasons with their positions, which
-//! the Rust doesn't give, are asked of its predicates part by part. Single passes come from its `clip_ring_against_edge`.
+//! the Rust doesn't give, are asked of its predicates part by part. Single passes come from its `clip_ring_against_edge`. Origins,
+//! which it doesn't give either, come from a walk of its passes by its own verdicts and crossings.
 
 mod answer;
 mod convert;
 mod issue;
 mod lines;
+mod origins;
 mod pass;
 mod route;
 mod run;
@@ -13,12 +15,12 @@ mod run;
 use formats::answer::{Answer, Listed};
 use formats::calls::{RingCall, SliceAnswer, SliceCall};
 use formats::frame::{Frame, POLYGON};
-use formats::{flat, pairs, Coord, Refusal};
+use formats::origins::CutRing;
+use formats::{pairs, Coord, Refusal};
 use geo::{Geometry, MultiPolygon};
 use tylertoo::clip::opened as clip;
-use tylertoo::sutherland_hodgman::opened::clip_ring;
 
-use convert::{bounds_of, coords_of, polygon_of, ring_of};
+use convert::{bounds_of, coords_of, polygon_of};
 use run::Hints;
 
 pub use issue::Issue;
@@ -42,14 +44,11 @@ pub fn answer(frame: &[u8], room: usize) -> Result<Vec<u8>, Refusal> {
     Ok(answer::answer(&geometry, &bounds_of(frame.bounds), frame.buffer, hints).encode())
 }
 
-/// The numbers that a ring call writes: `clip_ring` on the ring as it is lent.
-pub fn ring_call(call: &RingCall) -> Result<Vec<f64>, Refusal> {
+/// The vertices that a ring call writes: `clip_ring` on the ring as it is lent.
+pub fn ring_call(call: &RingCall) -> Result<CutRing, Refusal> {
     match call.refusal() {
         Some(refusal) => Err(refusal),
-        None => {
-            let cut = clip_ring(&coords_of(&pairs(&call.ring)), &bounds_of(call.bounds));
-            Ok(flat(&ring_of(&cut)))
-        }
+        None => Ok(origins::cut_ring(&coords_of(&pairs(&call.ring)), &bounds_of(call.bounds))),
     }
 }
 

@@ -1,5 +1,5 @@
-//! One pass: the vertices from the unchanged Rust, the count of verdicts from its traced copy. Where the two cut differently the
-//! harness stops: then the copy is not the Rust, and its verdicts would not count.
+//! One pass: the vertices from the unchanged Rust, the count of verdicts from its traced copy, the origins from a walk. Where these
+//! cut differently the harness stops: then the copy is not the Rust, and its verdicts would not count.
 
 use formats::passes::{PassCall, Passed};
 use formats::shown::shortened;
@@ -9,8 +9,9 @@ use tylertoo_pass::verdicts::take_judged;
 use tylertoo_pass::{traced, unchanged};
 
 use crate::convert::{bounds_of, coords_of, ring_of};
+use crate::origins::{cut_ring_of, walked_pass, Vertex};
 
-/// None where the output has no room.
+/// None where a slice is too short.
 pub fn pass(call: &PassCall) -> Option<Passed> {
     if !call.has_room() {
         return None;
@@ -21,7 +22,9 @@ pub fn pass(call: &PassCall) -> Option<Passed> {
     let traced = numbers_of(&traced::opened::clip_ring_against_edge(&ring, edge, &bounds));
     let judged = take_judged();
     assert_same(&traced, &numbers);
-    Some(Passed { numbers, verdicts: verdicts_with_last_kept(&judged) })
+    let vertices: Vec<Vertex> = ring.iter().zip(&call.origins).map(|(&at, &origin)| Vertex { at, origin }).collect();
+    let cut = cut_ring_of(&walked_pass(&vertices, call.edge, &bounds));
+    Some(Passed { cut, verdicts: verdicts_with_last_kept(&judged) })
 }
 
 fn numbers_of(coords: &[Coord<f64>]) -> Vec<f64> {

@@ -1,6 +1,6 @@
 //! The calls of crate `ringcut` on the harness's bounds, with their answers as the numbers that cross.
 
-use formats::calls::SliceAfter;
+use formats::calls::{RingAfter, SliceAfter};
 use formats::Bounds;
 /// The count of bytes of the answer, or minus the refusal.
 pub use ringcut::raw::frame;
@@ -28,13 +28,19 @@ pub fn polygon(
 
 /// The slices of a slice call to write to.
 pub fn lent(slices: &mut SliceAfter) -> PolygonBuffers<'_> {
-    let SliceAfter { answer: _, scratch, order, out, out_lengths } = slices;
-    PolygonBuffers { scratch, order, out, out_lengths }
+    let SliceAfter { answer: _, scratch, origin_scratch, order, out, out_lengths, out_origins } = slices;
+    PolygonBuffers { scratch, origin_scratch, order, out, out_lengths, out_origins }
 }
 
 /// The count of coordinates of the cut ring, or minus the refusal.
-pub fn ring(ring: &[f64], bounds: &Bounds, scratch: &mut [f64], out: &mut [f64]) -> i64 {
-    raw::ring(ring, named(bounds), RingBuffers { scratch, out })
+pub fn ring(ring: &[f64], bounds: &Bounds, lent: RingBuffers) -> i64 {
+    raw::ring(ring, named(bounds), lent)
+}
+
+/// The slices of a ring call to write to.
+pub fn lent_to_ring(slices: &mut RingAfter) -> RingBuffers<'_> {
+    let RingAfter { answer: _, scratch, origin_scratch, out, out_origins } = slices;
+    RingBuffers { scratch, origin_scratch, out, out_origins }
 }
 
 pub fn named(&[west, south, east, north]: &Bounds) -> ringcut::Bounds {

@@ -1,8 +1,9 @@
-//! The frame entry: its answer and every byte of the output, against the oracle's.
+//! The frame entry: its answer and every byte of the output, against the oracle's, and its origins besides.
 
 use compare::campaign::{self, Campaign, Checked};
 use compare::frames::{kinds, label};
 use compare::hex;
+use compare::origins::broken_frame;
 use compare::shrink::shrink;
 use formats::frame::Frame;
 use formats::Refusal;
@@ -52,7 +53,9 @@ pub fn check_in(frame: &[u8], room: usize, expected: &Result<Vec<u8>, Refusal>) 
     let mut out = lent.clone();
     let answer = calls::frame(frame, &mut out);
     if answer == code && out.starts_with(bytes) && out[bytes.len()..] == lent[bytes.len()..] {
-        return Ok(());
+        let answered = usize::try_from(answer).ok().map(|length| &out[..length]);
+        let broken = answered.and_then(|bytes| broken_frame(frame, bytes));
+        return broken.map_or(Ok(()), |broken| Err(format!("room {room}, frame {}: {broken}", hex(frame))));
     }
     let place = (0..room).find(|&k| out[k] != *bytes.get(k).unwrap_or(&lent[k]));
     Err(format!(

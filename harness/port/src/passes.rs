@@ -1,5 +1,5 @@
 //! One pass of the ring cutter: the port against the Rust's `clip_ring_against_edge`, and against the second reading, which counts
-//! its verdicts itself; every lent number checked.
+//! its verdicts itself; every lent number and origin checked.
 
 use compare::calls::styles;
 use compare::campaign::{self, Campaign, Checked};
@@ -7,7 +7,7 @@ use compare::passes::{label, pass};
 use formats::passes::{Edge, PassAfter, PassCall};
 use reading::Reading;
 
-use crate::probe;
+use crate::probe::{self, PassBuffers};
 
 /// Lengths of the slice that is lent for the count of verdicts, each with a number for Top: any over 2.
 const LENT: [(usize, u8); 3] = [(0, 3), (1, 4), (2, 255)];
@@ -32,12 +32,14 @@ pub fn check(call: &PassCall) -> Checked {
 pub fn check_against(call: &PassCall, expected: &PassAfter) -> Result<(), String> {
     for (length, top) in LENT {
         let edge = if call.edge == Edge::Top { top } else { call.edge as u8 };
-        let (mut out, mut verdicts) = (call.out.clone(), counted(length, None));
-        let answer = probe::clip_ring_against_edge(&call.ring, edge, &call.bounds, &mut out, &mut verdicts);
+        let (mut out, mut out_origins) = (call.out.clone(), call.out_origins.clone());
+        let mut verdicts = counted(length, None);
+        let lent = PassBuffers { out: &mut out, out_origins: &mut out_origins, verdicts: &mut verdicts };
+        let answer = probe::clip_ring_against_edge(&call.ring, &call.origins, edge, &call.bounds, lent);
         if verdicts != counted(length, expected.verdicts) {
             return Err(format!("{call}: verdicts {verdicts:?} and {:?}", expected.verdicts));
         }
-        let port = PassAfter { answer, verdicts: expected.verdicts, out };
+        let port = PassAfter { answer, verdicts: expected.verdicts, out, out_origins };
         if let Some(difference) = port.difference(expected) {
             return Err(format!("{call}: {difference}"));
         }

@@ -1,6 +1,7 @@
 //! Safe calls of the functions that crate `probe` exports. A slice crosses as a pointer and a length, in that order.
 
 use formats::Bounds;
+use ringcut::RingBuffers;
 
 mod exported {
     extern "C" {
@@ -18,18 +19,26 @@ mod exported {
             bounds_len: usize,
             scratch: *mut f64,
             scratch_len: usize,
+            origin_scratch: *mut u16,
+            origin_scratch_len: usize,
             out: *mut f64,
             out_len: usize,
+            out_origins: *mut u16,
+            out_origins_len: usize,
         ) -> usize;
         #[allow(clippy::too_many_arguments)]
         pub fn probe_clip_ring_against_edge(
             ring: *const f64,
             ring_len: usize,
+            origins: *const u16,
+            origins_len: usize,
             edge: u8,
             bounds: *const f64,
             bounds_len: usize,
             out: *mut f64,
             out_len: usize,
+            out_origins: *mut u16,
+            out_origins_len: usize,
             verdicts: *mut usize,
             verdicts_len: usize,
         ) -> usize;
@@ -107,8 +116,9 @@ pub fn intersect(a: &Bounds, b: &Bounds) -> Bounds {
 }
 
 /// The cutter by itself, on a ring that a ring call would not refuse: the count of coordinates, which stand at the front of the
-/// output. What is left in the scratch slice and past them is open.
-pub fn clip_ring(ring: &[f64], bounds: &Bounds, scratch: &mut [f64], out: &mut [f64]) -> usize {
+/// output, their origins at the front of theirs. What is left in the scratch slices and past them is open.
+pub fn clip_ring(ring: &[f64], bounds: &Bounds, lent: RingBuffers) -> usize {
+    let RingBuffers { scratch, origin_scratch, out, out_origins } = lent;
     // SAFETY: as in `empty`.
     unsafe {
         exported::probe_clip_ring(
@@ -118,32 +128,42 @@ pub fn clip_ring(ring: &[f64], bounds: &Bounds, scratch: &mut [f64], out: &mut [
             bounds.len(),
             scratch.as_mut_ptr(),
             scratch.len(),
+            origin_scratch.as_mut_ptr(),
+            origin_scratch.len(),
             out.as_mut_ptr(),
             out.len(),
+            out_origins.as_mut_ptr(),
+            out_origins.len(),
         )
     }
 }
 
-/// One pass of the ring cutter at an edge (0 Left, 1 Right, 2 Bottom, any other Top): the count of vertices, and the count of
-/// verdicts as the first of `verdicts`. Where the output is shorter than a pass may need, or the vertices
-/// are over 524,288: the highest number, and nothing is written.
-pub fn clip_ring_against_edge(
-    ring: &[f64],
-    edge: u8,
-    bounds: &Bounds,
-    out: &mut [f64],
-    verdicts: &mut [usize],
-) -> usize {
+/// What is lent to a single pass to write to.
+pub struct PassBuffers<'a> {
+    pub out: &'a mut [f64],
+    pub out_origins: &'a mut [u16],
+    pub verdicts: &'a mut [usize],
+}
+
+/// One pass of the ring cutter at an edge (0 Left, 1 Right, 2 Bottom, any other Top) over vertices with these origins: the count of
+/// vertices, and the count of verdicts as the first of `verdicts`. Where an output is shorter than a pass may need, a vertex lacks its
+/// origin, or the vertices are over 524,256: the highest number, and nothing is written.
+pub fn clip_ring_against_edge(ring: &[f64], origins: &[u16], edge: u8, bounds: &Bounds, lent: PassBuffers) -> usize {
+    let PassBuffers { out, out_origins, verdicts } = lent;
     // SAFETY: as in `empty`.
     unsafe {
         exported::probe_clip_ring_against_edge(
             ring.as_ptr(),
             ring.len(),
+            origins.as_ptr(),
+            origins.len(),
             edge,
             bounds.as_ptr(),
             bounds.len(),
             out.as_mut_ptr(),
             out.len(),
+            out_origins.as_mut_ptr(),
+            out_origins.len(),
             verdicts.as_mut_ptr(),
             verdicts.len(),
         )

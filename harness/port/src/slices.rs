@@ -1,6 +1,7 @@
-//! The slice call: the port against the Rust's `clip_polygon`, every lent number checked.
+//! The slice call: the port against the Rust's `clip_polygon`, every lent number and origin checked, and what has to hold of origins
+//! on the same runs.
 
-use compare::calls::{slice_label, slice_label_with_reason, styles};
+use compare::calls::{broken_in_slice_call, slice_label, slice_label_with_reason, styles};
 use compare::campaign::{self, Campaign, Checked};
 use formats::calls::{SliceAfter, SliceAnswer, SliceCall};
 use formats::Refusal;
@@ -25,10 +26,15 @@ pub fn check(call: &SliceCall, set: u8) -> Checked {
     check_against(call, set, &oracle::slice_call(call))
 }
 
-/// One call, its flags set by the given number, held to an answer and to what that answer leaves in the lent slices.
+/// One call, its flags set by the given number, held to an answer, to what that answer leaves in the lent slices, and to what has to
+/// hold of origins.
 pub fn check_against(call: &SliceCall, set: u8, expected: &Result<SliceAnswer, Refusal>) -> Checked {
-    match answer(call, set).difference(&call.after(expected)) {
-        Some(difference) => Err(format!("{call}: {difference}")),
+    let port = answer(call, set);
+    if let Some(difference) = port.difference(&call.after(expected)) {
+        return Err(format!("{call}: {difference}"));
+    }
+    match broken_in_slice_call(call, &port) {
+        Some(broken) => Err(format!("{call}: {broken}")),
         None => Ok(slice_label(expected)),
     }
 }

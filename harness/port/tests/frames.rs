@@ -1,7 +1,7 @@
 //! The frame entry of the port against the Rust, the share that every test run takes: random and damaged frames, and rings of
 //! every length that a frame can hold, as its length picks the working arrays.
 
-use compare::worked::{exterior_of_each_reason, BOUNDS};
+use compare::worked::{exterior_of_each_reason, overflowing_cut, BOUNDS, OVERFLOWING};
 use formats::answer::{Answer, Listed, ListedPart};
 use formats::frame::{Frame, MULTIPOLYGON, POLYGON};
 use formats::Ring;
@@ -13,7 +13,7 @@ const MOST: usize = 317;
 
 #[test]
 fn frames_agree() {
-    frames::compare(1, 15_000).assert_agreed(12 * 15_000);
+    frames::compare(1, 15_000).assert_agreed(13 * 15_000);
 }
 
 /// In and out at every vertex, over all four bounds; not closed.
@@ -62,6 +62,15 @@ fn every_reason_tells_its_positions() {
             assert_eq!(frames::check_in(&frame, room, &answer), Ok(()), "flags {flags}, {ring:?}");
         }
     }
+}
+
+/// Of document 02's point 12: both closing vertices have the first's origin.
+#[test]
+fn a_cut_that_closes_twice_has_its_firsts_origin() {
+    let Specimen { frame, room } = specimen(POLYGON, 3, OVERFLOWING.to_vec());
+    let parts = vec![ListedPart { index: 0, listed: Listed::Cut(vec![overflowing_cut()]) }];
+    let answer = Ok(Answer::Listed { guard_count: 0, parts }.encode());
+    assert_eq!(frames::check_in(&frame, room, &answer), Ok(()));
 }
 
 /// An answer, a refusal and a byte of the output that are not the port's are each noticed.

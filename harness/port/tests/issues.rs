@@ -5,7 +5,7 @@ use port::{issues, probe};
 
 #[test]
 fn issues_agree() {
-    issues::compare(1, 8_000).assert_agreed(9 * 8_000);
+    issues::compare(1, 8_000).assert_agreed(10 * 8_000);
 }
 
 /// A regular polygon of so many edges, closed; simple, so that every pair is looked at.

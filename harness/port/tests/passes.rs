@@ -4,11 +4,11 @@
 use compare::passes::{worked_call, WORKED};
 use formats::passes::{Edge, PassAfter, PassCall, MOST_VERTICES};
 use port::passes::{self, UNCOUNTED};
-use port::probe;
+use port::probe::{self, PassBuffers};
 
 #[test]
 fn passes_agree() {
-    passes::compare(1, 10_000).assert_agreed(9 * 10_000);
+    passes::compare(1, 10_000).assert_agreed(10 * 10_000);
 }
 
 #[test]
@@ -26,20 +26,28 @@ fn worked_rings_have_their_counts() {
 }
 
 /// The count of verdicts alone, asked straight of the port.
-fn count(PassCall { ring, edge, bounds, out }: &mut PassCall) -> usize {
+fn count(PassCall { ring, origins, edge, bounds, out, out_origins }: &mut PassCall) -> usize {
     let mut verdicts = [UNCOUNTED];
-    probe::clip_ring_against_edge(ring, *edge as u8, bounds, out, &mut verdicts);
+    let lent = PassBuffers { out, out_origins, verdicts: &mut verdicts };
+    probe::clip_ring_against_edge(ring, origins, *edge as u8, bounds, lent);
     verdicts[0]
 }
 
 #[test]
-fn an_output_one_short_is_left_as_it_was() {
+fn outputs_are_left_as_they_were_where_a_slice_is_one_short() {
+    let shorten: [fn(&mut PassCall); 3] = [
+        |call| call.out.truncate(call.out.len() - 1),
+        |call| call.out_origins.truncate(call.out_origins.len() - 1),
+        |call| call.origins.truncate(call.origins.len() - 1),
+    ];
     for (name, ring, _) in WORKED.iter().filter(|(_, ring, _)| !ring.is_empty()) {
         for edge in Edge::ALL {
-            let mut call = worked_call(ring, edge, 0);
-            call.out.pop();
-            assert_eq!(passes::check(&call), Ok("no room"), "{name}, {edge:?}");
-            assert_eq!(count(&mut call), UNCOUNTED, "{name}, {edge:?}");
+            for shorten in shorten {
+                let mut call = worked_call(ring, edge, 0);
+                shorten(&mut call);
+                assert_eq!(passes::check(&call), Ok("no room"), "{name}, {edge:?}");
+                assert_eq!(count(&mut call), UNCOUNTED, "{name}, {edge:?}");
+            }
         }
     }
 }
@@ -56,7 +64,7 @@ fn vertices_up_to_the_limit_are_taken() {
     }
 }
 
-/// An answer, a count, a number of the output and a number behind it that are not the port's are each noticed.
+/// An answer, a count, a number or an origin of the output and one behind it that are not the port's are each noticed.
 #[test]
 fn differences_are_noticed() {
     let call = worked_call(WORKED[6].1, Edge::Right, 1);
@@ -73,5 +81,9 @@ fn differences_are_noticed() {
     for place in 0..right.out.len() {
         let difference = wrong(&|after| after.out[place] += 1.0);
         assert!(difference.contains(&format!("output, value {place}: ")), "{difference}");
+    }
+    for place in 0..right.out_origins.len() {
+        let difference = wrong(&|after| after.out_origins[place] ^= 1);
+        assert!(difference.contains(&format!("origins, value {place}: ")), "{difference}");
     }
 }

@@ -3,11 +3,13 @@
 //! worked polygons.
 
 use compare::worked::{
-    self, exterior_of_each_reason, late_crossing, late_repeat, polygon_of_each_answer, regular, slice_call as lent,
-    unclosed, unwritten, Beside, ACROSS_EAST, APART, BOW_TIE, EVERY_FLAG, INSIDE,
+    self, exterior_of_each_reason, late_crossing, late_repeat, overflowing_cut, polygon_of_each_answer, regular,
+    slice_call as lent, unclosed, unwritten, unwritten_origin, Beside, ACROSS_EAST, APART, BOW_TIE, EVERY_FLAG, INSIDE,
+    OVERFLOWING, RIGHT,
 };
 use formats::calls::{SliceAfter, SliceAnswer, SliceCall, MOST_COORDINATES};
 use formats::frame::MOST_RINGS;
+use formats::origins::CutRing;
 use formats::reason::Reason;
 use formats::{Coord, Part, Ring};
 use port::calls;
@@ -32,9 +34,15 @@ fn overlay(number: u8, first: u32, second: u32) -> SliceAnswer {
     SliceAnswer::Overlay(Reason { number, first, second })
 }
 
+/// What is left of the square across the east bound.
+fn cut_across_east() -> CutRing {
+    let ring = vec![(5., 5.), (10., 5.), (10., 8.), (5., 8.), (5., 5.)];
+    CutRing { ring, origins: vec![0, RIGHT, RIGHT, 3, 0] }
+}
+
 #[test]
 fn slice_calls_agree() {
-    slices::compare(1, 15_000).assert_agreed(9 * 15_000);
+    slices::compare(1, 15_000).assert_agreed(10 * 15_000);
 }
 
 #[test]
@@ -68,15 +76,16 @@ fn coordinates_agree_at_their_limit() {
     for (part, label) in [
         (vec![ring(MOST_COORDINATES)], "cut"),
         (vec![ring(MOST_COORDINATES + 1)], "20"),
+        (vec![ring(65_536)], "20"),
         (vec![ring(half), ring(half)], "cut"),
         (vec![ring(half), ring(half + 1)], "20"),
         (vec![ring(half), ring(half), Vec::new()], "cut"),
         (vec![INSIDE.to_vec(), ring(MOST_COORDINATES - 5)], "cut"),
         (vec![INSIDE.to_vec(), ring(MOST_COORDINATES - 4)], "20"),
-        // Lent with 65,535 coordinates and with 65,536; closing appends one.
+        // Lent with 65,531 coordinates and with 65,532; closing appends one.
         (vec![unclosed(ring(MOST_COORDINATES))], "cut"),
         (vec![unclosed(ring(MOST_COORDINATES + 1))], "20"),
-        // Lent with 65,535 each; closing appends one, and two.
+        // Lent with 65,531 each; closing appends one, and two.
         (vec![unclosed(ring(half)), ring(half)], "cut"),
         (vec![unclosed(ring(half)), unclosed(ring(half + 1))], "20"),
         // A single NaN coordinate counts as two.
@@ -147,21 +156,28 @@ fn lent_slices_exact_one_short_and_longer() {
         let (scratch, output) = if coordinates == 0 { (label, label) } else { ("21", "22") };
         for (beside, label) in [
             (Beside { scratch: -1, ..exact }, scratch),
+            (Beside { origin_scratch: -1, ..exact }, scratch),
             (Beside { order: -1, ..exact }, scratch),
             (Beside { out: -1, ..exact }, output),
             (Beside { out_lengths: -1, ..exact }, "22"),
+            (Beside { out_origins: -1, ..exact }, output),
             // 21 comes before 22.
             (Beside { scratch: -1, out: -1, ..exact }, scratch),
             (Beside { order: -1, out: -1, ..exact }, scratch),
+            (Beside { origin_scratch: -1, out: -1, out_origins: -1, ..exact }, scratch),
             // Where one is short no other makes up for it.
             (Beside { scratch: -1, ..Beside::all(9) }, scratch),
+            (Beside { origin_scratch: -1, ..Beside::all(9) }, scratch),
             (Beside { order: -1, ..Beside::all(9) }, scratch),
             (Beside { out: -1, ..Beside::all(9) }, output),
             (Beside { out_lengths: -1, ..Beside::all(9) }, "22"),
+            (Beside { out_origins: -1, ..Beside::all(9) }, output),
             (Beside { scratch: isize::MIN, ..exact }, scratch),
+            (Beside { origin_scratch: isize::MIN, ..exact }, scratch),
             (Beside { order: isize::MIN, ..exact }, scratch),
             (Beside { out: isize::MIN, ..exact }, output),
             (Beside { out_lengths: isize::MIN, ..exact }, "22"),
+            (Beside { out_origins: isize::MIN, ..exact }, output),
         ] {
             assert_eq!(checked(&lent(flags, &part, beside)), label, "{beside:?}, {part:?}");
         }
@@ -192,6 +208,11 @@ fn a_success_leaves_zeros_behind_the_cut_as_far_as_22_asks() {
             assert!((0..numbers).all(|place| after.out[place] != unwritten(place)), "{label}");
             assert!(after.out[numbers..asked].iter().all(|number| number.to_bits() == 0), "{label}");
             assert!((asked..after.out.len()).all(|place| after.out[place] == unwritten(place)), "{label}");
+            let (origins, written, asked) = (&after.out_origins, numbers / 2, asked / 2);
+            assert!(after.origin_scratch.iter().all(|&origin| origin == 0), "{label}");
+            assert!((0..written).all(|place| origins[place] != unwritten_origin(place)), "{label}");
+            assert!(origins[written..asked].iter().all(|&origin| origin == 0), "{label}");
+            assert!((asked..origins.len()).all(|place| origins[place] == unwritten_origin(place)), "{label}");
             let rings = if label == "cut" { after.answer as usize >> 16 } else { 0 };
             assert_eq!(after.out_lengths[rings..], call.out_lengths[rings..], "{label}");
         }
@@ -206,10 +227,12 @@ fn a_slice_call_that_drops_writes_zeros_for_the_closed_ring() {
     assert_eq!((after.answer, after.out.len()), (1, 23));
     assert!(after.out[..22].iter().chain(&after.scratch).all(|number| number.to_bits() == 0), "{after:?}");
     assert_eq!((after.out[22], &after.out_lengths), (call.out[22], &call.out_lengths));
+    assert!(after.out_origins[..11].iter().chain(&after.origin_scratch).all(|&origin| origin == 0), "{after:?}");
+    assert_eq!(after.out_origins[11..], call.out_origins[11..]);
     assert_eq!(checked(&call), "dropped");
 }
 
-/// The cut's numbers stand one behind the other: a hole that is left out leaves no gap, wherever it stands.
+/// The cut's numbers and origins stand one behind the other: a hole that is left out leaves no gap, wherever it stands.
 #[test]
 fn a_hole_left_out_leaves_no_gap() {
     let stays = regular(7, (9.5, 6.5), 1.);
@@ -224,6 +247,8 @@ fn a_hole_left_out_leaves_no_gap() {
             assert_eq!(answered(&call), 4 + 65_536 * 3);
             let after = slices::answer(&call, 1);
             assert_eq!(after.out[..numbers], without.out[..numbers], "left out as ring {place}");
+            let origins = numbers / 2;
+            assert_eq!(after.out_origins[..origins], without.out_origins[..origins], "left out as ring {place}");
             assert_eq!(after.out_lengths[..3], without.out_lengths[..3], "left out as ring {place}");
         }
     }
@@ -380,7 +405,7 @@ fn a_wrong_expected_answer_is_noticed() {
     let right = oracle::slice_call(&call);
     let Ok(SliceAnswer::Cut(rings)) = &right else { panic!("{right:?}") };
     assert_eq!(check_against(&call, 1, &right), Ok("cut"));
-    let changed = |change: fn(&mut Part)| {
+    let changed = |change: fn(&mut Vec<CutRing>)| {
         let mut rings = rings.clone();
         change(&mut rings);
         Ok(SliceAnswer::Cut(rings))
@@ -395,15 +420,18 @@ fn a_wrong_expected_answer_is_noticed() {
         Ok(SliceAnswer::Unchanged),
         Ok(overlay(4, 0, 0)),
         changed(|rings| rings.truncate(1)),
-        changed(|rings| rings.push(Vec::new())),
+        changed(|rings| rings.push(CutRing::default())),
         changed(|rings| rings.swap(0, 1)),
-        changed(|rings| rings[0][2].1 = rings[0][2].1.next_up()),
-        changed(|rings| rings[1][0].0 = f64::NAN),
-        changed(|rings| rings[1].truncate(3)),
+        changed(|rings| rings[0].ring[2].1 = rings[0].ring[2].1.next_up()),
+        changed(|rings| rings[1].ring[0].0 = f64::NAN),
+        changed(|rings| rings[1] = rings[1].vertices().take(3).collect()),
+        changed(|rings| rings[0].origins[1] = 65_535),
+        changed(|rings| rings[1].origins[0] += 1),
         changed(|rings| {
-            // The same numbers, one coordinate of them in the other ring.
-            let moved = rings[0].pop().unwrap();
-            rings[1].insert(0, moved);
+            // The same numbers and origins, one coordinate of them in the other ring.
+            let moved = (rings[0].ring.pop().unwrap(), rings[0].origins.pop().unwrap());
+            rings[1].ring.insert(0, moved.0);
+            rings[1].origins.insert(0, moved.1);
         }),
     ] {
         assert!(check_against(&call, 1, &wrong).is_err(), "{wrong:?}");
@@ -444,6 +472,18 @@ fn a_change_of_any_lent_number_is_noticed() {
     for place in 0..call.out_lengths.len() {
         assert!(noticed(&|after| after.out_lengths[place] = 0), "lengths, place {place}");
     }
+    for place in 0..call.origin_scratch.len() {
+        assert!(noticed(&|after| after.origin_scratch[place] = 1), "origin scratch, place {place}");
+    }
+    let asked = call.out_origins.len() - 2;
+    for place in 0..call.out_origins.len() {
+        let lent = unwritten_origin(place);
+        assert!(noticed(&|after| after.out_origins[place] ^= 1), "origins, place {place}");
+        assert_eq!(noticed(&|after| after.out_origins[place] = lent), place < asked, "origins, place {place}");
+        // Its first and last origin are 0, which tells nothing of where the answer ends.
+        let is_zero = [0, 4].contains(&place) || (5..asked).contains(&place);
+        assert_eq!(noticed(&|after| after.out_origins[place] = 0), !is_zero, "origins, place {place}");
+    }
 }
 
 /// Held to document 01's answer, and that to the Rust's.
@@ -461,8 +501,7 @@ fn worked_polygons() {
     use SliceAnswer::{Cut, Dropped, Nothing, Unchanged};
 
     assert_worked(EVERY_FLAG, &INSIDE, Unchanged);
-    let cut: Ring = vec![(5., 5.), (10., 5.), (10., 8.), (5., 8.), (5., 5.)];
-    assert_worked(&[3], &ACROSS_EAST, Cut(vec![cut]));
+    assert_worked(&[3], &ACROSS_EAST, Cut(vec![cut_across_east()]));
     assert_worked(&[0, 1, 2], &ACROSS_EAST, overlay(4, 0, 0));
     assert_worked(&[0], &BOW_TIE, overlay(8, 0, 2));
     assert_worked(&[1], &BOW_TIE, Unchanged);
@@ -502,16 +541,13 @@ fn positions_over_65_535_are_told() {
 }
 
 /// A cut ring is closed by the cutter, and once more as the polygon holds it: that shows where its first coordinate holds a
-/// NaN. So with holes.
+/// NaN. Both closing vertices have the first's origin. So with holes.
 #[test]
 fn overflowing_differences_close_twice() {
-    let ring: Ring = vec![(8., 8.), (1e308, 1e308), (-1.7e308, -1.7e308), (8., 8.)];
-    let nan = (f64::NAN, 0.);
-    let cut: Ring = vec![nan, (0., 0.), (8., 8.), (10., 10.), nan, nan, nan];
+    let (ring, cut) = (OVERFLOWING.to_vec(), overflowing_cut());
     assert_worked(&[3], &ring, SliceAnswer::Cut(vec![cut.clone()]));
-    let across: Ring = vec![(5., 5.), (10., 5.), (10., 8.), (5., 8.), (5., 5.)];
     let with_holes = call(3, &[ACROSS_EAST.to_vec(), ring.clone(), ring]);
-    let expected = Ok(SliceAnswer::Cut(vec![across, cut.clone(), cut]));
+    let expected = Ok(SliceAnswer::Cut(vec![cut_across_east(), cut.clone(), cut]));
     assert_eq!(check_against(&with_holes, 1, &expected), Ok("cut"));
     assert_eq!(checked(&with_holes), "cut");
 }

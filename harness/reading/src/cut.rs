@@ -1,6 +1,7 @@
 //! Section "Cut rings": four passes, and the first closing. Each pass keeps the last verdict from step to step and counts those
-//! that it works out: document 02, point 3.
+//! that it works out: document 02, point 3. Vertices go through the passes with their origins.
 
+use crate::origins::{Closing, Made};
 use crate::polygon::Box4;
 use crate::{Mistake, Reading, Vertex};
 
@@ -43,7 +44,7 @@ impl Side {
 
 /// What a pass gives: its vertices, and how many verdicts it worked out.
 pub struct Passed {
-    pub vertices: Vec<Vertex>,
+    pub vertices: Vec<Made>,
     pub verdicts: usize,
 }
 
@@ -78,13 +79,13 @@ impl Judge<'_> {
 }
 
 impl Reading {
-    /// The cut ring, closed once; empty where fewer than 3 vertices are left.
-    pub fn cut_ring(&self, ring: &[Vertex], bounds: &Box4) -> Vec<Vertex> {
+    /// The cut ring, closed once; empty where fewer than 3 vertices are left. So many coordinates are in the rings before it.
+    pub fn cut_ring(&self, input: &[Vertex], before: usize, bounds: &Box4) -> Vec<Made> {
         let mut order = Side::ORDER;
         if self.makes(Mistake::LatitudesFirst) {
             order.rotate_left(2);
         }
-        let mut ring = ring.to_vec();
+        let mut ring = self.with_positions(input, before);
         for (number, side) in order.into_iter().enumerate() {
             if self.makes(Mistake::CutsAtLeftOnly) && side != Side::Left {
                 continue;
@@ -95,37 +96,40 @@ impl Reading {
         if ring.len() < 3 {
             return Vec::new();
         }
-        self.close(&mut ring);
+        self.compare_origins(&mut ring, input);
+        self.close_cut(&mut ring, input, Closing::AfterPasses);
         ring
     }
 
     /// One pass. The verdict on an end is kept: the next step has that vertex for its start.
-    pub fn pass(&self, ring: &[Vertex], side: Side, bounds: &Box4, leaves_off: bool) -> Passed {
-        let kept = if leaves_off { without_closing(ring) } else { ring };
+    pub fn pass(&self, ring: &[Made], side: Side, bounds: &Box4, leaves_off: bool) -> Passed {
+        let mut kept = if leaves_off { without_closing(ring).to_vec() } else { ring.to_vec() };
         let mut judge = Judge { reading: self, side, bounds, verdicts: 0 };
         if let Some(&left_off) = ring.get(kept.len()) {
-            judge.needlessly(Mistake::JudgesVertexLeftOff, left_off);
+            judge.needlessly(Mistake::JudgesVertexLeftOff, left_off.vertex);
+            self.leave_off(&mut kept, left_off);
         }
         let Some(&last) = kept.last() else {
             let one_more = usize::from(self.makes(Mistake::CountsOneForNone));
             return Passed { vertices: Vec::new(), verdicts: judge.verdicts + one_more };
         };
-        let (mut start, mut start_in) = (last, judge.is_in(last));
+        let (mut start, mut start_in) = (last, judge.is_in(last.vertex));
         if self.makes(Mistake::FirstVerdictUncounted) {
             judge.verdicts = 0;
         }
         let mut vertices = Vec::new();
         for (k, &end) in kept.iter().enumerate() {
             if k > 0 {
-                judge.needlessly(Mistake::JudgesStartsAnew, start);
+                judge.needlessly(Mistake::JudgesStartsAnew, start.vertex);
             }
-            let end_in = judge.is_in(end);
+            let end_in = judge.is_in(end.vertex);
             if start_in != end_in {
-                judge.needlessly(Mistake::JudgesAgainAtCrossing, start);
-                vertices.push(self.crossing(start, end, side, bounds));
+                judge.needlessly(Mistake::JudgesAgainAtCrossing, start.vertex);
+                let vertex = self.crossing(start.vertex, end.vertex, side, bounds);
+                vertices.push(Made { vertex, origin: self.crossing_origin(start, end, side) });
             }
             if end_in {
-                vertices.push(end);
+                vertices.push(Made { vertex: end.vertex, origin: self.kept_origin(end, k, side, bounds) });
             }
             (start, start_in) = (end, end_in);
         }
@@ -149,9 +153,9 @@ impl Reading {
 }
 
 /// What is left of a list of two or more whose first equals its last; any other is left whole.
-fn without_closing(ring: &[Vertex]) -> &[Vertex] {
+fn without_closing(ring: &[Made]) -> &[Made] {
     match ring {
-        [before @ .., last] if !before.is_empty() && before[0].equals(*last) => before,
+        [before @ .., last] if !before.is_empty() && before[0].vertex.equals(last.vertex) => before,
         _ => ring,
     }
 }

@@ -1,6 +1,7 @@
 //! Section "Frames": the walk over a frame's bytes, the room, and the answer's bytes.
 
 use crate::multipolygon::Whole;
+use crate::origins::Made;
 use crate::polygon::{Bounds, Flags, Routed};
 use crate::reason::Reason;
 use crate::ring::b;
@@ -94,7 +95,8 @@ impl Reading {
             for _ in 0..ring_count {
                 let coordinates = count_at(frame, at).ok_or(15)?;
                 at += 2;
-                let end = at + 16 * coordinates;
+                let size = if self.makes(Mistake::LentCoordinatesOf18) { 18 } else { 16 };
+                let end = at + size * coordinates;
                 if end > frame.len() && self.makes(Mistake::MissingCoordinatesFirst) {
                     return Err(15);
                 }
@@ -104,7 +106,7 @@ impl Reading {
                 if end > frame.len() {
                     return Err(15);
                 }
-                rings.push((at..end).step_by(16).map(|at| vertex_at(frame, at)).collect());
+                rings.push((at..end).step_by(size).map(|at| vertex_at(frame, at)).collect());
                 at = end;
             }
             parts.push(rings);
@@ -120,7 +122,8 @@ impl Reading {
         let part = |rings: &Vec<Vec<Vertex>>| {
             let sum: usize = rings.iter().map(|ring| b(self.length_for_room(ring))).sum();
             let counted = if self.makes(Mistake::RoomForLessThan64Rings) { rings.len().min(63) } else { rings.len() };
-            6 + 2 * counted + 16 * sum
+            let size = if self.makes(Mistake::RoomOf16) { 16 } else { 18 };
+            6 + 2 * counted + size * sum
         };
         LEAST_ROOM + parts.iter().map(part).sum::<usize>()
     }
@@ -154,10 +157,7 @@ impl Reading {
                 bytes.extend((rings.len() as u16).to_le_bytes());
                 for ring in rings {
                     bytes.extend((ring.len() as u16).to_le_bytes());
-                    for v in ring {
-                        self.put_number(bytes, v.x);
-                        self.put_number(bytes, v.y);
-                    }
+                    self.put_vertices(bytes, ring);
                 }
                 if self.makes(Mistake::PositionsOnCutParts) {
                     self.put_positions(bytes, 0, 0);
@@ -165,6 +165,26 @@ impl Reading {
             }
             Routed::Nothing | Routed::Dropped => unreachable!("only what is kept is listed"),
         }
+    }
+
+    /// Each coordinate is followed by its origin, 2 bytes.
+    fn put_vertices(&self, bytes: &mut Vec<u8>, ring: &[Made]) {
+        let stand_behind = self.makes(Mistake::OriginsBehindRing);
+        for Made { vertex, origin } in ring {
+            self.put_number(bytes, vertex.x);
+            self.put_number(bytes, vertex.y);
+            if !stand_behind {
+                self.put_origin(bytes, *origin);
+            }
+        }
+        if stand_behind {
+            ring.iter().for_each(|made| self.put_origin(bytes, made.origin));
+        }
+    }
+
+    fn put_origin(&self, bytes: &mut Vec<u8>, origin: u16) {
+        let big_endian = self.makes(Mistake::OriginsBigEndian);
+        bytes.extend(if big_endian { origin.to_be_bytes() } else { origin.to_le_bytes() });
     }
 
     /// An overlay part ends with two positions of 2 bytes each.

@@ -1,5 +1,5 @@
-//! A second reading of document 01 and of document 02's points 1, 3 and 4, written from their text alone: it shares no code with
-//! the oracle. It can make one deliberate mistake, so that the generator can be shown to find it.
+//! A second reading of document 01 and of document 02's points 1, 3, 4 and 12, written from their text alone: it shares no code
+//! with the oracle. It can make one deliberate mistake, so that the generator can be shown to find it.
 
 mod calls;
 mod cut;
@@ -7,15 +7,17 @@ mod frame;
 mod issues;
 mod mistake;
 mod multipolygon;
+mod origins;
 mod polygon;
 mod program;
 mod reason;
 mod ring;
 
-pub use calls::{Lent, PassCounts, Slices};
+pub use calls::{Lent, PassCounts, PassInput, Slices};
 pub use cut::Side;
 pub use issues::Issue;
 pub use mistake::{Mistake, Place};
+pub use origins::Made;
 pub use polygon::{Flags, Routed};
 pub use ring::Vertex;
 

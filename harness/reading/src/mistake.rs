@@ -141,6 +141,16 @@ mistakes! {
         PositionsOnCutParts,
         /// Writes positions with the high byte first.
         PositionsBigEndian,
+
+        // Origins in frames.
+        /// Takes 18 bytes for a coordinate of a frame that is lent.
+        LentCoordinatesOf18,
+        /// Asks for 16 bytes of output for a coordinate.
+        RoomOf16,
+        /// Writes origins with the high byte first.
+        OriginsBigEndian,
+        /// Writes the origins of a ring behind all its coordinates.
+        OriginsBehindRing,
     }
 
     [Frames, Passes] {
@@ -152,6 +162,52 @@ mistakes! {
         FusesCrossing,
         /// Computes the bound's own coordinate of a crossing too.
         CrossingMissesBound,
+    }
+
+    [Frames, RingCalls, SliceCalls, Passes] {
+        // Origins of a pass.
+        /// Gives a crossing the origin of its end.
+        CrossingHasEndsOrigin,
+        /// Gives a crossing the origin of its start.
+        CrossingHasStartsOrigin,
+        /// Gives a crossing between two vertices of one line the number of that line.
+        CornerHasEarlierLine,
+        /// Gives a kept vertex that lies on the line the number of the line.
+        OnLineHasLine,
+        /// Gives a kept vertex that an earlier line made the number of the later one.
+        KeptHasLaterLine,
+        /// Numbers the vertices that are kept by their places in the ring that the pass gets.
+        RenumbersInEachPass,
+        /// Gives the first vertex the origin of the last one, which is left off.
+        LeftOffGivesOrigin,
+        /// Gives Left the number of Right, and Right that of Left.
+        SwapsLeftAndRight,
+        /// Gives Bottom the number of Top, and Top that of Bottom.
+        SwapsBottomAndTop,
+    }
+
+    [Frames, RingCalls, SliceCalls] {
+        // Origins of a ring.
+        /// Finds origins by comparing coordinates: a crossing that equals a vertex of the input gets its position.
+        OriginByComparing,
+        /// Gives the closing vertex the origin of the last one.
+        ClosingHasLastsOrigin,
+        /// Gives the closing vertex the number of the last line.
+        ClosingHasLine,
+        /// Gives the closing vertex the position of the one that the ring was lent closed with.
+        ClosingHasLentPosition,
+        /// Numbers positions from 1.
+        OriginsFromOne,
+    }
+
+    [Frames, SliceCalls] {
+        // Origins of a polygon.
+        /// Numbers positions in the whole part, so that holes go on where the ring before them ends.
+        PositionsInPart,
+        /// Gives the second closing vertex no origin, which is 0.
+        SecondClosingHasNone,
+        /// Gives the second closing vertex the number of the last line.
+        SecondClosingHasLine,
     }
 
     [Passes] {
@@ -229,8 +285,10 @@ mistakes! {
     }
 
     [RingCalls, SliceCalls] {
-        /// Gives 20 for 65,536 coordinates.
+        /// Gives 20 for 65,532 coordinates.
         LimitIsTooMany,
+        /// Gives 20 over 65,536 coordinates, as before there were origins.
+        FormerLimit,
         /// Gives 21 for the order slice alone, which a ring call has not.
         ScratchUnseen,
         /// Clears scratch only up to 2 x S, and order up to S.
@@ -245,6 +303,34 @@ mistakes! {
         ClearsOnCutOnly,
         /// Clears the output with -0.0.
         ClearsWithNegativeZeros,
+
+        // The u16 slices.
+        /// Doesn't ask for the u16 scratch slice in 21.
+        OriginScratchUnseen,
+        /// Asks of the u16 scratch slice 2 x S, as of the other one.
+        OriginScratchInNumbers,
+        /// Gives 22 for the u16 scratch slice.
+        ShortOriginScratchIs22,
+        /// Doesn't ask for the u16 output in 22.
+        OriginsUnseen,
+        /// Asks of the u16 output 2 x the sum of B, as of the other one.
+        OriginsInNumbers,
+        /// Gives 21 for the u16 output.
+        ShortOriginsAre21,
+        /// Leaves the u16 scratch slice as it was.
+        KeepsOriginScratch,
+        /// Clears the u16 scratch slice only up to S.
+        ClearsOriginScratchUsed,
+        /// Has already written to the u16 scratch slice when it refuses.
+        WritesOriginsBeforeRefusing,
+        /// Leaves the u16 output past the answer as it was.
+        KeepsOriginsPastAnswer,
+        /// Clears the u16 output past the answer to the slice's end.
+        ClearsOriginsToEnd,
+        /// Clears the u16 output behind a cut's origins, and leaves it as it was where there are none.
+        ClearsOriginsOnCutOnly,
+        /// Clears the u16 output as far as the output has numbers, which is twice as far.
+        ClearsOriginsTwiceAsFar,
     }
 
     [SliceCalls] {
@@ -260,6 +346,10 @@ mistakes! {
         ClearsByUnclosedLengths,
         /// Leaves the cut in the output where it finds an overlay after it.
         OverlayLeavesCut,
+        /// Leaves the cut's origins in the u16 output where it finds an overlay after it.
+        OverlayLeavesOrigins,
+        /// Asks of the u16 scratch slice the sum of the B instead of the largest.
+        OriginScratchBySum,
         /// Clears the second length slice past the answer.
         ClearsLengthsPastAnswer,
         /// Has 16 bits for a position, as a frame does.

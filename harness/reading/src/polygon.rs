@@ -1,6 +1,7 @@
 //! One polygon: sections "Nothing, or dropped", "Unchanged", "Cut rings" and "Overlay wanted".
 
 use crate::cut::Side;
+use crate::origins::{vertices_of, Closing, Made};
 use crate::reason::Reason;
 use crate::{Mistake, Reading, Vertex};
 
@@ -65,7 +66,7 @@ pub enum Routed {
     Nothing,
     Dropped,
     Unchanged,
-    Cut(Vec<Vec<Vertex>>),
+    Cut(Vec<Vec<Made>>),
     Overlay(Reason),
 }
 
@@ -136,23 +137,28 @@ impl Reading {
         if cut[0].len() < fewest {
             return Routed::Nothing;
         }
-        match self.reason(&rings[0], &cut, bounds, flags) {
+        let vertices: Vec<Vec<Vertex>> = cut.iter().map(|ring| vertices_of(ring)).collect();
+        match self.reason(&rings[0], &vertices, bounds, flags) {
             Some(reason) => self.overlay(rings, reason),
             None => Routed::Cut(cut),
         }
     }
 
     /// The exterior, cut, and the cut holes that are not left out, as the polygon holds them.
-    pub fn cut_rings(&self, rings: &[Vec<Vertex>], bounds: &Bounds) -> Vec<Vec<Vertex>> {
-        let mut cut: Vec<Vec<Vertex>> = rings.iter().map(|ring| self.cut_ring(ring, &bounds.buffered)).collect();
+    pub fn cut_rings(&self, rings: &[Vec<Vertex>], bounds: &Bounds) -> Vec<Vec<Made>> {
         let fewest = if self.makes(Mistake::KeepsShortHoles) { 1 } else { 4 };
-        let mut number = 0;
-        cut.retain(|ring| {
-            number += 1;
-            number == 1 || ring.len() >= fewest
-        });
-        if !self.makes(Mistake::ClosesCutRingsOnce) {
-            cut.iter_mut().for_each(|ring| self.close(ring));
+        let mut before = 0;
+        let mut cut = Vec::new();
+        for (number, input) in rings.iter().enumerate() {
+            let mut ring = self.cut_ring(input, before, &bounds.buffered);
+            before += input.len();
+            if number > 0 && ring.len() < fewest {
+                continue;
+            }
+            if !self.makes(Mistake::ClosesCutRingsOnce) {
+                self.close_cut(&mut ring, input, Closing::InPolygon);
+            }
+            cut.push(ring);
         }
         cut
     }

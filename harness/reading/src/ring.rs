@@ -48,10 +48,15 @@ impl Reading {
         let (Some(&first), Some(&last)) = (ring.first(), ring.last()) else {
             return;
         };
-        let told_apart = self.makes(Mistake::ZeroSignsKeepOpen) && !first.has_signs_of(last);
-        if !first.equals(last) || told_apart {
+        if self.is_open(first, last) {
             ring.push(first);
         }
+    }
+
+    /// Whether a ring with these ends is closed by its first coordinate once more.
+    pub fn is_open(&self, first: Vertex, last: Vertex) -> bool {
+        let told_apart = self.makes(Mistake::ZeroSignsKeepOpen) && !first.has_signs_of(last);
+        !first.equals(last) || told_apart
     }
 
     pub fn closed(&self, rings: &[Vec<Vertex>]) -> Vec<Vec<Vertex>> {
