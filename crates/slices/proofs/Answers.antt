@@ -3,7 +3,7 @@
 use mathlib.Core.Path.{_≡_, refl}
 use mathlib.Core.Bool.{Bool, true, false, cond}
 use mathlib.Core.List.{List, [], _∷_}
-use Prim.Native.Nat.{ℕ, suc, _+_, _/_, _%_, _^_, _<_, _≤_, zero-le}
+use Prim.Native.Nat.{ℕ, suc, _+_, _*_, _/_, _%_, _^_, _<_, _≤_, zero-le}
 use native.Mathlib.Omega.{arith}
 use lib.Dec.{lit<, lit≤}
 use lib.Ieee.{Float}
@@ -27,7 +27,7 @@ use Rattle.rings.specs.declared.rectangle.Rect.{Rect}
 use Rattle.rings.specs.declared.rectangle.Rect.the-variants as Rects
 use Rattle.rings.specs.Rectangle.{rectangle}
 use Rattle.rings.specs.Representable.{anyHugeRing}
-use Rattle.rings.specs.LentRings.{exterior, mostRings, closedRings, total}
+use Rattle.rings.specs.LentRings.{exterior, mostRings, closedRings, total, ringRoom}
 use Rattle.rings.proofs.LentRings.{length-closed}
 use Rattle.clip.specs.declared.polygon.Flags.{Flags}
 use Rattle.clip.specs.declared.polygon.Reason.{Reason}
@@ -44,9 +44,12 @@ use Rattle.slices.specs.declared.call.RoomCheck.{RoomCheck}
 use Rattle.slices.specs.declared.call.RoomCheck.the-variants as Rooms
 use Rattle.slices.specs.SliceCall.{PolygonSlices, polygonSlices, sliceCallCheck, routeLent, sliceAnswered, sliceCallAnswer}
 use Rattle.slices.specs.SliceCall.{
+  sliceCallRoom,
+  sliceCallOriginRoom,
   writtenRings,
   numbersOf,
   lengthsOf,
+  originsOf,
   polygonSlicesAfter,
   answerCode,
   sliceCallCode,
@@ -142,9 +145,10 @@ module _ (b : TileBounds) (rings : List (List Coord)) (few : length rings ≤ mo
 -- ---- the call
 
 -- what is answered, and what the lent slices hold, where the checks refuse
-pub refused : (c : Check) (room : ℕ) (to : Routed) (lent : PolygonSlices) (r : RoomCheck) (refusal : Refusal) → r ≡ withRoom c room
-    → r ≡ Rooms.Fails refusal → (Refused refusal ≡ sliceAnswered c to) × (lent ≡ polygonSlicesAfter c room to lent)
-refused c room to lent r refusal told e = let f = fails-told c room r refusal told e in (rw f, rw f)
+pub refused : (c : Check) (room : ℕ) (rings : List (List Coord)) (to : Routed) (origins : List (List ℕ)) (lent : PolygonSlices)
+    (r : RoomCheck) (refusal : Refusal) → r ≡ withRoom c room → r ≡ Rooms.Fails refusal
+    → (Refused refusal ≡ sliceAnswered c to) × (lent ≡ polygonSlicesAfter c rings to origins lent)
+refused c room rings to origins lent r refusal told e = let f = fails-told c room r refusal told e in (rw f, rw f)
 
 -- and where they pass
 module _ (c : Check) (to : Routed) (passes : c ≡ Passes) where
@@ -152,12 +156,17 @@ module _ (c : Check) (to : Routed) (passes : c ≡ Passes) where
       → Answered answer guards ≡ sliceAnswered c to
   answered answer guards ha hg = rw (passes, hg, ha)
 
-  pub written : (room : ℕ) (lent : PolygonSlices) (scratch : List Float) (order : List ℕ) (out : List Float) (lens : List ℕ)
-      → scratch ≡ zeros (length (lent .scratch)) → order ≡ replicate (length (lent .order)) 0
-      → out ≡ padded plusZero (numbersOf (writtenRings to)) room (lent .output) → lens ≡ over (lengthsOf (writtenRings to)) (lent
-      .outLengths)
-      → polygonSlices scratch order out lens ≡ polygonSlicesAfter c room to lent
-  written room lent scratch order out lens hs hp ho hl = rw (passes, hs, hp, ho, hl)
+  pub written : (rings : List (List Coord)) (origins : List (List ℕ)) (lent : PolygonSlices) (room : ℕ) → room ≡ total ringRoom rings
+      → (scratch : List Float) (originScratch order : List ℕ) (out : List Float) (lens os : List ℕ)
+      → scratch ≡ zeros (length (lent .scratch)) → originScratch ≡ replicate (length (lent .originScratch)) 0
+      → order ≡ replicate (length (lent .order)) 0
+      → out ≡ padded plusZero (numbersOf (writtenRings to)) (2 * room) (lent .output)
+      → lens ≡ over (lengthsOf (writtenRings to)) (lent .outLengths)
+      → os ≡ padded 0 (originsOf origins) room (lent .outOrigins)
+      → polygonSlices scratch originScratch order out lens os ≡ polygonSlicesAfter c rings to origins lent
+  unfolding sliceCallRoom sliceCallOriginRoom
+  written rings origins lent room asked scratch originScratch order out lens os hs hu hp ho hl hr =
+      rw (passes, ← asked, hs, hu, hp, ho, hl, hr)
 
 pub passed : (c : Check) (to : Routed) (answer : PolygonAnswer) (guards : ℕ) → sliceAnswered c to ≡ Answered answer guards
     → (c ≡ Passes) × (answerOf to ≡ answer)
@@ -170,7 +179,7 @@ module _ (flags : Flags) (bounds : TileBounds) (buffer : Float) (s : List Float)
   unfolding sliceCallAnswer routeLent
   answer-fields answer guards e =
       let p = passed (sliceCallCheck s ns lent) (routeLent flags bounds buffer s ns) answer guards e in
-      let m = passes-room ns s _ _ _ _ (p .0) .measurable in
+      let m = passes-room ns s _ _ _ _ _ _ (p .0) .0 .measurable in
       let few : length (closedRings ns s) ≤ mostRings = omega (arith, length-closed ns s, m .lent .few) in
       let small : length (exterior (closedRings ns s)) ≤ mostCoordinates = omega (arith, exterior-most (closedRings ns s), m .small) in
       rw (← p .1) (route-fields (buffered bounds buffer) (closedRings ns s) few small flags)

@@ -1,17 +1,19 @@
 -- What the checks of a slice call leave: a polygon that passes them has room everywhere. Assumes nothing.
 use mathlib.Core.Path.{_≡_, refl, sym, ap}
 use mathlib.Core.Bool.{Bool, true, false, not, cond, _&&_, _||_}
-use mathlib.Core.List.{List, _++_}
+use mathlib.Core.List.{List, [], _++_, append-nil, append-assoc}
 use Prim.Native.Nat.{ℕ, _*_, _-_, _<_, _≤_}
 use native.Mathlib.Omega.{arith}
 use lib.Dec.{ltb, leb, eqb}
 use lib.Ieee.{Float}
-use lib.ListN.{length, take, drop, length-append, take-append-drop}
+use lib.ListN.{length, take, drop, replicate, length-append, take-append-drop, drop-of-length-le}
+use lib.Seq.{length-take-le}
 use borrow.Author.Tests.{ltb-true, ltb-false, leb-true, eqb-true, not-false}
 use Rattle.binary64.specs.Slices.{plusZero, zeros, padded}
 use Rattle.binary64.proofs.Fill.{padded-part}
 use Rattle.binary64.proofs.Booleans.{neither, both}
 use Rattle.tile.specs.declared.Coord.{Coord}
+use Rattle.tile.specs.declared.TileBounds.{TileBounds}
 use Rattle.sutherland_hodgman.specs.declared.call.Refusal.{Refusal}
 use Rattle.sutherland_hodgman.specs.declared.call.Refusal.the-variants.{Lengths, Coordinates, Scratch, Output}
 use Rattle.sutherland_hodgman.specs.declared.call.Check.{Check}
@@ -25,10 +27,13 @@ use Rattle.rings.specs.Contracts.{allClosed, Lent, Measurable}
 use Rattle.rings.proofs.LentRings.{length-closed, largest-total, rooms-below}
 use Rattle.clip.specs.declared.polygon.Reason.{Reason}
 use Rattle.clip.specs.Polygon.{Routed, dropped, overlay, overlayOrDropped}
+use Rattle.clip.specs.Origins.{routedOrigins}
 use Rattle.slices.specs.declared.call.RoomCheck.{RoomCheck}
 use Rattle.slices.specs.declared.call.RoomCheck.the-variants as Rooms
-use Rattle.slices.specs.SliceCall.{lengthsFit, sliceCallRoom, checkRoom, checkPolygon, writtenRings, numbersOf, lengthsOf}
-use Rattle.slices.specs.Contracts.{withRoom, Filled, LentRingsRoom, PolygonRoom, nonePlaced}
+use Rattle.slices.specs.SliceCall.{lengthsFit, sliceCallRoom, sliceCallOriginRoom, checkRoom, checkPolygon, writtenRings}
+use Rattle.slices.specs.SliceCall.{numbersOf, lengthsOf, originsOf}
+use Rattle.slices.specs.Contracts.{withRoom, Filled, FilledOrigins, FilledWhole, LentRingsRoom, LentOriginsRoom, PolygonRoom}
+use Rattle.slices.specs.Contracts.{nonePlaced}
 
 -- the rooms of a few rings are numbers of the machine
 pub few-rooms : (ns : List ℕ) (s : List Float) → Measurable ns s → (largest ringRoom (closedRings ns s) ≤ mostRings * (8 * mostCoordinates))
@@ -53,37 +58,51 @@ module _ (ns : List ℕ) (s : List Float) (h : lengthsFit (length s) ns ≡ true
   pub fitting : Lent ns s
   fitting = record { few = leb-true (length ns) mostRings (tests .1); fits = omega (arith, eqb-true (2 * sum ns) (length s) (tests .2)) }
 
-module _ (ns : List ℕ) (s : List Float) (scratch order out lens : ℕ) (h : checkPolygon s ns scratch order out lens ≡ Passes) where
+-- a test that is one of three, none of which holds
+none-of-three : (s t u : Bool) → s || (t || u) ≡ false → (s ≡ false) × (t ≡ false) × (u ≡ false)
+none-of-three s t u e =
+    let p = neither s (t || u) e in
+    let q = neither t u (p .1) in
+    (p .0, q .0, q .1)
+
+module _ (ns : List ℕ) (s : List Float) (scratch originScratch order out lens outOrigins : ℕ)
+    (h : checkPolygon s ns scratch originScratch order out lens outOrigins ≡ Passes) where
   past-lengths : (not (lengthsFit (length s) ns) ≡ false)
       × (failsIf (ltb mostCoordinates (total length (closedRings ns s))) Coordinates
-      (checkRoom (closedRings ns s) scratch order out lens) ≡ Passes)
+      (checkRoom (closedRings ns s) scratch originScratch order out lens outOrigins) ≡ Passes)
   unfolding checkPolygon
   past-lengths = not-refused (not (lengthsFit (length s) ns)) Lengths _ h
 
   pub passes-fit : lengthsFit (length s) ns ≡ true
   passes-fit = not-false (lengthsFit (length s) ns) (past-lengths .0)
 
-  pub passes-room : PolygonRoom ns s scratch order out lens
-  unfolding checkRoom sliceCallRoom
+  pub passes-room : PolygonRoom ns s scratch order out lens × LentOriginsRoom ns s originScratch outOrigins nonePlaced
+  unfolding checkRoom sliceCallRoom sliceCallOriginRoom
   passes-room =
       let most = largest ringRoom (closedRings ns s) in
       let all = total ringRoom (closedRings ns s) in
+      let n = length (closedRings ns s) in
       let q2 = not-refused (ltb mostCoordinates (total length (closedRings ns s))) Coordinates _ (past-lengths .1) in
-      let q3 = not-refused (ltb scratch (2 * most) || ltb order most) Scratch _ (q2 .1) in
-      let q4 = not-refused (ltb out (2 * all) || ltb lens (length (closedRings ns s))) Output _ (q3 .1) in
-      let ts = neither (ltb scratch (2 * most)) (ltb order most) (q3 .0) in
-      let to = neither (ltb out (2 * all)) (ltb lens (length (closedRings ns s))) (q4 .0) in
-      record {
-        measurable =
-            record { lent = fitting ns s passes-fit; small = ltb-false mostCoordinates (total length (closedRings ns s)) (q2 .0) };
-        some = some-rings ns s passes-fit;
-        scratch-room = ltb-false scratch (2 * most) (ts .0);
-        positions = ltb-false order most (ts .1);
-        output-room = ltb-false out (2 * all) (to .0);
-        lengths-room = omega (arith, ltb-false lens (length (closedRings ns s)) (to .1), length-closed ns s);
-      }
+      let q3 = not-refused (ltb scratch (2 * most) || (ltb originScratch most || ltb order most)) Scratch _ (q2 .1) in
+      let q4 = not-refused (ltb out (2 * all) || (ltb lens n || ltb outOrigins all)) Output _ (q3 .1) in
+      let ts = none-of-three (ltb scratch (2 * most)) (ltb originScratch most) (ltb order most) (q3 .0) in
+      let to = none-of-three (ltb out (2 * all)) (ltb lens n) (ltb outOrigins all) (q4 .0) in (
+        record {
+          measurable =
+              record { lent = fitting ns s passes-fit; small = ltb-false mostCoordinates (total length (closedRings ns s)) (q2 .0) };
+          some = some-rings ns s passes-fit;
+          scratch-room = ltb-false scratch (2 * most) (ts .0);
+          positions = ltb-false order most (ts .2);
+          output-room = ltb-false out (2 * all) (to .0);
+          lengths-room = omega (arith, ltb-false lens n (to .1), length-closed ns s);
+        },
+        record {
+          scratch-room = ltb-false originScratch most (ts .1);
+          output-room = omega (arith, ltb-false outOrigins all (to .2));
+        },
+      )
 
--- where there is room everywhere, there is in the part of the output that 22 asks for
+-- where there is room everywhere, there is in the parts of the outputs that 22 asks for
 pub part-room : (ns : List ℕ) (s : List Float) (scratch order out lens part : ℕ) → 2 * total ringRoom (closedRings ns s) ≤ part
     → PolygonRoom ns s scratch order out lens → PolygonRoom ns s scratch order part lens
 part-room ns s scratch order out lens part h p = record {
@@ -94,6 +113,10 @@ part-room ns s scratch order out lens part h p = record {
   output-room = h;
   lengths-room = p .lengths-room;
 }
+
+pub part-origin-room : (ns : List ℕ) (s : List Float) (originScratch outOrigins part : ℕ) → total ringRoom (closedRings ns s) ≤ part
+    → LentOriginsRoom ns s originScratch outOrigins nonePlaced → LentOriginsRoom ns s originScratch part nonePlaced
+part-origin-room ns s originScratch outOrigins part h o = record { scratch-room = o .scratch-room; output-room = omega arith }
 
 -- where closing closes every ring, all can be cut
 pub cuttable : (ns : List ℕ) (s : List Float) (scratch order out lens : ℕ) → PolygonRoom ns s scratch order out lens
@@ -107,35 +130,69 @@ cuttable ns s scratch order out lens p closes = record {
 }
 
 -- an overlay, dropped or not, writes nothing
-pub overlay-filled : (rings : List (List Coord)) (reason : Reason) (out : List Float) (lens : List ℕ)
-    → Filled (overlayOrDropped rings reason) 0 lens out lens
-unfolding overlayOrDropped numbersOf lengthsOf
-overlay-filled rings reason out lens = go (anyHugeRing rings)
+pub overlay-filled : (b : TileBounds) (rings : List (List Coord)) (reason : Reason) (out : List Float) (lens os : List ℕ)
+    → Filled (overlayOrDropped rings reason) 0 lens out lens × FilledOrigins (routedOrigins (overlayOrDropped rings reason) b rings) 0 os
+unfolding overlayOrDropped numbersOf lengthsOf originsOf
+overlay-filled b rings reason out lens os = go (anyHugeRing rings)
   where
     go : (t : Bool) → Filled (cond t dropped (overlay reason)) 0 lens out lens
-    go true = record { count = refl; output = refl; lengths = refl }
-    go false = record { count = refl; output = refl; lengths = refl }
+        × FilledOrigins (routedOrigins (cond t dropped (overlay reason)) b rings) 0 os
+    go true = (record { count = refl; output = refl; lengths = refl }, record { count = refl; output = refl })
+    go false = (record { count = refl; output = refl; lengths = refl }, record { count = refl; output = refl })
 
--- ---- what was written, and the rest of the room cleared
+-- ---- what was written, and the rest cleared
+
+-- what stands at the front of a slice is no longer than the slice
+front-fits : {A : Type 0} (new part : List A) (used : ℕ) → used ≡ length new → take used part ≡ new → used ≤ length part
+front-fits new part used n e =
+    omega (
+      arith,
+      n,
+      ap length e,
+      ap length (take-append-drop used part),
+      length-append (take used part) (drop used part),
+    )
+
+-- a slice that is written from the front, and filled with zeros behind it to its end
+rest-cleared : {A : Type 0} (zero : A) (new part old fill : List A) (used : ℕ) → used ≡ length new → take used part ≡ new
+    → length part ≡ length old → fill ≡ replicate (length (take (length part - used) (drop used part))) zero
+    → take used part ++ (fill ++ drop (length part - used) (drop used part)) ≡ padded zero new (length old) old
+rest-cleared zero new part old fill used n e l h =
+    let k : length old ≤ length part = omega arith in
+    let none : drop (length part) old ≡ [] = drop-of-length-le old k in
+    let whole : part ++ drop (length part) old ≡ part = rw (none, append-nil) in
+    let p = padded-part zero new part old fill used (length part) e (sym n) (front-fits new part used n e) refl (rw whole h) in
+    rw (← l) (rw whole at p)
 
 module _ {to : Routed} {used : ℕ} {lens : List ℕ} {part : List Float} {lens′ : List ℕ} (filled : Filled to used lens part lens′) where
-  pub filled-fits : used ≤ length part
-  filled-fits =
-      omega (
-        arith,
-        filled .count,
-        ap length (filled .output),
-        ap length (take-append-drop used part),
-        length-append (take used part) (drop used part),
-      )
+  pub filled-fits : 2 * used ≤ length part
+  filled-fits = front-fits (numbersOf (writtenRings to)) part (2 * used) (filled .count) (filled .output)
 
-  pub filled-padded : (out fill : List Float) (room : ℕ) → length part ≡ room
-      → fill ≡ zeros (length (take (room - used) (drop used (part ++ drop room out))))
-      → take used (part ++ drop room out) ++ (fill ++ drop (room - used) (drop used (part ++ drop room out)))
-      ≡ padded plusZero (numbersOf (writtenRings to)) room out
-  filled-padded out fill room l h =
-      padded-part plusZero (numbersOf (writtenRings to)) part out fill used room (filled .output) (sym (filled .count))
-      (omega (arith, filled-fits, l)) l h
+  pub filled-whole : (out fill : List Float) → length part ≡ length out
+      → fill ≡ zeros (length (take (length part - 2 * used) (drop (2 * used) part)))
+      → FilledWhole to out lens (take (2 * used) part ++ (fill ++ drop (length part - 2 * used) (drop (2 * used) part))) lens′
+  filled-whole out fill l h = record {
+    output = rest-cleared plusZero (numbersOf (writtenRings to)) part out fill (2 * used) (filled .count) (filled .output) l h;
+    lengths = filled .lengths;
+  }
+
+module _ {origins : List (List ℕ)} {used : ℕ} {part : List ℕ} (filled : FilledOrigins origins used part) where
+  pub origins-filled-fit : used ≤ length part
+  origins-filled-fit = front-fits (originsOf origins) part used (filled .count) (filled .output)
+
+  pub origins-whole : (os fill : List ℕ) → length part ≡ length os
+      → fill ≡ replicate (length (take (length part - used) (drop used part))) 0
+      → take used part ++ (fill ++ drop (length part - used) (drop used part)) ≡ padded 0 (originsOf origins) (length os) os
+  origins-whole os fill l h = rest-cleared 0 (originsOf origins) part os fill used (filled .count) (filled .output) l h
+
+-- a part of a slice that was filled so, and the rest of the slice
+pub padded-front : {A : Type 0} (zero : A) (new part old : List A) (room : ℕ) → room ≤ length old
+    → part ≡ padded zero new (length (take room old)) (take room old) → part ++ drop room old ≡ padded zero new room old
+padded-front zero new part old room h e =
+    let l : length (take room old) ≡ room = length-take-le room old h in
+    let k : length (take room old) ≤ room = omega arith in
+    let none : drop room (take room old) ≡ [] = drop-of-length-le (take room old) k in
+    rw (e, l, none, append-nil, append-assoc)
 
 -- ---- what a check tells with its room
 
@@ -149,25 +206,29 @@ passes-told : (check : Check) (asked : ℕ) (r : RoomCheck) (room : ℕ) → r �
 passes-told (Fails refusal) asked r room told e = absurd (let z : _≡_ {A = ℕ} 0 1 = cc in omega arith)
 passes-told Passes asked r room told e = (refl, cc)
 
--- the call is not refused, and 22 asks for `room` numbers of the output
-pub record Passed (ns : List ℕ) (s : List Float) (scratch order out lens room : ℕ) : Type 0 where
-  pub passes : checkPolygon s ns scratch order out lens ≡ Passes
-  pub asked : room ≡ 2 * total ringRoom (closedRings ns s)
+-- the call is not refused, and 22 asks for room for so many coordinates and origins
+pub record Passed (ns : List ℕ) (s : List Float) (scratch originScratch order out lens outOrigins room : ℕ) : Type 0 where
+  pub passes : checkPolygon s ns scratch originScratch order out lens outOrigins ≡ Passes
+  pub asked : room ≡ total ringRoom (closedRings ns s)
   pub polygon-room : PolygonRoom ns s scratch order out lens
-  pub within : room ≤ out
-  pub small : room ≤ 2 * (mostRings * (8 * mostCoordinates))
+  pub origin-room : LentOriginsRoom ns s originScratch outOrigins nonePlaced
+  pub within : 2 * room ≤ out
+  pub origins-within : room ≤ outOrigins
+  pub small : room ≤ mostRings * (8 * mostCoordinates)
 
-pub passed-checks : (ns : List ℕ) (s : List Float) (scratch order out lens : ℕ) (r : RoomCheck) (room : ℕ)
-    → r ≡ withRoom (checkPolygon s ns scratch order out lens) (sliceCallRoom (closedRings ns s)) → r ≡ Rooms.Passes room
-    → Passed ns s scratch order out lens room
-unfolding sliceCallRoom
-passed-checks ns s scratch order out lens r room told e =
-    let t = passes-told (checkPolygon s ns scratch order out lens) _ r room told e in
-    let p = passes-room ns s scratch order out lens (t .0) in
+pub passed-checks : (ns : List ℕ) (s : List Float) (scratch originScratch order out lens outOrigins : ℕ) (r : RoomCheck) (room : ℕ)
+    → r ≡ withRoom (checkPolygon s ns scratch originScratch order out lens outOrigins) (sliceCallOriginRoom (closedRings ns s))
+    → r ≡ Rooms.Passes room → Passed ns s scratch originScratch order out lens outOrigins room
+unfolding sliceCallOriginRoom
+passed-checks ns s scratch originScratch order out lens outOrigins r room told e =
+    let t = passes-told (checkPolygon s ns scratch originScratch order out lens outOrigins) _ r room told e in
+    let p = passes-room ns s scratch originScratch order out lens outOrigins (t .0) in
     record {
       passes = t .0;
       asked = t .1;
-      polygon-room = p;
-      within = omega (arith, t .1, p .output-room);
-      small = omega (arith, t .1, few-rooms ns s (p .measurable) .1);
+      polygon-room = p .0;
+      origin-room = p .1;
+      within = omega (arith, t .1, p .0 .output-room);
+      origins-within = omega (arith, t .1, p .1 .output-room);
+      small = omega (arith, t .1, few-rooms ns s (p .0 .measurable) .1);
     }

@@ -1,13 +1,16 @@
 // The slice call: one polygon as lent slices. It is open to callers and refuses what it can't cut.
 ghost use mathlib.Core.Path.{_≡_};
+ghost use mathlib.Core.List.{_++_};
 ghost use Prim.Native.Nat.{_*_, _^_, _<_};
 ghost use lib.ListN.{length, take, replicate};
+ghost use Rattle.binary64.specs.Slices.{padded};
 ghost use Rattle.tile.specs.Ring as Ring;
 ghost use Rattle.rings.specs.LentRings.{closedRings};
 ghost use Rattle.rings.specs.Contracts.{Lent, Measurable};
 ghost use Rattle.clip.specs.Polygon as Polygon;
-ghost use Rattle.slices.specs.SliceCall.{lengthsFit, checkRoom, checkPolygon, sliceCallRoom, polygonSlices, sliceCallAnswer};
-ghost use Rattle.slices.specs.SliceCall.{sliceCallSlices, answerCode};
+ghost use Rattle.clip.specs.Origins as Origins;
+ghost use Rattle.slices.specs.SliceCall.{lengthsFit, checkRoom, checkPolygon, sliceCallOriginRoom, polygonSlices};
+ghost use Rattle.slices.specs.SliceCall.{originsOf, sliceCallAnswer, sliceCallSlices, answerCode};
 ghost use Rattle.slices.specs.Contracts as Contracts;
 use binary64::slices::clear;
 use clip::polygon::CUT;
@@ -32,6 +35,7 @@ use rings::lent::room_of;
 use rings::rectangle::Rect;
 use sutherland_hodgman::call::MOST_COORDINATES;
 use sutherland_hodgman::call::Refusal;
+use sutherland_hodgman::origins::clear_origins;
 use tile::TileBounds;
 
 // By what an answer's number multiplies the reason; a cut's rings or an overlay's first position; an overlay's second position.
@@ -47,22 +51,22 @@ pub enum SliceAnswer {
     Answered(PolygonAnswer, usize),
 }
 
-// Whether there is a refusal; if there is none, how many numbers of the output 22 asks for.
+// Whether there is a refusal; if there is none, for how many coordinates, and origins, 22 asks room in the outputs.
 enum RoomCheck {
     Fails(Refusal),
     Passes(usize),
 }
 
-// How much of the output is the answer's so far: rings, and their numbers.
+// How much of the outputs is the answer's so far: rings, and their coordinates.
 struct Placed {
     rings: usize,
-    numbers: usize,
+    coordinates: usize,
 }
 
-// What becomes of a polygon, and how many numbers of the output belong to the answer.
+// What becomes of a polygon, and how many coordinates of the outputs belong to the answer.
 struct Clipped {
     answer: PolygonAnswer,
-    numbers: usize,
+    coordinates: usize,
 }
 
 // Refusal 19: no ring, too many, or lengths that don't fit the numbers lent.
@@ -78,32 +82,41 @@ fn lengths_fit(coords: &[f64], lengths: &[u32]) -> bool
     2 * lent_count(lengths) == coords.len()
 }
 
-// Refusals 21 and 22, of rings that fit: by the lengths of the scratch slice, the order slice, the output and the second length slice.
+// Refusals 21 and 22, of rings that fit: by the lengths of the scratch slice, that of the origins, the order slice, the output, the second
+// length slice and the output of the origins.
 fn check_room(
     coords: &[f64],
     lengths: &[u32],
     scratch: usize,
+    origin_scratch: usize,
     order: usize,
     out: usize,
     out_lengths: usize,
+    out_origins: usize,
 ) -> RoomCheck
     requires { ⌜ Measurable (now lengths) (now coords) ⌝ }
     ensures { λ r. ⌜ r ≡ Contracts.withRoom
-        (checkRoom (closedRings (now (lengths .entry)) (now (coords .entry))) scratch order out «out_lengths»)
-        (sliceCallRoom (closedRings (now (lengths .entry)) (now (coords .entry)))) ⌝ }
+        (checkRoom (closedRings (now (lengths .entry)) (now (coords .entry))) scratch «origin_scratch» order out «out_lengths»
+        «out_origins») (sliceCallOriginRoom (closedRings (now (lengths .entry)) (now (coords .entry)))) ⌝ }
 {
     let room = room_of(coords, lengths);
     if scratch < 2 * room.largest {
         return RoomCheck::Fails(Refusal::Scratch);
     }
+    if origin_scratch < room.largest {
+        return RoomCheck::Fails(Refusal::Scratch);
+    }
     if order < room.largest {
         return RoomCheck::Fails(Refusal::Scratch);
     }
-    let asked = 2 * room.all;
-    if out < asked {
+    let asked = room.all;
+    if out < 2 * asked {
         return RoomCheck::Fails(Refusal::Output);
     }
     if out_lengths < lengths.len() {
+        return RoomCheck::Fails(Refusal::Output);
+    }
+    if out_origins < asked {
         return RoomCheck::Fails(Refusal::Output);
     }
     RoomCheck::Passes(asked)
@@ -114,13 +127,15 @@ fn check_polygon(
     coords: &[f64],
     lengths: &[u32],
     scratch: usize,
+    origin_scratch: usize,
     order: usize,
     out: usize,
     out_lengths: usize,
+    out_origins: usize,
 ) -> RoomCheck
     ensures { λ r. ⌜ r ≡ Contracts.withRoom
-        (checkPolygon (now (coords .entry)) (now (lengths .entry)) scratch order out «out_lengths»)
-        (sliceCallRoom (closedRings (now (lengths .entry)) (now (coords .entry)))) ⌝ }
+        (checkPolygon (now (coords .entry)) (now (lengths .entry)) scratch «origin_scratch» order out «out_lengths» «out_origins»)
+        (sliceCallOriginRoom (closedRings (now (lengths .entry)) (now (coords .entry)))) ⌝ }
 {
     if !lengths_fit(coords, lengths) {
         return RoomCheck::Fails(Refusal::Lengths);
@@ -128,7 +143,16 @@ fn check_polygon(
     if MOST_COORDINATES < closed_sum(coords, lengths) {
         return RoomCheck::Fails(Refusal::Coordinates);
     }
-    check_room(coords, lengths, scratch, order, out, out_lengths)
+    check_room(
+        coords,
+        lengths,
+        scratch,
+        origin_scratch,
+        order,
+        out,
+        out_lengths,
+        out_origins,
+    )
 }
 
 // Counts the ring of n coordinates that stands behind the rings counted so far, and writes its length; a ring without coordinates is left
@@ -144,27 +168,41 @@ fn count_ring(n: usize, out_lengths: &mut [u32], at: Placed) -> Placed
     out_lengths[rings] = n as u32;
     Placed {
         rings: rings + 1,
-        numbers: at.numbers + 2 * n,
+        coordinates: at.coordinates + n,
     }
 }
 
 // Cuts as a hole the ring of n coordinates at the front of a slice. It is cut in the output behind the rings counted so far, where it is to
-// stand.
+// stand, and so are its origins in theirs.
 fn put_hole(
     ring: &[f64],
     n: usize,
     bounds: TileBounds,
     scratch: &mut [f64],
+    origin_scratch: &mut [u16],
     out: &mut [f64],
     out_lengths: &mut [u32],
+    out_origins: &mut [u16],
     at: Placed,
 ) -> Placed
     requires { ⌜ Contracts.HoleRoom n (now ring) (length (now scratch)) (length (now out)) (length (now «out_lengths»)) at ⌝ }
-    ensures { λ r. ⌜ Contracts.Put (Polygon.cutHole bounds (Ring.close (Ring.coords (take (2 * n) (now (ring .entry)))))) at
+    requires { ⌜ Contracts.HoleOriginRoom n (now ring) (length (now «origin_scratch»)) (length (now «out_origins»)) at ⌝ }
+    ensures rings { λ r. ⌜ Contracts.Put (Polygon.cutHole bounds (Ring.close (Ring.coords (take (2 * n) (now (ring .entry)))))) at
         (now (out .entry)) (now («out_lengths» .entry)) r (now (out .exit)) (now («out_lengths» .exit)) ⌝ }
+    ensures origins { λ r. ⌜ take (r .coordinates) (now («out_origins» .exit)) ≡ take (at .coordinates) (now («out_origins» .entry))
+        ++ Origins.holeOrigins bounds (Ring.close (Ring.coords (take (2 * n) (now (ring .entry))))) ⌝ }
 {
-    let numbers = at.numbers;
-    let m = clip_hole(ring, n, bounds, scratch, &mut out[numbers..]);
+    let placed = at.coordinates;
+    let numbers = 2 * placed;
+    let m = clip_hole(
+        ring,
+        n,
+        bounds,
+        scratch,
+        origin_scratch,
+        &mut out[numbers..],
+        &mut out_origins[placed..],
+    );
     count_ring(m, out_lengths, at)
 }
 
@@ -174,47 +212,71 @@ fn put_holes(
     lengths: &[u32],
     bounds: TileBounds,
     scratch: &mut [f64],
+    origin_scratch: &mut [u16],
     out: &mut [f64],
     out_lengths: &mut [u32],
+    out_origins: &mut [u16],
     exterior: Placed,
 ) -> Placed
     requires { ⌜ Contracts.LentRingsRoom (now lengths) (now coords) (length (now scratch)) (length (now out))
         (length (now «out_lengths»)) exterior ⌝ }
-    ensures { λ r. ⌜ Contracts.PutHoles (Polygon.cutHoles bounds (closedRings (now (lengths .entry)) (now (coords .entry)))) exterior
-        (now (out .entry)) (now («out_lengths» .entry)) r (now (out .exit)) (now («out_lengths» .exit)) ⌝ }
+    requires { ⌜ Contracts.LentOriginsRoom (now lengths) (now coords) (length (now «origin_scratch»)) (length (now «out_origins»))
+        exterior ⌝ }
+    ensures rings { λ r. ⌜ Contracts.PutHoles (Polygon.cutHoles bounds (closedRings (now (lengths .entry)) (now (coords .entry))))
+        exterior (now (out .entry)) (now («out_lengths» .entry)) r (now (out .exit)) (now («out_lengths» .exit)) ⌝ }
+    ensures origins { λ r. ⌜ take (r .coordinates) (now («out_origins» .exit)) ≡ take (exterior .coordinates)
+        (now («out_origins» .entry))
+        ++ originsOf (Origins.holesOrigins bounds (closedRings (now (lengths .entry)) (now (coords .entry)))) ⌝ }
 {
     let mut placed = exterior;
     let mut at = 0usize;
     let mut k = 0usize;
     while k < lengths.len() {
         let n = lengths[k] as usize;
-        placed = put_hole(&coords[at..], n, bounds, scratch, out, out_lengths, placed);
+        placed = put_hole(
+            &coords[at..],
+            n,
+            bounds,
+            scratch,
+            origin_scratch,
+            out,
+            out_lengths,
+            out_origins,
+            placed,
+        );
         at += 2 * n;
         k += 1;
     }
     placed
 }
 
-// Puts the holes behind the cut exterior of m coordinates, which stands at the front of the output, and answers how much is counted.
+// Puts the holes behind the cut exterior of m coordinates, which stands at the front of the output with its origins at the front of
+// theirs, and answers how much is counted.
 fn put_cut(
     coords: &[f64],
     lengths: &[u32],
     m: usize,
     bounds: TileBounds,
     scratch: &mut [f64],
+    origin_scratch: &mut [u16],
     out: &mut [f64],
     out_lengths: &mut [u32],
+    out_origins: &mut [u16],
 ) -> Placed
     requires { ⌜ Contracts.LentCutRoom bounds (now lengths) (now coords) m (length (now scratch)) (now out)
         (length (now «out_lengths»)) ⌝ }
+    requires { ⌜ Contracts.LentRouteOriginRoom (Route.Cut m) bounds (now lengths) (now coords) (length (now «origin_scratch»))
+        (now «out_origins») ⌝ }
     ensures count { λ r. ⌜ r .rings ≡ length (Polygon.cutRings bounds (closedRings (now (lengths .entry)) (now (coords .entry)))) ⌝ }
     ensures written { λ r. ⌜ Contracts.Filled
         (Polygon.cut (Polygon.cutRings bounds (closedRings (now (lengths .entry)) (now (coords .entry)))))
-        (r .numbers) (now («out_lengths» .entry)) (now (out .exit)) (now («out_lengths» .exit)) ⌝ }
+        (r .coordinates) (now («out_lengths» .entry)) (now (out .exit)) (now («out_lengths» .exit)) ⌝ }
+    ensures origins { λ r. ⌜ Contracts.FilledOrigins (Origins.cutOrigins bounds (closedRings (now (lengths .entry)) (now (coords .entry))))
+        (r .coordinates) (now («out_origins» .exit)) ⌝ }
 {
     let none = Placed {
         rings: 0,
-        numbers: 0,
+        coordinates: 0,
     };
     let exterior = count_ring(m, out_lengths, none);
     let start = 2 * lengths[0] as usize;
@@ -223,8 +285,10 @@ fn put_cut(
         &lengths[1..],
         bounds,
         scratch,
+        origin_scratch,
         out,
         out_lengths,
+        out_origins,
         exterior,
     )
 }
@@ -240,82 +304,174 @@ fn overlay_or_dropped(coords: &[f64], lengths: &[u32], reason: Reason) -> Polygo
     PolygonAnswer::Overlay(reason)
 }
 
-// What becomes of a polygon whose exterior has this route; a cut exterior stands at the front of the output.
+// What becomes of a polygon whose exterior has this route; a cut exterior stands at the front of the output, and its origins at the front
+// of theirs.
 fn answer_route(
     route: Route,
     bounds: TileBounds,
     coords: &[f64],
     lengths: &[u32],
     scratch: &mut [f64],
+    origin_scratch: &mut [u16],
     out: &mut [f64],
     out_lengths: &mut [u32],
+    out_origins: &mut [u16],
 ) -> Clipped
     requires { ⌜ Contracts.LentRouteRoom route bounds (now lengths) (now coords) (length (now scratch)) (now out)
         (length (now «out_lengths»)) ⌝ }
+    requires { ⌜ Contracts.LentRouteOriginRoom route bounds (now lengths) (now coords) (length (now «origin_scratch»))
+        (now «out_origins») ⌝ }
     ensures answer { λ r. ⌜ r .answer ≡ Polygon.answerOf
         (Polygon.routed route bounds (closedRings (now (lengths .entry)) (now (coords .entry)))) ⌝ }
     ensures written { λ r. ⌜ Contracts.Filled (Polygon.routed route bounds (closedRings (now (lengths .entry)) (now (coords .entry))))
-        (r .numbers) (now («out_lengths» .entry)) (now (out .exit)) (now («out_lengths» .exit)) ⌝ }
+        (r .coordinates) (now («out_lengths» .entry)) (now (out .exit)) (now («out_lengths» .exit)) ⌝ }
+    ensures origins { λ r. ⌜ Contracts.FilledOrigins (Origins.routedOrigins
+        (Polygon.routed route bounds (closedRings (now (lengths .entry)) (now (coords .entry)))) bounds
+        (closedRings (now (lengths .entry)) (now (coords .entry)))) (r .coordinates) (now («out_origins» .exit)) ⌝ }
 {
     match route {
         Route::Nothing => Clipped {
             answer: PolygonAnswer::Nothing,
-            numbers: 0,
+            coordinates: 0,
         },
         Route::Unchanged => Clipped {
             answer: PolygonAnswer::Unchanged,
-            numbers: 0,
+            coordinates: 0,
         },
         Route::Overlay(reason) => {
             let answer = overlay_or_dropped(coords, lengths, reason);
-            Clipped { answer, numbers: 0 }
+            Clipped {
+                answer,
+                coordinates: 0,
+            }
         }
         Route::Cut(m) => {
-            let all = put_cut(coords, lengths, m, bounds, scratch, out, out_lengths);
+            let all = put_cut(
+                coords,
+                lengths,
+                m,
+                bounds,
+                scratch,
+                origin_scratch,
+                out,
+                out_lengths,
+                out_origins,
+            );
             Clipped {
                 answer: PolygonAnswer::Cut(all.rings),
-                numbers: all.numbers,
+                coordinates: all.coordinates,
             }
         }
     }
 }
 
-// What becomes of a polygon that has room everywhere; the bounds are buffered. The output serves for every second pass: but for
-// a cut's rings at its front, what it holds is left open, as are the scratch and order slices.
+// What becomes of a polygon that has room everywhere; the bounds are buffered. The outputs serve for every second pass: but for a cut's
+// rings and their origins at the fronts, what they hold is left open, as are the scratch and order slices.
 fn clip_polygon(
     flags: Flags,
     bounds: TileBounds,
     coords: &[f64],
     lengths: &[u32],
     scratch: &mut [f64],
+    origin_scratch: &mut [u16],
     order: &mut [u32],
     out: &mut [f64],
     out_lengths: &mut [u32],
+    out_origins: &mut [u16],
 ) -> Clipped
     requires { ⌜ Contracts.PolygonRoom (now lengths) (now coords) (length (now scratch)) (length (now order)) (length (now out))
         (length (now «out_lengths»)) ⌝ }
+    requires { ⌜ Contracts.LentOriginsRoom (now lengths) (now coords) (length (now «origin_scratch»)) (length (now «out_origins»))
+        Contracts.nonePlaced ⌝ }
     ensures answer { λ r. ⌜ r .answer ≡ Polygon.answerOf
         (Polygon.route flags bounds (closedRings (now (lengths .entry)) (now (coords .entry)))) ⌝ }
     ensures written { λ r. ⌜ Contracts.Filled (Polygon.route flags bounds (closedRings (now (lengths .entry)) (now (coords .entry))))
-        (r .numbers) (now («out_lengths» .entry)) (now (out .exit)) (now («out_lengths» .exit)) ⌝ }
+        (r .coordinates) (now («out_lengths» .entry)) (now (out .exit)) (now («out_lengths» .exit)) ⌝ }
+    ensures origins { λ r. ⌜ Contracts.FilledOrigins (Origins.routedOrigins
+        (Polygon.route flags bounds (closedRings (now (lengths .entry)) (now (coords .entry)))) bounds
+        (closedRings (now (lengths .entry)) (now (coords .entry)))) (r .coordinates) (now («out_origins» .exit)) ⌝ }
 {
     let rect = polygon_rect_all_rings(coords, lengths);
     match rect {
         Rect::Nothing => Clipped {
             answer: PolygonAnswer::Nothing,
-            numbers: 0,
+            coordinates: 0,
         },
         Rect::NotFinite => Clipped {
             answer: PolygonAnswer::Dropped,
-            numbers: 0,
+            coordinates: 0,
         },
         Rect::Box(west, south, east, north) => {
             let found = Rect::Box(west, south, east, north);
             let n = lengths[0] as usize;
-            let route = route_exterior(coords, n, flags, found, bounds, scratch, out, order);
-            answer_route(route, bounds, coords, lengths, scratch, out, out_lengths)
+            let route = route_exterior(
+                coords,
+                n,
+                flags,
+                found,
+                bounds,
+                scratch,
+                origin_scratch,
+                out,
+                out_origins,
+                order,
+            );
+            answer_route(
+                route,
+                bounds,
+                coords,
+                lengths,
+                scratch,
+                origin_scratch,
+                out,
+                out_lengths,
+                out_origins,
+            )
         }
     }
+}
+
+// The same, and the outputs are filled with zeros past the answer.
+fn clip_padded(
+    flags: Flags,
+    bounds: TileBounds,
+    coords: &[f64],
+    lengths: &[u32],
+    scratch: &mut [f64],
+    origin_scratch: &mut [u16],
+    order: &mut [u32],
+    out: &mut [f64],
+    out_lengths: &mut [u32],
+    out_origins: &mut [u16],
+) -> PolygonAnswer
+    requires { ⌜ Contracts.PolygonRoom (now lengths) (now coords) (length (now scratch)) (length (now order)) (length (now out))
+        (length (now «out_lengths»)) ⌝ }
+    requires { ⌜ Contracts.LentOriginsRoom (now lengths) (now coords) (length (now «origin_scratch»)) (length (now «out_origins»))
+        Contracts.nonePlaced ⌝ }
+    ensures answer { λ r. ⌜ r ≡ Polygon.answerOf (Polygon.route flags bounds (closedRings (now (lengths .entry)) (now (coords .entry)))) ⌝ }
+    ensures written { λ _. ⌜ Contracts.FilledWhole (Polygon.route flags bounds (closedRings (now (lengths .entry)) (now (coords .entry))))
+        (now (out .entry)) (now («out_lengths» .entry)) (now (out .exit)) (now («out_lengths» .exit)) ⌝ }
+    ensures origins { λ _. ⌜ now («out_origins» .exit) ≡ padded 0 (originsOf (Origins.routedOrigins
+        (Polygon.route flags bounds (closedRings (now (lengths .entry)) (now (coords .entry)))) bounds
+        (closedRings (now (lengths .entry)) (now (coords .entry))))) (length (now («out_origins» .entry))) (now («out_origins» .entry)) ⌝ }
+{
+    let clipped = clip_polygon(
+        flags,
+        bounds,
+        coords,
+        lengths,
+        scratch,
+        origin_scratch,
+        order,
+        out,
+        out_lengths,
+        out_origins,
+    );
+    let used = clipped.coordinates;
+    let numbers = 2 * used;
+    clear(&mut out[numbers..]);
+    clear_origins(&mut out_origins[used..]);
+    clipped.answer
 }
 
 // Fills the whole slice with 0.
@@ -331,8 +487,8 @@ fn clear_order(s: &mut [u32])
 
 // What becomes of one polygon, whose rings it closes. A refusal changes nothing lent. Any other answer fills the scratch and order slices
 // with zeros, whole, and the output up to what 22 asks: past a cut's rings, and where there is no cut from its front. It leaves the output
-// beyond that, and the second length slice past a cut's lengths, unchanged. The logic has one NaN: a NaN stands exactly where the
-// definition has one, and its bits are free, also in a slice that is left unchanged.
+// beyond that, and the second length slice past a cut's lengths, unchanged. The output of the origins is filled as the output is. The logic
+// has one NaN: a NaN stands exactly where the definition has one, and its bits are free, also in a slice that is left unchanged.
 pub fn polygon(
     flags: Flags,
     bounds: TileBounds,
@@ -340,40 +496,48 @@ pub fn polygon(
     coords: &[f64],
     lengths: &[u32],
     scratch: &mut [f64],
+    origin_scratch: &mut [u16],
     order: &mut [u32],
     out: &mut [f64],
     out_lengths: &mut [u32],
+    out_origins: &mut [u16],
 ) -> SliceAnswer
     ensures answer { λ r. ⌜ r ≡ sliceCallAnswer flags bounds buffer (now (coords .entry)) (now (lengths .entry))
-        (polygonSlices (now (scratch .entry)) (now (order .entry)) (now (out .entry)) (now («out_lengths» .entry))) ⌝ }
-    ensures lent { λ _. ⌜ polygonSlices (now (scratch .exit)) (now (order .exit)) (now (out .exit)) (now («out_lengths» .exit))
+        (polygonSlices (now (scratch .entry)) (now («origin_scratch» .entry)) (now (order .entry)) (now (out .entry))
+        (now («out_lengths» .entry)) (now («out_origins» .entry))) ⌝ }
+    ensures lent { λ _. ⌜ polygonSlices (now (scratch .exit)) (now («origin_scratch» .exit)) (now (order .exit)) (now (out .exit))
+        (now («out_lengths» .exit)) (now («out_origins» .exit))
         ≡ sliceCallSlices flags bounds buffer (now (coords .entry)) (now (lengths .entry))
-        (polygonSlices (now (scratch .entry)) (now (order .entry)) (now (out .entry)) (now («out_lengths» .entry))) ⌝ }
+        (polygonSlices (now (scratch .entry)) (now («origin_scratch» .entry)) (now (order .entry)) (now (out .entry))
+        (now («out_lengths» .entry)) (now («out_origins» .entry))) ⌝ }
 {
     match check_polygon(
         coords,
         lengths,
         scratch.len(),
+        origin_scratch.len(),
         order.len(),
         out.len(),
         out_lengths.len(),
+        out_origins.len(),
     ) {
         RoomCheck::Fails(refusal) => SliceAnswer::Refused(refusal),
         RoomCheck::Passes(room) => {
-            let clipped = clip_polygon(
+            let numbers = 2 * room;
+            let answer = clip_padded(
                 flags,
                 bounds.buffered(buffer),
                 coords,
                 lengths,
                 scratch,
+                origin_scratch,
                 order,
-                &mut out[..room],
+                &mut out[..numbers],
                 out_lengths,
+                &mut out_origins[..room],
             );
-            let answer = clipped.answer;
-            let used = clipped.numbers;
-            clear(&mut out[used..room]);
             clear(scratch);
+            clear_origins(origin_scratch);
             clear_order(order);
             let guards = guard_count(answer);
             SliceAnswer::Answered(answer, guards)
