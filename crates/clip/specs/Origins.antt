@@ -1,7 +1,10 @@
--- Where each coordinate of a cut polygon came from (document 02, Point 12): in step with the cut rings of Polygon. Definitions only.
+-- Where each coordinate of a cut polygon came from (document 02, Point 12): in step with the cut rings of Polygon. A ring is given closed;
+-- positions are those of the ring as lent, as the first pass leaves off what closing appends (`origins-close`). Definitions only.
+use mathlib.Core.Path.{_≡_}
 use mathlib.Core.Bool.{cond}
 use mathlib.Core.List.{List, [], _∷_}
 use Prim.Native.Nat.{ℕ}
+use lib.ListN.{length}
 use Rattle.tile.specs.declared.Coord.{Coord}
 use Rattle.tile.specs.declared.TileBounds.{TileBounds}
 use Rattle.sutherland_hodgman.specs.Clip.{clipRing}
@@ -31,5 +34,14 @@ abbrev pub routedOrigins : Routed → TileBounds → List (List Coord) → List 
 routedOrigins nothing b rings = []
 routedOrigins dropped b rings = []
 routedOrigins unchanged b rings = []
-routedOrigins (cut cutRings) b rings = cutOrigins b rings
+routedOrigins (cut answered) b rings = cutOrigins b rings
 routedOrigins (overlay reason) b rings = []
+
+-- ---- a law on these, which proofs/Traced.antt proves of `cutRings` and `cutOrigins`
+
+-- ring by ring, there are as many origins as coordinates
+abbrev pub AsMany : List (List Coord) → List (List ℕ) → Type 0
+AsMany [] [] = Unit {0}
+AsMany [] (os ∷ others) = ⊥
+AsMany (r ∷ rings) [] = ⊥
+AsMany (r ∷ rings) (os ∷ others) = (length os ≡ length r) × AsMany rings others

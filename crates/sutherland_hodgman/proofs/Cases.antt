@@ -1,4 +1,4 @@
--- Cuts at the bounds 0, 0, 10, 10 that document 01 does not work out, with their origins, and its figures for B, computed from the
+-- Cuts at the bounds 0, 0, 10, 10 that document 01 does not work out, with their origins, and two figures for B, computed from the
 -- definitions. The worked rings are in the table of the crate `frames`. Assumes nothing.
 use mathlib.Core.Path.{_≡_, refl}
 use mathlib.Core.List.{List, [], _∷_}
@@ -7,12 +7,11 @@ use lib.Ieee.{nan, le, eq, add, sub, mul, div, neg}
 use Rattle.binary64.specs.Interpolation.{interpolate}
 use Rattle.tile.specs.declared.Coord.{Coord}
 use Rattle.tile.specs.declared.TileBounds.{TileBounds}
-use Rattle.tile.specs.declared.Edge.the-variants.{Left, Right, Bottom, Top}
 use Rattle.tile.specs.Ring.{same, last, closed, close}
 use Rattle.tile.proofs.WholeNumbers.{num, at}
 use Rattle.sutherland_hodgman.specs.CuttingLines.{inside, crossing}
 use Rattle.sutherland_hodgman.specs.Clip.{steps, leaveOff, around, pass, passes, finish, clipRing}
-use Rattle.sutherland_hodgman.specs.Origins.{lineOrigin, positionsFrom, stepsOrigins, aroundOrigins, passOrigins, passesOrigins}
+use Rattle.sutherland_hodgman.specs.Origins.{positionsFrom, stepsOrigins, aroundOrigins, passOrigins, passesOrigins}
 use Rattle.sutherland_hodgman.specs.Origins.{closeOrigins, finishOrigins, clipOrigins}
 use Rattle.sutherland_hodgman.specs.Growth.{halfGrowth, fourHalfGrowths, B}
 
@@ -20,7 +19,7 @@ ten : TileBounds
 unfolding num
 ten = record { «lng_min» = num 0; «lat_min» = num 0; «lng_max» = num 10; «lat_max» = num 10 }
 
--- where a NaN is cut at the bottom: the latitude is the bound, and the longitude stays NaN
+-- what is left of a vertex with a NaN longitude: Left gives it a NaN latitude, and Bottom its bound for that and a NaN longitude
 edge : Coord
 unfolding num
 edge = record { x = nan; y = num 0 }
@@ -45,21 +44,20 @@ pub record Case : Type 0 where
   pub origins : List ℕ
 
 abbrev left : ℕ
-left = lineOrigin Left
+left = 65532
 
 abbrev right : ℕ
-right = lineOrigin Right
+right = 65533
 
 abbrev bottom : ℕ
-bottom = lineOrigin Bottom
+bottom = 65534
 
 abbrev top : ℕ
-top = lineOrigin Top
+top = 65535
 
 -- a ring that two passes cut at the one corner; one with a NaN longitude; one with an edge on a line; one around a corner of the tile,
--- which
--- the later of two lines makes; one where a line makes a vertex that the ring has too, which is left off; one closed by a zero of the other
--- sign
+-- which the later of two lines makes; one where a line makes a vertex that the ring has too, which a later pass leaves off; one where the
+-- last line does, so that the cut's last vertex closes it and keeps its own origin; one closed by a zero of the other sign
 abbrev cases : List Case
 cases =
     record {
@@ -86,6 +84,11 @@ cases =
       ring = at 15 5 ∷ at 5 5 ∷ at 5 8 ∷ at 10 5 ∷ [];
       cut = at 10 5 ∷ at 10 5 ∷ at 5 5 ∷ at 5 8 ∷ at 10 5 ∷ [];
       origins = right ∷ right ∷ 1 ∷ 2 ∷ right ∷ [];
+    }
+    ∷ record {
+      ring = at 5 15 ∷ at 5 5 ∷ at 8 5 ∷ at 5 10 ∷ [];
+      cut = at 5 10 ∷ at 5 10 ∷ at 5 5 ∷ at 8 5 ∷ at 5 10 ∷ [];
+      origins = top ∷ top ∷ 1 ∷ 2 ∷ 3 ∷ [];
     }
     ∷ record {
       ring = at 0 0 ∷ at 5 0 ∷ at 5 5 ∷ northWest 0 0 ∷ [];
@@ -122,7 +125,7 @@ unfolding clipOrigins finishOrigins closeOrigins passesOrigins passOrigins aroun
     neg
 each-traced = refl
 
--- document 01's figures for B
+-- document 01's figure for B, and the room of the longest ring
 four-vertices : B 4 ≡ 21
 unfolding B fourHalfGrowths halfGrowth
 four-vertices = refl

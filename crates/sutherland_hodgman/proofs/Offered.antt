@@ -19,7 +19,7 @@ use Rattle.sutherland_hodgman.specs.declared.call.RingAnswer.the-variant
 use Rattle.sutherland_hodgman.specs.CuttingLines.{fixed, bound}
 use Rattle.sutherland_hodgman.specs.Clip.{leaveOff, around, pass, passes, finish, clipRing}
 use Rattle.sutherland_hodgman.specs.Growth.{halfGrowth, fourHalfGrowths, B, mostCoordinates}
-use Rattle.sutherland_hodgman.specs.Origins.{lineOrigin, passesOrigins, closeOrigins, clipOrigins, Traced, Rises}
+use Rattle.sutherland_hodgman.specs.Origins.{lineOrigin, IsPosition, closeOrigins, clipOrigins, Traced, Rises}
 use Rattle.sutherland_hodgman.specs.RingCall.{failsIf, RingSlices, ringCallCheck, ringCallAnswer}
 use Rattle.sutherland_hodgman.specs.Contracts.{Fits16, CutterRoom, OriginRoom}
 use Rattle.sutherland_hodgman.proofs.Calls as calls
@@ -116,28 +116,37 @@ as-many = laws.as-many
 pub close-many : (r : List Coord) (os : List ℕ) → length os ≡ length r → length (closeOrigins r os) ≡ length (close r)
 close-many = laws.close-many
 
--- where an origin is a position, the ring's vertex there is the one that stands here; where it is a line, the line's bound stands here
-pub at-position : (b : TileBounds) (ring : List Coord) (d : Coord) (i : ℕ) → i < length (clipRing b ring)
-    → getD (clipOrigins b ring) i 0 < mostCoordinates
-    → (getD (clipOrigins b ring) i 0 < length ring)
-    × (getD (clipRing b ring) i d ≡ getD ring (getD (clipOrigins b ring) i 0) (getD (clipRing b ring) i d))
-at-position = laws.at-position
-
-pub on-line : (b : TileBounds) (ring : List Coord) (d : Coord) (i : ℕ) → i < length (clipRing b ring) → (l : Edge)
-    → length ring ≤ mostCoordinates → getD (clipOrigins b ring) i 0 ≡ lineOrigin l
-    → fixed l (getD (clipRing b ring) i d) ≡ bound l b
-on-line = laws.on-line
-
 -- each vertex came from the ring or from a line, also where the cut is closed once more
+pub traced : (b : TileBounds) (ring : List Coord) (d : Coord) (i : ℕ) → i < length (clipRing b ring)
+    → Traced b ring (getD (clipRing b ring) i d) (getD (clipOrigins b ring) i 0)
+traced = laws.traced
+
 pub closed-traced : (b : TileBounds) (ring : List Coord) (d : Coord) (i : ℕ) → i < length (close (clipRing b ring))
     → Traced b ring (getD (close (clipRing b ring)) i d) (getD (closeOrigins (clipRing b ring) (clipOrigins b ring)) i 0)
 closed-traced = laws.closed-traced
 
--- positions rise from vertex to vertex before the closing one
-pub rises : (b : TileBounds) (ring : List Coord) → Rises (passesOrigins b ring)
-rises = laws.rises
+-- what that says: where an origin is a position, the ring's vertex there is the one that stands here; where it is a line, the line's bound
+-- stands here
+pub traced-position : (b : TileBounds) (ring : List Coord) (p : Coord) (o : ℕ) → Traced b ring p o → IsPosition o
+    → (o < length ring) × (p ≡ getD ring o p)
+traced-position = laws.traced-position
 
--- closing the ring first changes none of them
+pub traced-line : (b : TileBounds) (ring : List Coord) (p : Coord) (o : ℕ) (l : Edge) → Traced b ring p o
+    → length ring ≤ mostCoordinates → o ≡ lineOrigin l → fixed l p ≡ bound l b
+traced-line = laws.traced-line
+
+-- positions rise from vertex to vertex before the closing one, and before both where the cut is closed once more
+pub cut-rises : (b : TileBounds) (ring : List Coord) → Rises (take (length (passes b ring)) (clipOrigins b ring))
+cut-rises = laws.cut-rises
+
+pub closed-rises : (b : TileBounds) (ring : List Coord)
+    → Rises (take (length (passes b ring)) (closeOrigins (clipRing b ring) (clipOrigins b ring)))
+closed-rises = laws.closed-rises
+
+pub none-rise : (n : ℕ) → Rises (take n [])
+none-rise = laws.none-rise
+
+-- a ring that closing closes has the origins that it has as lent
 pub origins-close : (b : TileBounds) (r : List Coord) → closed (close r) ≡ true → clipOrigins b (close r) ≡ clipOrigins b r
 origins-close = laws.origins-close
 

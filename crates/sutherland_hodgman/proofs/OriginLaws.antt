@@ -1,5 +1,5 @@
--- What the origins say of the coordinates and of each other: as many, each traced to the ring or to a line, positions rising; and closing
--- the ring first changes none. Assumes nothing.
+-- What the origins say of the coordinates and of each other: as many, each traced to the ring or to a line, positions rising; and a
+-- ring that closing closes has the origins that it has as lent. Assumes nothing.
 use mathlib.Core.Path.{_≡_, refl, sym, _∙_, ap, subst}
 use mathlib.Core.Logic.{inl, inr}
 use mathlib.Core.Bool.{Bool, true, false, cond}
@@ -9,7 +9,7 @@ use native.Mathlib.Nat.{le-refl, le-trans}
 use native.Mathlib.Omega.{arith}
 use lib.Dec.{T, leb, ltb, ltb→lt}
 use borrow.Author.Tests.{lt-ltb}
-use lib.Seq.{drop-cons}
+use lib.Seq.{drop-cons, take-append-le, take-length}
 use lib.ListN.{length, getD, take, drop, length-append, length-drop}
 use Rattle.binary64.specs.Lists.{Every}
 use Rattle.tile.specs.declared.Coord.{Coord}
@@ -21,6 +21,7 @@ use Rattle.sutherland_hodgman.specs.CuttingLines.{fixed, bound, inside, 
 use Rattle.sutherland_hodgman.specs.Clip.{step, steps, leaveOff, around, pass, passes, finish, clipRing}
 use Rattle.sutherland_hodgman.specs.Origins.{
   lineOrigin,
+  IsPosition,
   positionsFrom,
   stepOrigins,
   stepsOrigins,
@@ -183,14 +184,14 @@ module _ (b : TileBounds) (ring : List Coord) where
       along-at (Traced b ring) (close (clipRing b ring)) (closeOrigins (clipRing b ring) (clipOrigins b ring)) d i h
       (along-close (Traced b ring) (clipRing b ring) (clipOrigins b ring) (as-many b ring) all-traced)
 
-not-below : (l : Edge) → mostCoordinates ≤ lineOrigin l
+not-below : (l : Edge) → lineOrigin Left ≤ lineOrigin l
 not-below Left = omega arith
 not-below Right = omega arith
 not-below Bottom = omega arith
 not-below Top = omega arith
 
 -- the same by the numbers
-traced-position : (b : TileBounds) (ring : List Coord) (p : Coord) (o : ℕ) → Traced b ring p o → o < mostCoordinates
+pub traced-position : (b : TileBounds) (ring : List Coord) (p : Coord) (o : ℕ) → Traced b ring p o → IsPosition o
     → (o < length ring) × (p ≡ getD ring o p)
 traced-position b ring p o (inl t) h = (t .position, t .vertex)
 traced-position b ring p o (inr t) h = absurd (omega (arith, not-below (t .line), t .origin))
@@ -213,14 +214,14 @@ line-of Top Right e = absurd (omega arith)
 line-of Top Bottom e = absurd (omega arith)
 line-of Top Top e = refl
 
-traced-line : (b : TileBounds) (ring : List Coord) (p : Coord) (o : ℕ) (l : Edge) → Traced b ring p o → length ring ≤ mostCoordinates
+pub traced-line : (b : TileBounds) (ring : List Coord) (p : Coord) (o : ℕ) (l : Edge) → Traced b ring p o → length ring ≤ mostCoordinates
     → o ≡ lineOrigin l → fixed l p ≡ bound l b
 traced-line b ring p o l (inl t) h e = absurd (omega (arith, not-below l, t .position))
 traced-line b ring p o l (inr t) h e = let q : t .line ≡ l = line-of (t .line) l (sym (t .origin) ∙ e) in rw q at (t .stands)
 
 module _ (b : TileBounds) (ring : List Coord) (d : Coord) (i : ℕ) (h : i < length (clipRing b ring)) where
   -- where the origin is a position, the ring's vertex there is the one that stands here
-  pub at-position : getD (clipOrigins b ring) i 0 < mostCoordinates
+  pub at-position : IsPosition (getD (clipOrigins b ring) i 0)
       → (getD (clipOrigins b ring) i 0 < length ring)
       × (getD (clipRing b ring) i d ≡ getD ring (getD (clipOrigins b ring) i 0) (getD (clipRing b ring) i d))
   at-position l = traced-position b ring _ _ (traced b ring d i h) l
@@ -234,11 +235,11 @@ module _ (b : TileBounds) (ring : List Coord) (d : Coord) (i : ℕ) (h : i < len
 
 -- the least position that may come after o, where k was the least before
 abbrev next : ℕ → ℕ → ℕ
-next k o = cond (ltb o mostCoordinates) (suc o) k
+next k o = cond (ltb o (lineOrigin Left)) (suc o) k
 
 abbrev RisesFrom : ℕ → List ℕ → Type 0
 RisesFrom k [] = Unit {0}
-RisesFrom k (o ∷ os) = (o < mostCoordinates → k ≤ o) × RisesFrom (next k o) os
+RisesFrom k (o ∷ os) = (IsPosition o → k ≤ o) × RisesFrom (next k o) os
 
 cond-mono : (t : Bool) (n k m : ℕ) → k ≤ m → cond t n k ≤ cond t n m
 cond-mono true n k m h = le-refl n
@@ -246,13 +247,13 @@ cond-mono false n k m h = h
 
 lower : (k m : ℕ) (os : List ℕ) → k ≤ m → RisesFrom m os → RisesFrom k os
 lower k m [] h f = tt
-lower k m (o ∷ os) h f = (λ p. le-trans h (f .0 p), lower (next k o) (next m o) os (cond-mono (ltb o mostCoordinates) (suc o) k m h) (f .1))
+lower k m (o ∷ os) h f = (λ p. le-trans h (f .0 p), lower (next k o) (next m o) os (cond-mono (ltb o (lineOrigin Left)) (suc o) k m h) (f .1))
 
-next-more : (k o : ℕ) → (o < mostCoordinates → k ≤ o) → k ≤ next k o
-next-more k o h = go (ltb o mostCoordinates) refl
+next-more : (k o : ℕ) → (IsPosition o → k ≤ o) → k ≤ next k o
+next-more k o h = go (ltb o (lineOrigin Left)) refl
   where
-    go : (t : Bool) → ltb o mostCoordinates ≡ t → k ≤ cond t (suc o) k
-    go true e = let p : k ≤ o = h (ltb→lt o mostCoordinates (subst T (sym e) tt)) in omega arith
+    go : (t : Bool) → ltb o (lineOrigin Left) ≡ t → k ≤ cond t (suc o) k
+    go true e = let p : k ≤ o = h (ltb→lt o (lineOrigin Left) (subst T (sym e) tt)) in omega arith
     go false e = le-refl k
 
 skip : (k o : ℕ) (os : List ℕ) → RisesFrom k (o ∷ os) → RisesFrom k os
@@ -293,7 +294,7 @@ unfolding positionsFrom
 positions-rise i zero = tt
 positions-rise i (suc n) = (
   λ p. le-refl i,
-  lower (next i i) (suc i) (positionsFrom (suc i) n) (most (ltb i mostCoordinates))
+  lower (next i i) (suc i) (positionsFrom (suc i) n) (most (ltb i (lineOrigin Left)))
       (positions-rise (suc i) n),
 )
   where
@@ -301,7 +302,7 @@ positions-rise i (suc n) = (
     most true = le-refl (suc i)
     most false = omega arith
 
-later : (k : ℕ) (os : List ℕ) (j : ℕ) → RisesFrom k os → j < length os → getD os j 0 < mostCoordinates → k ≤ getD os j 0
+later : (k : ℕ) (os : List ℕ) (j : ℕ) → RisesFrom k os → j < length os → IsPosition (getD os j 0) → k ≤ getD os j 0
 later k [] j h l p = absurd (omega arith)
 later k (o ∷ os) zero h l p = h .0 p
 later k (o ∷ os) (suc j) h l p = later k os j (skip k o os h) (omega arith) p
@@ -309,7 +310,7 @@ later k (o ∷ os) (suc j) h l p = later k os j (skip k o os h) (omega arith) p
 rises-of : (k : ℕ) (os : List ℕ) → RisesFrom k os → Rises os
 rises-of k [] h i j l n p q = absurd (omega arith)
 rises-of k (o ∷ os) h i zero l n p q = absurd (omega arith)
-rises-of k (o ∷ os) h zero (suc j) l n p q = let e : next k o ≡ suc o = rw (lt-ltb o mostCoordinates p) in omega (
+rises-of k (o ∷ os) h zero (suc j) l n p q = let e : next k o ≡ suc o = rw (lt-ltb o (lineOrigin Left) p) in omega (
   arith,
   later
       (next k o) os j (h .1) (omega arith) q,
@@ -330,6 +331,61 @@ rises b r =
     let f2 = pass-rise Right b r1 o1 0 (omega (arith, pass-many Left b r P)) f1 in
     let f3 = pass-rise Bottom b r2 o2 0 (omega (arith, pass-many Right b r1 o1)) f2 in
     rises-of 0 (passOrigins Top b r3 o3) (pass-rise Top b r3 o3 0 (omega (arith, pass-many Bottom b r2 o2)) f3)
+
+-- what closing appends stands behind the others
+pub close-front : (r : List Coord) (os : List ℕ) (n : ℕ) → n ≤ length os → take n (closeOrigins r os) ≡ take n os
+unfolding closeOrigins
+close-front r os n h = go (closed r) _
+  where
+    go : (t : Bool) (o : ℕ) → take n (cond t os (os ++ (o ∷ []))) ≡ take n os
+    go true o = refl
+    go false o = take-append-le n os (o ∷ []) h
+
+close-longer : (r : List Coord) (os : List ℕ) → length os ≤ length (closeOrigins r os)
+unfolding closeOrigins
+close-longer r os = go (closed r) _
+  where
+    go : (t : Bool) (o : ℕ) → length os ≤ length (cond t os (os ++ (o ∷ [])))
+    go true o = le-refl (length os)
+    go false o = omega (arith, length-append os (o ∷ []))
+
+close-none : closeOrigins [] [] ≡ []
+unfolding closeOrigins closed
+close-none = refl
+
+pub none-rise : (n : ℕ) → Rises (take n [])
+none-rise zero i j l k p q = absurd (omega arith)
+none-rise (suc n) i j l k p q = absurd (omega arith)
+
+-- as many as the four passes leave; fewer than three of them are none
+module _ (r : List Coord) (os : List ℕ) (many : length os ≡ length r) (h : Rises os) where
+  before-closing : Rises (take (length r) (finishOrigins r os))
+  unfolding finishOrigins
+  before-closing = go (leb 3 (length r))
+    where
+      go : (t : Bool) → Rises (take (length r) (cond t (closeOrigins r os) []))
+      go true = rw (close-front r os (length r) (omega arith), ← many, take-length os) h
+      go false = none-rise (length r)
+
+  before-closings : Rises (take (length r) (closeOrigins (finish r) (finishOrigins r os)))
+  unfolding finish finishOrigins
+  before-closings = go (leb 3 (length r))
+    where
+      go : (t : Bool) → Rises (take (length r) (closeOrigins (cond t (close r) []) (cond t (closeOrigins r os) [])))
+      go true =
+          let n : length r ≤ length (closeOrigins r os) = omega (arith, close-longer r os) in
+          rw (close-front (close r) (closeOrigins r os) (length r) n, close-front r os (length r) (omega arith), ← many, take-length os) h
+      go false = rw close-none (none-rise (length r))
+
+-- the positions of a cut rise before its closing vertex, and before both where it is closed once more
+module _ (b : TileBounds) (r : List Coord) where
+  pub cut-rises : Rises (take (length (passes b r)) (clipOrigins b r))
+  unfolding clipOrigins
+  cut-rises = before-closing (passes b r) (passesOrigins b r) (passes-many b r) (rises b r)
+
+  pub closed-rises : Rises (take (length (passes b r)) (closeOrigins (clipRing b r) (clipOrigins b r)))
+  unfolding clipRing clipOrigins
+  closed-rises = before-closings (passes b r) (passesOrigins b r) (passes-many b r) (rises b r)
 
 -- ---- a ring that closing closes has the same origins as it is lent
 

@@ -84,12 +84,12 @@ originsLeft l b r os v i = stepsOrigins l b v (drop i r) (drop i os)
 abbrev pub SameOrigins : Edge → TileBounds → List Coord → List ℕ → Bool → ℕ → ℕ → List ℕ → Bool → ℕ → ℕ → List ℕ → Type 0
 SameOrigins l b r os v i k d v′ i′ k′ d′ = sets d k (originsLeft l b r os v i) ≡ sets d′ k′ (originsLeft l b r os v′ i′)
 
--- from in, the vertices from the i-th to the j-th keep their origins, whatever these are
+-- from in, the vertices from the i-th up to the j-th, which is not among them, keep their origins, whatever these are
 abbrev pub CopiedOrigins : Edge → TileBounds → List Coord → ℕ → ℕ → Type 0
 CopiedOrigins l b r i j =
     (os : List ℕ) → j ≤ length os → originsLeft l b r os true i ≡ take (j - i) (drop i os) ++ originsLeft l b r os true j
 
--- from out, the vertices from the i-th to the j-th give no origins
+-- from out, the vertices from the i-th up to the j-th give no origins
 abbrev pub SkippedOrigins : Edge → TileBounds → List Coord → ℕ → ℕ → Type 0
 SkippedOrigins l b r i j = (os : List ℕ) → originsLeft l b r os false i ≡ originsLeft l b r os false j
 
@@ -110,7 +110,7 @@ pub record CutterRoom (n ring scratch out : ℕ) : Type 0 where
   pub scratch-room : 2 * B n ≤ scratch
   pub output-room : 2 * B n ≤ out
 
--- its origins have room in a scratch slice and an output of these lengths, and every position in it fits 16 bits
+-- its origins have room in a scratch slice and an output of these lengths, and every position in it is below the lines' numbers
 pub record OriginRoom (n scratch out : ℕ) : Type 0 where
   pub positions : n ≤ mostCoordinates
   pub scratch-room : B n ≤ scratch

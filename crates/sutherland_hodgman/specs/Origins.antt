@@ -14,16 +14,19 @@ use Rattle.tile.specs.declared.Edge.the-variants.{Left, Right, Bottom, Top}
 use Rattle.tile.specs.Ring.{last, closed}
 use Rattle.sutherland_hodgman.specs.CuttingLines.{fixed, bound, inside}
 use Rattle.sutherland_hodgman.specs.Clip.{leaveOff, pass, passes}
-use Rattle.sutherland_hodgman.specs.Growth.{mostCoordinates}
 
 -- ---- the origins of a cut
 
--- "65,532 to 65,535 for the four lines": "Left, Right, Bottom, Top". Positions are below, since 20 refuses "over 65,532 coordinates".
+-- "65,532 to 65,535 for the four lines": "Left, Right, Bottom, Top"
 abbrev pub lineOrigin : Edge → ℕ
 lineOrigin Left = 65532
 lineOrigin Right = 65533
 lineOrigin Bottom = 65534
 lineOrigin Top = 65535
+
+-- The positions are below: a ring call and a slice call refuse "over 65,532 coordinates" (20), and no frame has so many.
+abbrev pub IsPosition : ℕ → Type 0
+IsPosition o = o < lineOrigin Left
 
 -- n positions from i on
 unfoldable pub positionsFrom : ℕ → ℕ → List ℕ
@@ -37,8 +40,9 @@ stepOrigins true false line end = line ∷ []
 stepOrigins false true line end = line ∷ end ∷ []
 stepOrigins false false line end = []
 
--- of what `steps` gives from a vertex whose verdict is v along the vertices that follow, which have the origins os. There are as many
--- origins as vertices (`as-many` in proofs/OriginLaws.antt), so that no 0 stands for a missing one.
+-- of what `steps` gives from a vertex whose verdict is v along the vertices that follow, which have the origins os. No 0 stands for a
+-- missing origin: a ring has as many positions as vertices, and each pass gives as many origins as vertices to the next (`length-positions`
+-- and `pass-many` in proofs/OriginWalking.antt).
 unfoldable pub stepsOrigins : Edge → TileBounds → Bool → List Coord → List ℕ → List ℕ
 stepsOrigins l b v [] os = []
 stepsOrigins l b v (e ∷ r) os =
@@ -75,7 +79,8 @@ finishOrigins r os = cond (leb 3 (length r)) (closeOrigins r os) []
 unfoldable pub clipOrigins : TileBounds → List Coord → List ℕ
 clipOrigins b r = finishOrigins (passes b r) (passesOrigins b r)
 
--- ---- what the origins say of the coordinates and of each other: proofs/OriginLaws.antt proves it of every cut
+-- ---- what the origins say of the coordinates and of each other: proofs/OriginLaws.antt proves the first three of every vertex of a cut,
+-- and the last of the vertices before the closing ones
 
 -- "the position in its input ring": the vertex that stands there
 pub record FromRing (ring : List Coord) (p : Coord) (o : ℕ) : Type 0 where
@@ -95,4 +100,4 @@ Traced b ring p o = FromRing ring p o ⊎ FromLine b p o
 -- of two positions the later one is the greater; what is no position is passed over
 abbrev pub Rises : List ℕ → Type 0
 Rises os =
-    (i j : ℕ) → i < j → j < length os → getD os i 0 < mostCoordinates → getD os j 0 < mostCoordinates → getD os i 0 < getD os j 0
+    (i j : ℕ) → i < j → j < length os → IsPosition (getD os i 0) → IsPosition (getD os j 0) → getD os i 0 < getD os j 0

@@ -50,11 +50,11 @@ ringCallOriginRoom numbers = B (numbers / 2)
 unfoldable pub checkRing : ℕ → ℕ → ℕ → ℕ → ℕ → Check
 checkRing numbers scratch originScratch out outOrigins =
     let room = ringCallRoom numbers in
-    let origins = ringCallOriginRoom numbers in
+    let originRoom = ringCallOriginRoom numbers in
     failsIf (eqb (numbers % 2) 1) Lengths
     (failsIf (ltb mostCoordinates (numbers / 2)) Coordinates
-    (failsIf (ltb scratch room || ltb originScratch origins) Scratch
-    (failsIf (ltb out room || ltb outOrigins origins) Output Passes)))
+    (failsIf (ltb scratch room || ltb originScratch originRoom) Scratch
+    (failsIf (ltb out room || ltb outOrigins originRoom) Output Passes)))
 
 -- ---- the lent slices
 
@@ -92,8 +92,7 @@ ringCallCode (Clipped n) = pos n
 -- ---- the lent slices afterwards
 
 -- "A refusal changes no lent buffer. A success fills scratch .. with zeros"; "the output past the answer, up to what 22 asks, then holds
--- zeros on every success"; the u16 output "past the answer follows the output's rule"; `numbers` is how
--- many numbers the ring has
+-- zeros on every success"; the u16 output "past the answer follows the output's rule"; `numbers` is how many numbers the ring has
 abbrev pub ringSlicesAfter : Check → ℕ → List Coord → List ℕ → RingSlices → RingSlices
 ringSlicesAfter (Fails refusal) numbers cut origins lent = lent
 ringSlicesAfter Passes numbers cut origins lent =

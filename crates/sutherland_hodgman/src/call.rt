@@ -142,16 +142,16 @@ pub fn ring(
         Check::Fails(refusal) => RingAnswer::Refused(refusal),
         Check::Passes => {
             let n = ring.len() / 2;
-            let room = room_for(n);
-            let numbers = 2 * room;
+            let origin_room = room_for(n);
+            let room = 2 * origin_room;
             let len = clip_padded(
                 ring,
                 n,
                 bounds,
                 scratch,
                 origin_scratch,
-                &mut out[..numbers],
-                &mut out_origins[..room],
+                &mut out[..room],
+                &mut out_origins[..origin_room],
             );
             clear(scratch);
             clear_origins(origin_scratch);

@@ -36,8 +36,8 @@ enum-told c = search needs
 room-for-requires : tie.Need-room-for-requires
 room-for-requires c κs = cuttable c .few
 
-mul-numbers : tie.Need-mul-numbers
-mul-numbers c = omega (
+mul-room : tie.Need-mul-room
+mul-room c = omega (
   arith,
   c .room-for .ensures,
   B-le (length (now (c .before .before .before .before .before .before .before .before
@@ -151,7 +151,7 @@ ring-spec =
     enum-known-refusal
     enum-told
     room-for-requires
-    mul-numbers
+    mul-room
     slice-relend-prefix-clip-padded
     slice-aggregate-clip-padded
     slice-relend-prefix-clip-padded-2
