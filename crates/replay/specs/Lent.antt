@@ -12,12 +12,15 @@ unfoldable pub bits : List Float → List ℕ
 bits [] = []
 bits (x ∷ l) = toBits binary64 x ∷ bits l
 
--- what a slice that is lent to be written holds everywhere before a call: 7.25 by its bits, or 77
+-- what a slice that is lent to be written holds everywhere before a call: 7.25 by its bits, 77, or for origins 777
 abbrev pub mark : ℕ
 mark = 0x401d_0000_0000_0000
 
 abbrev pub wholeMark : ℕ
 wholeMark = 77
+
+abbrev pub originMark : ℕ
+originMark = 777
 
 -- such a slice of length n
 unfoldable pub marks : ℕ → List Float
@@ -25,6 +28,9 @@ marks n = replicate n (ofBits binary64 mark)
 
 unfoldable pub wholeMarks : ℕ → List ℕ
 wholeMarks n = replicate n wholeMark
+
+unfoldable pub originMarks : ℕ → List ℕ
+originMarks n = replicate n originMark
 
 -- whether every element is x
 unfoldable pub areAll : List ℕ → ℕ → Bool
@@ -37,16 +43,14 @@ holds mark [] l = areAll l mark
 holds mark (x ∷ front) [] = false
 holds mark (x ∷ front) (y ∷ l) = eqb y x && holds mark front l
 
--- what scratch, and the order slice, hold everywhere after a call: a refusal changes nothing, another answer leaves zeros
-abbrev pub scratchAfter : Bool → ℕ
-scratchAfter refused = cond refused mark 0
-
-abbrev pub orderAfter : Bool → ℕ
-orderAfter refused = cond refused wholeMark 0
+-- what scratch, the order slice and the scratch slice of the origins hold everywhere after a call, each having held its mark: a refusal
+-- changes nothing, another answer leaves zeros
+abbrev pub clearedUnless : Bool → ℕ → ℕ
+clearedUnless refused mark = cond refused mark 0
 
 -- the most numbers that a polygon or a ring is lent with
 abbrev pub mostNumbers : ℕ
-mostNumbers = 131074
+mostNumbers = 131066
 
 -- the longest slice that is lent to be written
 abbrev pub mostLent : ℕ

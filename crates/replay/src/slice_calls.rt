@@ -5,8 +5,8 @@ ghost use Prim.Native.Nat.{_^_, _<_};
 ghost use lib.ListN.{length};
 ghost use Rattle.replay.specs.Code.{isRefusal};
 ghost use Rattle.slices.specs.SliceCall.{polygonSlices};
-ghost use Rattle.replay.specs.Lent.{numbersIn};
-ghost use Rattle.replay.specs.Calls.{answerAgrees, wholesAgree, sliceAgrees, sliceFits, sliceOutcome};
+ghost use Rattle.replay.specs.Lent.{wholeMark, originMark, numbersIn};
+ghost use Rattle.replay.specs.Calls.{answerAgrees, slicesAgree, sliceAgrees, sliceFits, sliceOutcome};
 use super::code::Outcome;
 use super::code::is_refusal;
 use super::code::of_slice;
@@ -16,6 +16,8 @@ use super::lent::ROOM;
 use super::lent::answer_agrees;
 use super::lent::marks;
 use super::lent::no_numbers;
+use super::lent::origin_marks;
+use super::lent::origins_agree;
 use super::lent::whole_marks;
 use super::lent::wholes_agree;
 use super::stream::Code;
@@ -25,32 +27,35 @@ use super::stream::fill;
 use super::stream::read_code;
 use super::stream::read_count;
 use super::stream::read_numbers;
+use super::stream::read_origins;
 use super::stream::read_wholes;
 use binary64::bytes::read_f64;
 use clip::polygon::Flags;
 use slices::call::polygon;
 use tile::TileBounds;
 
-// The bytes before the lengths of the rings: flags, four lengths, the bounds, the buffer, and the count of rings.
-const HEAD: usize = 64;
+// The bytes before the lengths of the rings: flags, six lengths, the bounds, the buffer, and the count of rings.
+const HEAD: usize = 72;
 
 // The most rings that are lent or expected.
 const MOST_RINGS: usize = 128;
 
-// `scratch` to `out_lengths` are the lengths of the slices.
+// `scratch` to `out_origins` are the lengths of the slices.
 struct SliceVector {
     flags: Flags,
     scratch: usize,
+    origin_scratch: usize,
     order: usize,
     out: usize,
     out_lengths: usize,
+    out_origins: usize,
     bounds: TileBounds,
     buffer: f64,
     rings: usize,
 }
 
 fn read_flags(bytes: &[u8]) -> Flags
-    requires { ⌜ length (now bytes) ≡ 64 ⌝ }
+    requires { ⌜ length (now bytes) ≡ 72 ⌝ }
 {
     let flags = count_at(bytes, 0);
     Flags {
@@ -60,27 +65,29 @@ fn read_flags(bytes: &[u8]) -> Flags
 }
 
 fn read_bounds(bytes: &[u8]) -> TileBounds
-    requires { ⌜ length (now bytes) ≡ 64 ⌝ }
+    requires { ⌜ length (now bytes) ≡ 72 ⌝ }
 {
-    let west = read_f64(bytes, 20);
-    let south = read_f64(bytes, 28);
-    let east = read_f64(bytes, 36);
-    let north = read_f64(bytes, 44);
+    let west = read_f64(bytes, 28);
+    let south = read_f64(bytes, 36);
+    let east = read_f64(bytes, 44);
+    let north = read_f64(bytes, 52);
     TileBounds::new(west, south, east, north)
 }
 
 fn read_head(bytes: &[u8]) -> SliceVector
-    requires { ⌜ length (now bytes) ≡ 64 ⌝ }
+    requires { ⌜ length (now bytes) ≡ 72 ⌝ }
 {
     SliceVector {
         flags: read_flags(bytes),
         scratch: count_at(bytes, 4),
-        order: count_at(bytes, 8),
-        out: count_at(bytes, 12),
-        out_lengths: count_at(bytes, 16),
+        origin_scratch: count_at(bytes, 8),
+        order: count_at(bytes, 12),
+        out: count_at(bytes, 16),
+        out_lengths: count_at(bytes, 20),
+        out_origins: count_at(bytes, 24),
         bounds: read_bounds(bytes),
-        buffer: read_f64(bytes, 52),
-        rings: count_at(bytes, 60),
+        buffer: read_f64(bytes, 60),
+        rings: count_at(bytes, 68),
     }
 }
 
@@ -89,19 +96,28 @@ fn slices_agree(
     given: u64,
     code: u64,
     scratch: &[f64],
+    origin_scratch: &[u16],
     order: &[u32],
     out: &[f64],
     out_lengths: &[u32],
+    out_origins: &[u16],
     expected: &[f64],
     expected_lengths: &[u32],
+    expected_origins: &[u16],
 ) -> bool
     ensures { λ r. ⌜ r ≡ answerAgrees given code (now (scratch .entry)) (now (out .entry)) (now (expected .entry))
-        && wholesAgree (isRefusal code) (now (order .entry)) (now («out_lengths» .entry)) (now («expected_lengths» .entry)) ⌝ }
+        && (slicesAgree (isRefusal code) wholeMark (now (order .entry)) (now («out_lengths» .entry)) (now («expected_lengths» .entry))
+        && slicesAgree (isRefusal code) originMark (now («origin_scratch» .entry)) (now («out_origins» .entry))
+        (now («expected_origins» .entry))) ⌝ }
 {
     if !answer_agrees(given, code, scratch, out, expected) {
         return false;
     }
-    wholes_agree(is_refusal(code), order, out_lengths, expected_lengths)
+    let refused = is_refusal(code);
+    if !wholes_agree(refused, order, out_lengths, expected_lengths) {
+        return false;
+    }
+    origins_agree(refused, origin_scratch, out_origins, expected_origins)
 }
 
 fn agrees(
@@ -110,15 +126,19 @@ fn agrees(
     coords: &[f64],
     lengths: &[u32],
     scratch: &mut [f64],
+    origin_scratch: &mut [u16],
     order: &mut [u32],
     out: &mut [f64],
     out_lengths: &mut [u32],
+    out_origins: &mut [u16],
     expected: &[f64],
     expected_lengths: &[u32],
+    expected_origins: &[u16],
 ) -> bool
-    ensures { λ r. ⌜ r ≡ sliceAgrees code (now (expected .entry)) (now («expected_lengths» .entry)) (head .flags) (head .bounds)
-        (head .buffer) (now (coords .entry)) (now (lengths .entry))
-        (polygonSlices (now (scratch .entry)) (now (order .entry)) (now (out .entry)) (now («out_lengths» .entry))) ⌝ }
+    ensures { λ r. ⌜ r ≡ sliceAgrees code (now (expected .entry)) (now («expected_lengths» .entry)) (now («expected_origins» .entry))
+        (head .flags) (head .bounds) (head .buffer) (now (coords .entry)) (now (lengths .entry))
+        (polygonSlices (now (scratch .entry)) (now («origin_scratch» .entry)) (now (order .entry)) (now (out .entry))
+        (now («out_lengths» .entry)) (now («out_origins» .entry))) ⌝ }
 {
     let answer = polygon(
         head.flags,
@@ -127,19 +147,24 @@ fn agrees(
         coords,
         lengths,
         scratch,
+        origin_scratch,
         order,
         out,
         out_lengths,
+        out_origins,
     );
     slices_agree(
         of_slice(answer),
         code,
         scratch,
+        origin_scratch,
         order,
         out,
         out_lengths,
+        out_origins,
         expected,
         expected_lengths,
+        expected_origins,
     )
 }
 
@@ -150,13 +175,19 @@ fn has_room(head: SliceVector) -> bool
     if head.scratch > ROOM {
         return false;
     }
+    if head.origin_scratch > ROOM {
+        return false;
+    }
     if head.order > ROOM {
         return false;
     }
     if head.out > ROOM {
         return false;
     }
-    head.out_lengths <= ROOM
+    if head.out_lengths > ROOM {
+        return false;
+    }
+    head.out_origins <= ROOM
 }
 
 fn call(
@@ -166,32 +197,40 @@ fn call(
     lengths: &[u32],
     expected: &[f64],
     expected_lengths: &[u32],
+    expected_origins: &[u16],
 ) -> Outcome
     ensures { λ r. ⌜ r ≡ sliceOutcome head code (now (coords .entry)) (now (lengths .entry)) (now (expected .entry))
-        (now («expected_lengths» .entry)) ⌝ }
+        (now («expected_lengths» .entry)) (now («expected_origins» .entry)) ⌝ }
 {
     if !has_room(head) {
         return Outcome::Broken;
     }
     let scratch_length = head.scratch;
+    let origin_scratch_length = head.origin_scratch;
     let order_length = head.order;
     let out_length = head.out;
     let lengths_length = head.out_lengths;
+    let out_origins_length = head.out_origins;
     let mut scratch = marks();
+    let mut origin_scratch = origin_marks();
     let mut order = whole_marks();
     let mut out = marks();
     let mut out_lengths = whole_marks();
+    let mut out_origins = origin_marks();
     if agrees(
         code,
         head,
         coords,
         lengths,
         &mut scratch[..scratch_length],
+        &mut origin_scratch[..origin_scratch_length],
         &mut order[..order_length],
         &mut out[..out_length],
         &mut out_lengths[..lengths_length],
+        &mut out_origins[..out_origins_length],
         expected,
         expected_lengths,
+        expected_origins,
     ) {
         return Outcome::Same(code);
     }
@@ -220,7 +259,8 @@ fn numbers_in(lengths: &[u32]) -> usize
     2 * sum
 }
 
-// From the cut's lengths on. There follow: how many numbers the call writes to the output, zeros included; then the cut's numbers.
+// From the cut's lengths on. There follow: how many numbers the call writes to the output, zeros included, and half as many origins; then
+// the cut's numbers, and its origins.
 fn replay_expected(
     head: SliceVector,
     code: u64,
@@ -242,6 +282,10 @@ fn replay_expected(
     if !read_numbers(m, &mut expected) {
         return Outcome::Broken;
     }
+    let mut origins = [0u16; ROOM];
+    if !read_origins(m / 2, &mut origins) {
+        return Outcome::Broken;
+    }
     call(
         head,
         code,
@@ -249,6 +293,7 @@ fn replay_expected(
         lengths,
         &expected[..written],
         expected_lengths,
+        &origins[..written / 2],
     )
 }
 

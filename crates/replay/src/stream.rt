@@ -5,6 +5,7 @@ ghost use Prim.Native.Nat.{_+_, _*_, _≤_};
 ghost use lib.ListN.{length, take, drop};
 ghost use Rattle.binary64.specs.Bytes.{Little, numberOf};
 use binary64::bytes::read_f64;
+use binary64::bytes::read_u16;
 use binary64::bytes::read_u32;
 use binary64::bytes::read_u64;
 use libc::STDIN_FILENO;
@@ -86,6 +87,23 @@ fn decode_wholes(bytes: &[u8], n: usize, to: &mut [u32])
     }
 }
 
+fn origin_at(bytes: &[u8], at: usize) -> u16
+    requires { ⌜ at + 2 ≤ length (now bytes) ⌝ }
+    ensures { λ r. ⌜ r ≡ numberOf Little (take 2 (drop at (now (bytes .entry)))) ⌝ }
+{
+    read_u16(bytes, at) as u16
+}
+
+fn decode_origins(bytes: &[u8], n: usize, to: &mut [u16])
+    requires { ⌜ (2 * n ≤ length (now bytes)) × (n ≤ length (now to)) ⌝ }
+{
+    let mut i = 0usize;
+    while i < n {
+        to[i] = origin_at(bytes, 2 * i);
+        i += 1;
+    }
+}
+
 fn fill_front(bytes: &mut [u8], size: usize) -> bool
     requires { ⌜ size ≤ length (now bytes) ⌝ }
 {
@@ -121,5 +139,21 @@ pub fn read_wholes(n: usize, to: &mut [u32]) -> bool {
         return false;
     }
     decode_wholes(&bytes, n, to);
+    true
+}
+
+// So many origins, to the front of a slice.
+pub fn read_origins(n: usize, to: &mut [u16]) -> bool {
+    if n > to.len() {
+        return false;
+    }
+    if n > MOST_READ {
+        return false;
+    }
+    let mut bytes = [0u8; MOST_BYTES];
+    if !fill_front(&mut bytes, 2 * n) {
+        return false;
+    }
+    decode_origins(&bytes, n, to);
     true
 }

@@ -7,7 +7,7 @@ use Rattle.replay.proofs.lent.answer_agrees.Statement.{statement}
 use Rattle.replay.proofs.lent.answer_agrees.Tie as tie
 
 returns : tie.Need-returns
-unfolding Calls.answerAgrees
+unfolding Calls.answerAgrees Calls.slicesAgree
 returns c = rw (ne-eqb _ _ (c .if1 .taken))
 
 is-refusal-requires : tie.Need-is-refusal-requires
@@ -20,7 +20,7 @@ are-all-requires : tie.Need-are-all-requires
 are-all-requires c κs = search needs
 
 returns-2 : tie.Need-returns-2
-unfolding Calls.answerAgrees
+unfolding Calls.answerAgrees Calls.slicesAgree
 returns-2 c =
     let z = rw (c .before .before .before .is-refusal .ensures) at (c .before .before .scratch-after .ensures) in
     rw (eq-eqb _ _ (c .before .before .before .before .if1 .left), sym (rw z at (c .before .are-all .ensures)) ∙ not-true _ (c .if2 .taken))
@@ -29,7 +29,7 @@ holds-requires : tie.Need-holds-requires
 holds-requires c κs = search needs
 
 returns-3 : tie.Need-returns-3
-unfolding Calls.answerAgrees
+unfolding Calls.answerAgrees Calls.slicesAgree
 returns-3 c =
     let z = rw (c .before .before .before .before .is-refusal .ensures) at (c .before .before .before .scratch-after .ensures) in
     rw (

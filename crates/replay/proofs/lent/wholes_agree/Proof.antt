@@ -13,7 +13,7 @@ are-all-wholes-requires : tie.Need-are-all-wholes-requires
 are-all-wholes-requires c κs = search needs
 
 returns : tie.Need-returns
-unfolding Calls.wholesAgree
+unfolding Calls.slicesAgree
 returns c =
     let z = c .before .before .order-after .ensures in
     rw (sym (rw z at (c .before .are-all-wholes .ensures)) ∙ not-true _ (c .if1 .taken))
@@ -22,7 +22,7 @@ holds-wholes-requires : tie.Need-holds-wholes-requires
 holds-wholes-requires c κs = search needs
 
 returns-2 : tie.Need-returns-2
-unfolding Calls.wholesAgree
+unfolding Calls.slicesAgree
 returns-2 c =
     let z = c .before .before .before .order-after .ensures in
     rw (sym (rw z at (c .before .before .are-all-wholes .ensures)) ∙ not-false _ (c .before .if1 .left)) (c .holds-wholes .ensures)

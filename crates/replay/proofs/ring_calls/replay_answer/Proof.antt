@@ -48,17 +48,32 @@ read-numbers-requires c κs = search needs
 returns-5 : tie.Need-returns-5
 returns-5 c = search needs
 
+slice-aggregate-read-origins : tie.Need-slice-aggregate-read-origins
+slice-aggregate-read-origins c = search needs
+
+read-origins-requires : tie.Need-read-origins-requires
+read-origins-requires c κs = search needs
+
+returns-6 : tie.Need-returns-6
+returns-6 c = search needs
+
 array-share-prefix-expected : tie.Need-array-share-prefix-expected
 array-share-prefix-expected c = search needs
 
 slice-aggregate-call : tie.Need-slice-aggregate-call
 slice-aggregate-call c = sym (length-take-le _ _ (omega arith))
 
+array-share-prefix-origins : tie.Need-array-share-prefix-origins
+array-share-prefix-origins c = search needs
+
+slice-aggregate-call-2 : tie.Need-slice-aggregate-call-2
+slice-aggregate-call-2 c = sym (length-take-le _ _ (omega arith))
+
 call-requires : tie.Need-call-requires
 call-requires c κs = search needs
 
-returns-6 : tie.Need-returns-6
-returns-6 c = search needs
+returns-7 : tie.Need-returns-7
+returns-7 c = search needs
 
 pub replay-answer-spec : {M : Type 1} → statement M
 replay-answer-spec =
@@ -78,7 +93,12 @@ replay-answer-spec =
     slice-aggregate-read-numbers
     read-numbers-requires
     returns-5
+    slice-aggregate-read-origins
+    read-origins-requires
+    returns-6
     array-share-prefix-expected
     slice-aggregate-call
+    array-share-prefix-origins
+    slice-aggregate-call-2
     call-requires
-    returns-6)
+    returns-7)

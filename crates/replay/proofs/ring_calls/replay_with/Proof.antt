@@ -1,4 +1,4 @@
--- `replay_with` is safe: what is passed on is the front of an array. Assumes nothing.
+-- `replay_with` is safe: what is lent is the front of an array. Assumes nothing.
 use mathlib.Core.Path.{sym}
 use native.Mathlib.Omega.{arith}
 use lib.Seq.{length-take-le}

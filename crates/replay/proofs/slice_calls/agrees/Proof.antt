@@ -9,8 +9,8 @@ polygon-requires : tie.Need-polygon-requires
 polygon-requires c κs = search needs
 
 of-slice-requires : tie.Need-of-slice-requires
-of-slice-requires c κs =
-    slice-fits _ _ _ _ _ _ _ (c .before .before .before .before .before .before .before .before .polygon .ensures .0)
+of-slice-requires c κs = slice-fits _ _ _ _ _ _ _ (c .before .before .before .before .before .before .before .before .before .before
+    .before .before .polygon .ensures .0)
 
 slices-agree-requires : tie.Need-slices-agree-requires
 slices-agree-requires c κs = search needs
@@ -27,12 +27,18 @@ same-length-3 c = search needs
 same-length-4 : tie.Need-same-length-4
 same-length-4 c = search needs
 
+same-length-5 : tie.Need-same-length-5
+same-length-5 c = search needs
+
+same-length-6 : tie.Need-same-length-6
+same-length-6 c = search needs
+
 returns : tie.Need-returns
 unfolding sliceAgrees
 returns c =
-    let e = c .before .before .before .before .before .before .before .before .before .before .before .before .before .before .polygon
-    .ensures in
-    rw (← e .0, ← c .before .before .before .before .before .of-slice .ensures, ← e .1) (c .slices-agree .ensures)
+    let e = c .before .before .before .before .before .before .before .before .before .before .before .before .before .before .before
+    .before .before .before .before .before .polygon .ensures in
+    rw (← e .0, ← c .before .before .before .before .before .before .before .of-slice .ensures, ← e .1) (c .slices-agree .ensures)
 
 pub agrees-spec : {M : Type 1} → statement M
 agrees-spec =
@@ -45,4 +51,6 @@ agrees-spec =
     same-length-2
     same-length-3
     same-length-4
+    same-length-5
+    same-length-6
     returns)

@@ -19,10 +19,30 @@ wholes-agree-requires c κs = search needs
 
 returns-2 : tie.Need-returns-2
 returns-2 c =
-    rw (sym (c .before .before .before .answer-agrees .ensures) ∙ not-false _ (c .before .before .if1 .left))
-    (rw (c .before .is-refusal .ensures) at (c .wholes-agree .ensures))
+    rw (
+      sym (c .before .before .before .before .answer-agrees .ensures) ∙ not-false _ (c .before .before .before .if1 .left),
+      sym (rw (c .before .before .is-refusal .ensures) at (c .before .wholes-agree .ensures)) ∙ not-true _ (c .if2 .taken),
+    )
+
+origins-agree-requires : tie.Need-origins-agree-requires
+origins-agree-requires c κs = search needs
+
+returns-3 : tie.Need-returns-3
+returns-3 c =
+    let r = c .before .before .before .is-refusal .ensures in
+    rw (
+      sym (c .before .before .before .before .before .answer-agrees .ensures) ∙ not-false _ (c .before .before .before .before .if1 .left),
+      sym (rw r at (c .before .before .wholes-agree .ensures)) ∙ not-false _ (c .before .if2 .left),
+    ) (rw r at (c .origins-agree .ensures))
 
 pub slices-agree-spec : {M : Type 1} → statement M
 slices-agree-spec =
     tie.close
-    (tie.spec answer-agrees-requires returns is-refusal-requires wholes-agree-requires returns-2)
+    (tie.spec
+    answer-agrees-requires
+    returns
+    is-refusal-requires
+    wholes-agree-requires
+    returns-2
+    origins-agree-requires
+    returns-3)
