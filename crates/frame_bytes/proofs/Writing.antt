@@ -74,7 +74,8 @@ length-ring ring =
 -- ---- a coordinate of a ring with its origin
 
 pub with-at : (ring : List Coord) (origins : List ℕ) (i : ℕ) (none : Coord) → i < length ring
-    → getD (withOrigins ring origins) i (record { coord = none; origin = 0 }) ≡ record { coord = getD ring i none; origin = getD origins i 0 }
+    → getD (withOrigins ring origins) i (record { coord = none; origin = 0 })
+    ≡ record { coord = getD ring i none; origin = getD origins i 0 }
 unfolding withOrigins
 with-at [] origins i none h = absurd (omega arith)
 with-at (p ∷ ring) origins zero none h = refl
@@ -118,7 +119,8 @@ none-put out at ring = let e : at + coordinateBytes * 0 ≡ at = omega arith in 
 
 pub one-put : (out : List ℕ) (at i : ℕ) (ring : List Vertex) (z : Vertex) → i < length ring
     → sets out (at + coordinateBytes * i) (each vertexBytes (drop i ring)) ≡ sets
-    (sets out (at + coordinateBytes * i) (vertexBytes (getD ring i z))) (at + coordinateBytes * (i + 1)) (each vertexBytes (drop (i + 1) ring))
+    (sets out (at + coordinateBytes * i) (vertexBytes (getD ring i z))) (at + coordinateBytes * (i + 1))
+    (each vertexBytes (drop (i + 1) ring))
 unfolding each
 one-put out at i ring z h =
     let e : at + coordinateBytes * (i + 1) ≡ at + coordinateBytes * i + coordinateBytes = omega arith in

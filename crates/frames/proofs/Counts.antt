@@ -1,12 +1,12 @@
--- The counts and positions in the answer to a frame fit the two bytes that each has, so that none is cut off where it is written. Assumes
--- nothing.
-use mathlib.Core.Path.{_≡_}
+-- The counts, positions and origins in the answer to a frame fit the two bytes that each has, so that none is cut off where it is written.
+-- Assumes nothing.
+use mathlib.Core.Path.{_≡_, ap}
 use mathlib.Core.Bool.{Bool, true, false, cond}
 use mathlib.Core.List.{List, [], _∷_}
 use Prim.Native.Nat.{ℕ, suc, _+_, _<_, _≤_}
 use native.Mathlib.Omega.{arith}
 use lib.Dec.{eqb}
-use lib.ListN.{length, drop}
+use lib.ListN.{length, drop, length-append}
 use Rattle.binary64.specs.Lists.{Every}
 use Rattle.tile.specs.declared.Coord.{Coord}
 use Rattle.tile.specs.declared.TileBounds.{TileBounds}
@@ -21,14 +21,18 @@ use Rattle.clip.specs.declared.polygon.Flags.{Flags}
 use Rattle.clip.specs.declared.polygon.Route.{Route}
 use Rattle.clip.specs.declared.polygon.Route.the-variants as Routes
 use Rattle.clip.specs.Polygon as Polygon
-use Rattle.clip.proofs.Cuts.{cut-fits-room, hole-fits-room}
+use Rattle.clip.specs.Origins.{holeOrigins, holesOrigins, cutOrigins, routedOrigins}
+use Rattle.clip.proofs.Cuts.{cut-fits-room, hole-fits-room, exterior-origins-fit, hole-origins-fit}
 use Rattle.clip.proofs.Positions.{RouteWithin, exterior-within}
 use Rattle.frame_bytes.specs.Frame.{read, mostParts, mostInRing, polygonKind, headBytes, countOf, readRing, readPart, partCountOf, Frame}
 use Rattle.frame_bytes.specs.Frame.{readFrame}
 use Rattle.frame_bytes.proofs.Coordinates.{close-grows}
 use Rattle.frame_bytes.proofs.Readings.{many-length, many-every, ring-read, part-read, frame-read}
-use Rattle.frames.specs.Answer.{Part, Answer, Nothing, Dropped, Unchanged, Listed, ofPolygon, routePart, Listing, listedBefore}
-use Rattle.frames.specs.Answer.{listParts, ofParts, ifBox, ofMultipolygon, flagsIn, boundsIn, onlyPart, answerTo}
+use Rattle.frame_parts.specs.Part.{Part, partOf}
+use Rattle.frames.specs.Answer.{Answer, Nothing, Dropped, Unchanged, Listed, ofOutcome, ofPolygon, routePart, Listing, isListed}
+use Rattle.frames.specs.Answer.{listedBefore, addPart, listParts, ofParts, ifBox, ofMultipolygon, flagsIn, boundsIn, onlyPart}
+use Rattle.frames.specs.Answer.{routePolygon, answerTo}
+use Rattle.frames.proofs.Listings.{listed-append, few-one}
 
 -- ---- what two bytes hold
 
@@ -45,8 +49,11 @@ RoutedFits Polygon.unchanged = Unit {0}
 RoutedFits (Polygon.cut rings) = Fits (length rings) × Every RingFits rings
 RoutedFits (Polygon.overlay reason) = Fits (Polygon.reasonDetail reason .first) × Fits (Polygon.reasonDetail reason .second)
 
+abbrev pub OriginsFit : List (List ℕ) → Type 0
+OriginsFit origins = Every (Every Fits) origins
+
 abbrev pub PartFits : Part → Type 0
-PartFits part = Fits (part .index) × RoutedFits (part .outcome)
+PartFits part = Fits (part .index) × RoutedFits (part .outcome) × OriginsFit (part .origins)
 
 abbrev pub AnswerFits : Answer → Type 0
 AnswerFits (Nothing guard) = Fits guard
@@ -111,6 +118,29 @@ module _ (b : TileBounds) where
   cut-fits (r ∷ rings) w =
       (omega (arith, w .0, holes-few rings), (omega (arith, cut-fits-room b r, room-fits (length r) (w .1 .0)), holes-fit rings (w .1 .1)))
 
+  -- ---- their origins
+
+  holes-origins : (rings : List (List Coord)) → Every ShortRing rings → OriginsFit (holesOrigins b rings)
+  unfolding holesOrigins
+  holes-origins [] w = tt
+  holes-origins (r ∷ rings) w = go (holeOrigins b r) (hole-origins-fit b r (omega (arith, w .0))) (holes-origins rings (w .1))
+    where
+      go : (c : List ℕ) → Every Fits c → OriginsFit (holesOrigins b rings) → OriginsFit (Polygon.unlessNone c (holesOrigins b rings))
+      go [] f h = h
+      go (o ∷ c) f h = (f, h)
+
+  rings-origins : (rings : List (List Coord)) → Every ShortRing rings → OriginsFit (cutOrigins b rings)
+  unfolding cutOrigins
+  rings-origins [] w = tt
+  rings-origins (r ∷ rings) w = (exterior-origins-fit b r (omega (arith, w .0)), holes-origins rings (w .1))
+
+  origins-fit : (rings : List (List Coord)) → SmallPart rings → (to : Polygon.Routed) → OriginsFit (routedOrigins to b rings)
+  origins-fit rings w Polygon.nothing = tt
+  origins-fit rings w Polygon.dropped = tt
+  origins-fit rings w Polygon.unchanged = tt
+  origins-fit rings w (Polygon.cut cut) = rings-origins rings (w .1)
+  origins-fit rings w (Polygon.overlay reason) = tt
+
   -- ---- a polygon, and a part
 
   module _ (flags : Flags) (rings : List (List Coord)) (w : SmallPart rings) where
@@ -153,25 +183,34 @@ record ListingFits (n : ℕ) (l : Listing) : Type 0 where
   listed : length (l .parts) ≤ n
   each-fits : Every PartFits (l .parts)
 
-module _ (i n : ℕ) (h : Fits i) (l : Listing) (w : ListingFits n l) where
-  one-more : (to : Polygon.Routed) → RoutedFits to
-      → ListingFits (suc n) (record { guard = Polygon.told (Polygon.answerOf to) .guards + l .guard; parts = listedBefore i to (l .parts) })
-  one-more Polygon.nothing f = record { guards = omega (arith, w .guards); listed = omega (arith, w .listed); each-fits = w .each-fits }
-  one-more Polygon.dropped f = record { guards = omega (arith, w .guards); listed = omega (arith, w .listed); each-fits = w .each-fits }
-  one-more Polygon.unchanged f =
-      record { guards = omega (arith, w .guards); listed = omega (arith, w .listed); each-fits = ((h, f), w .each-fits) }
-  one-more (Polygon.cut rings) f =
-      record { guards = omega (arith, w .guards); listed = omega (arith, w .listed); each-fits = ((h, f), w .each-fits) }
-  one-more (Polygon.overlay reason) f =
-      record { guards = omega (arith, w .guards); listed = omega (arith, w .listed); each-fits = ((h, f), w .each-fits) }
+one-more : (n : ℕ) (l : Listing) (part : Part) → ListingFits n l → PartFits part → ListingFits (suc n) (addPart part l)
+one-more n l part w f =
+    let o = few-one part in
+    record {
+      guards = omega (arith, o .1, w .guards);
+      listed =
+          omega (
+            arith,
+            o .0,
+            w .listed,
+            ap length (listed-append part (l .parts)),
+            length-append (listedBefore part []) (l .parts),
+          );
+      each-fits = go (isListed (part .outcome));
+    }
+  where
+    go : (t : Bool) → Every PartFits (cond t (part ∷ l .parts) (l .parts))
+    go true = (f, w .each-fits)
+    go false = w .each-fits
 
 parts-fit : (flags : Flags) (b : TileBounds) (i : ℕ) (parts : List (List (List Coord))) → i + length parts ≤ mostParts
     → Every SmallPart parts → ListingFits (length parts) (listParts flags b i parts)
 unfolding listParts
 parts-fit flags b i [] h w = record { guards = omega arith; listed = omega arith; each-fits = tt }
 parts-fit flags b i (part ∷ parts) h w =
-    one-more i (length parts) (omega arith) (listParts flags b (suc i) parts) (parts-fit flags b (suc i) parts (omega arith) (w .1))
-    (routePart flags b part) (part-fits b flags part (w .0))
+    one-more (length parts) (listParts flags b (suc i) parts) (partOf i b part (routePart flags b part))
+    (parts-fit flags b (suc i) parts (omega arith) (w .1))
+    (omega arith, part-fits b flags part (w .0), origins-fit b part (w .0) (routePart flags b part))
 
 module _ (flags : Flags) (b : TileBounds) (parts : List (List (List Coord))) (few : length parts ≤ mostParts)
     (small : Every SmallPart parts) where
@@ -203,12 +242,15 @@ module _ (flags : Flags) (b : TileBounds) (parts : List (List (List Coord))) (fe
 
 -- ---- a frame
 
-of-polygon : (to : Polygon.Routed) → RoutedFits to → AnswerFits (ofPolygon to)
-of-polygon Polygon.nothing f = omega arith
-of-polygon Polygon.dropped f = tt
-of-polygon Polygon.unchanged f = tt
-of-polygon (Polygon.cut rings) f = (omega arith, omega arith, ((omega arith, f), tt))
-of-polygon (Polygon.overlay reason) f = (omega arith, omega arith, ((omega arith, f), tt))
+of-polygon : (part : Part) → PartFits part → AnswerFits (ofPolygon part)
+of-polygon part f = go (part .outcome)
+  where
+    go : (to : Polygon.Routed) → AnswerFits (ofOutcome to (Listed 0 (part ∷ [])))
+    go Polygon.nothing = omega arith
+    go Polygon.dropped = tt
+    go Polygon.unchanged = tt
+    go (Polygon.cut rings) = (omega arith, omega arith, (f, tt))
+    go (Polygon.overlay reason) = (omega arith, omega arith, (f, tt))
 
 only-part : (parts : List (List (List Coord))) → Every SmallPart parts → SmallPart (onlyPart parts)
 only-part [] w = (omega arith, tt)
@@ -216,8 +258,14 @@ only-part (part ∷ parts) w = w .0
 
 module _ (flags : Flags) (b : TileBounds) (parts : List (List (List Coord))) (few : length parts ≤ mostParts)
     (small : Every SmallPart parts) where
-  by-kind : (t : Bool) → AnswerFits (cond t (ofPolygon (Polygon.route flags b (onlyPart parts))) (ofMultipolygon flags b parts))
-  by-kind true = of-polygon (Polygon.route flags b (onlyPart parts)) (polygon-fits b flags (onlyPart parts) (only-part parts small))
+  by-kind : (t : Bool) → AnswerFits (cond t (ofPolygon (routePolygon flags b (onlyPart parts))) (ofMultipolygon flags b parts))
+  by-kind true =
+      let small-one = only-part parts small in
+      of-polygon (routePolygon flags b (onlyPart parts)) (
+        omega arith,
+        polygon-fits b flags (onlyPart parts) small-one,
+        origins-fit b (onlyPart parts) small-one (Polygon.route flags b (onlyPart parts)),
+      )
   by-kind false = multipolygon-fits flags b parts few small
 
 pub counts-fit : (l : List ℕ) (f : Frame) (rest : List ℕ) → readFrame l ≡ read f rest → AnswerFits (answerTo f)

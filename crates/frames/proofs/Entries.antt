@@ -28,20 +28,23 @@ use Rattle.frame_bytes.specs.Frame.{Reading, refused, read, polygonKind, multip
 use Rattle.frame_bytes.specs.Frame.{countOf, readRing, readPart, Frame, kindOf, partCountOf, wrongKind, wrongPartCount, headOf, readFrame}
 use Rattle.frame_bytes.specs.Contracts.{checkOf, Accepted, allIn, partAt, frameRoom, frameRect, soundIfSimple}
 use Rattle.frame_bytes.specs.Room.{leastRoom, coordinateBytes, partRoom, outputRoom, readCall}
-use Rattle.frame_bytes.specs.Encoding.{each, coordBytes, headerBytes}
+use Rattle.frame_bytes.specs.Encoding.{each, headerBytes}
 use Rattle.frame_bytes.proofs.Readings.{taken, many-length, many-every, part-read, frame-read}
 use Rattle.frame_bytes.proofs.Rooms.{mostPart, parts-le, frame-head, frame-few, frame-parts, call-read}
 use Rattle.frame_bytes.proofs.Writing.{each-append, length-header}
 use Rattle.frame_bytes.proofs.SimpleExteriors.{sound-part}
+use Rattle.frame_parts.specs.Part.{Part, partOf, partBytes}
+use Rattle.frame_parts.specs.Contracts.{routedPart, measuredPart, Lengths, PartRoom, PositionsRoom}
+use Rattle.frame_parts.proofs.CutParts.{bytes-fit}
 use Rattle.frames.specs.declared.entry.FrameAnswer.the-variants.{Refused, Answered}
-use Rattle.frames.specs.Answer.{Part, Answer, Nothing, Unchanged, ofPolygon, routePart, listedBefore, listParts, ofParts, ifBox}
-use Rattle.frames.specs.Answer.{ofMultipolygon, flagsIn, boundsIn, onlyPart, answerTo}
-use Rattle.frames.specs.Output.{partBytes, answerBytes, frameBytes, outputOf, frameCallOutput}
-use Rattle.frames.specs.Contracts.{PartRoom, partsFrom, ofListing, Answers, partsOf, answerRead, answerMeasured, unchangedAtOnce}
+use Rattle.frames.specs.Answer.{Answer, Nothing, Dropped, Unchanged, Listed, ofOutcome, ofPolygon, routePart, listedBefore, listParts}
+use Rattle.frames.specs.Answer.{ofParts, ifBox, ofMultipolygon, flagsIn, boundsIn, onlyPart, routePolygon, answerTo}
+use Rattle.frames.specs.Output.{answerBytes, frameBytes, outputOf, frameCallOutput}
+use Rattle.frames.specs.Contracts.{partsFrom, ofListing, Answers, partsOf, answerRead, answerMeasured, unchangedAtOnce}
 use Rattle.frames.specs.Contracts.{PartsReady, Answerable, Cuttable}
 use Rattle.frames.specs.FrameCall.{answerOfReading, frameCallAnswer}
-use Rattle.frames.proofs.Listings.{routed-as, listed-append, routed-fits, listed-fits, NextPart, next-part, part-next, part-room}
-use Rattle.frames.proofs.Sizes.{parts-fit}
+use Rattle.frames.proofs.Listings.{routed-as, listed-append, listed-fits, NextPart, next-part, part-next, part-room, positions-room}
+use Rattle.frames.proofs.Sizes.{Enough, parts-fit}
 
 -- ---- what an accepted frame holds
 
@@ -89,22 +92,22 @@ holds frame a = let t = taken (readFrame frame) a in go (t .value) (t .rest) (t 
 -- ---- room for the parts
 
 -- slices with room for a ring of m coordinates are enough for a frame that is no longer than one such ring takes
-pub ready : (frame : List ℕ) (head : Head) (m ring a b order out : ℕ) → Cuttable frame head out → length frame ≤ 47 + 16 * m
-    → m ≤ mostInRing + 1 → 2 * m ≤ ring → 2 * B m ≤ a → 2 * B m ≤ b → B m ≤ order → PartsReady frame head ring a b order out
-ready frame head m ring a b order out c small hm hring ha hb horder =
+pub ready : (frame : List ℕ) (head : Head) (m : ℕ) (lent : Lengths) (order out : ℕ) → Cuttable frame head out
+    → length frame ≤ 47 + 16 * m → Enough m lent order → PartsReady frame head lent order out
+ready frame head m lent order out c small enough =
     let y = c .answerable in
     let x = y .accepted in
     let h = holds frame x in
     let k = partCountOf frame in
     let finite : withParts Rects.Nothing (partsFrom frame headBytes k) ≡ Rects.NotFinite
     → ⊥ = λ z. c .finite (h .rect ∙ rw (← h .parts-from) z) in
-    subst (λ (g : Head). PartsReady frame g ring a b order out) (sym (y .head-read)) (record {
+    subst (λ (g : Head). PartsReady frame g lent order out) (sym (y .head-read)) (record {
       room = record {
         within = frame-head frame x;
         accepted = frame-parts frame x;
         workable =
-            parts-fit frame m small ring a b order hm hring ha hb horder k headBytes Rects.Nothing (omega arith) (frame-head frame x)
-            (frame-parts frame x) finite;
+            parts-fit frame m small lent order enough k headBytes Rects.Nothing (omega arith) (frame-head frame x) (frame-parts frame x)
+            finite;
         output = rw (h .parts-from) (omega (arith, h .fits, y .output));
       };
       few = frame-few frame x;
@@ -117,15 +120,18 @@ pub parts-read : (frame : List ℕ) (head : Head) (out : ℕ) → Answerable fra
 parts-read frame head out y = rw (y .head-read) (holds frame (y .accepted) .parts-from)
 
 -- what is answered as if rect were the rectangle: of a polygon's only part, and of a listing
-module _ (frame : List ℕ) (head : Head) (ring a b order out : ℕ) (r : PartsReady frame head ring a b order out)
+module _ (frame : List ℕ) (head : Head) (lent : Lengths) (order out : ℕ) (r : PartsReady frame head lent order out)
     (k : eqb (head .kind) polygonKind ≡ true) where
-  pub only-room : PartRoom frame headBytes ring a b order out leastRoom
-  only-room = part-room (flagsIn head) (head .bounds) frame headBytes (head .parts) ring a b order out leastRoom (r .some k) (r .room)
+  pub only-room : PartRoom frame headBytes lent out leastRoom
+  only-room = part-room (flagsIn head) (head .bounds) frame headBytes (head .parts) lent order out leastRoom (r .some k) (r .room)
+
+  pub only-positions : PositionsRoom (partAt frame headBytes) order
+  only-positions = positions-room (flagsIn head) (head .bounds) frame headBytes (head .parts) lent order out leastRoom (r .some k) (r .room)
 
   pub only-part : (rect : Rect) (bounds : TileBounds) → answerMeasured head rect bounds (partsFrom frame headBytes (head .parts))
-      ≡ ofPolygon (Polygon.routeMeasured (flagsIn head) rect bounds (partAt frame headBytes))
+      ≡ ofPolygon (measuredPart 0 (flagsIn head) rect bounds (partAt frame headBytes))
   only-part rect bounds =
-      rw (k, part-next (flagsIn head) (head .bounds) frame headBytes (head .parts) ring a b order out leastRoom (r .some k) (r .room) .here)
+      rw (k, part-next (flagsIn head) (head .bounds) frame headBytes (head .parts) lent order out leastRoom (r .some k) (r .room) .here)
 
 pub as-answer : {x y : Answer} {out out′ : List ℕ} {r : ℕ} → x ≡ y → Answers y out r out′ → Answers x out r out′
 as-answer e a = rw e a
@@ -178,7 +184,8 @@ pub record Read (frame : List ℕ) (head : Head) : Type 0 where
   pub multipolygon : eqb (head .kind) polygonKind ≡ false → answerRead (readFrame frame) ≡ ofMultipolygon (flagsIn head) (boundsIn head)
       (partsOf (readFrame frame))
   pub polygon-rect : eqb (head .kind) polygonKind ≡ true → answerRead (readFrame frame) ≡ ofPolygon
-      (Polygon.routeRect (flagsIn head) (frameRect (readFrame frame)) (boundsIn head) (onlyPart (partsOf (readFrame frame))))
+      (partOf 0 (boundsIn head) (onlyPart (partsOf (readFrame frame)))
+      (Polygon.routeRect (flagsIn head) (frameRect (readFrame frame)) (boundsIn head) (onlyPart (partsOf (readFrame frame)))))
 
 pub read-answer : (frame : List ℕ) (head : Head) → Accepted (readFrame frame) → head ≡ headOf frame → Read frame head
 unfolding answerTo Polygon.route
@@ -199,7 +206,8 @@ read-answer frame head a hd = let t = taken (readFrame frame) a in go (t .value)
 module _ (frame : List ℕ) (head : Head) (a : Accepted (readFrame frame)) (hd : head ≡ headOf frame) where
   -- no coordinate, or one that is not finite: this is answered whatever the frame lists
   pub unmeasured : (rect : Rect) (answer : Answer) → frameRect (readFrame frame) ≡ rect
-      → ((b : TileBounds) (rings : List (List Coord)) → ofPolygon (Polygon.routeRect (flagsIn head) rect b rings) ≡ answer)
+      → ((b : TileBounds) (rings : List (List Coord)) → ofPolygon (partOf 0 b rings (Polygon.routeRect (flagsIn head) rect b rings)) ≡
+      answer)
       → ((other : Answer) → ifBox rect other ≡ answer) → answerRead (readFrame frame) ≡ answer
   unfolding ofMultipolygon
   unmeasured rect answer q p m = go (eqb (head .kind) polygonKind) refl
@@ -221,8 +229,10 @@ module _ (frame : List ℕ) (head : Head) (out : ℕ) (c : Cuttable frame head o
   by-rect = finite-rect rect (flagsIn head) b (λ z. c .finite (sym er ∙ z))
 
   of-polygon : eqb (head .kind) polygonKind ≡ true → answerRead (readFrame frame) ≡ ofPolygon
-      (Polygon.routeMeasured (flagsIn head) rect b (onlyPart parts))
-  of-polygon k = by-kind .polygon-rect k ∙ rw (← er, ← eb) (ap ofPolygon (by-rect .route (onlyPart parts)))
+      (measuredPart 0 (flagsIn head) rect b (onlyPart parts))
+  of-polygon k =
+      by-kind .polygon-rect k
+      ∙ rw (← er, ← eb) (ap (λ (to : Polygon.Routed). ofPolygon (partOf 0 b (onlyPart parts) to)) (by-rect .route (onlyPart parts)))
 
   of-multipolygon : eqb (head .kind) polygonKind ≡ false → answerRead (readFrame frame) ≡ cond (intersectsBounds rect b)
       (cond (isFullyInside rect b) Unchanged (ofListing (listParts (flagsIn head) b 0 parts))) (Nothing 0)
@@ -280,66 +290,72 @@ parts-some l f rest e =
     many-every readPart SomeRings some-rings (partCountOf l) (drop headBytes l) (f .parts) rest (frame-read l f rest e .parts)
 
 listing-fits : (flags : Flags) (b : TileBounds) (i : ℕ) (parts : List (List (List Coord))) → Every SomeRings parts
-    → length (each (partBytes coordBytes) (listParts flags b i parts .parts)) ≤ total (partRoom 16) parts
+    → length (each partBytes (listParts flags b i parts .parts)) ≤ total (partRoom coordinateBytes) parts
 unfolding listParts total each
 listing-fits flags b i [] some = omega arith
 listing-fits flags b i (part ∷ parts) some =
-    let f = partBytes coordBytes in
-    let to = routePart flags b part in
+    let f = partBytes in
+    let listed = partOf i b part (routePart flags b part) in
     let l = listParts flags b (suc i) parts .parts in
-    let one : length (each f (listedBefore i to [])) ≤ partRoom 16 part = rw (← routed-as flags b part)
+    let one : length (each f (listedBefore listed [])) ≤ partRoom coordinateBytes part = rw (← routed-as flags b part)
     (listed-fits i b part (some .0) flags (rectangle part)) in
     omega (
       arith,
-      ap (λ (x : List Part). length (each f x)) (listed-append i to l),
-      ap length (each-append f (listedBefore i to []) l),
-      length-append (each f (listedBefore i to [])) (each f l),
+      ap (λ (x : List Part). length (each f x)) (listed-append listed l),
+      ap length (each-append f (listedBefore listed []) l),
+      length-append (each f (listedBefore listed [])) (each f l),
       listing-fits flags b (suc i) parts (some .1),
     )
 
-parts-bytes : (guard : ℕ) (parts : List Part) → length (answerBytes coordBytes (ofParts guard parts)) ≤ 5 + length
-    (each (partBytes coordBytes) parts)
+parts-bytes : (guard : ℕ) (parts : List Part) → length (answerBytes (ofParts guard parts)) ≤ 5 + length
+    (each partBytes parts)
 unfolding answerBytes
 parts-bytes guard [] = omega (arith, length-header 0 guard 0)
 parts-bytes guard (part ∷ parts) =
     omega (
       arith,
-      length-append (headerBytes 3 guard (length (part ∷ parts))) (each (partBytes coordBytes) (part ∷ parts)),
+      length-append (headerBytes 3 guard (length (part ∷ parts))) (each partBytes (part ∷ parts)),
       length-header 3 guard (length (part ∷ parts)),
     )
 
-polygon-bytes : (to : Polygon.Routed) → length (answerBytes coordBytes (ofPolygon to)) ≤ 5 + length
-    (each (partBytes coordBytes) (listedBefore 0 to []))
-unfolding answerBytes
-polygon-bytes Polygon.nothing = omega (arith, length-header 0 0 0)
-polygon-bytes Polygon.dropped = omega (arith, length-header 1 1 0)
-polygon-bytes Polygon.unchanged = omega (arith, length-header 2 0 0)
-polygon-bytes (Polygon.cut rings) = parts-bytes 0 (record { index = 0; outcome = Polygon.cut rings } ∷ [])
-polygon-bytes (Polygon.overlay reason) = parts-bytes 0 (record { index = 0; outcome = Polygon.overlay reason } ∷ [])
+polygon-bytes : (part : Part) → length (answerBytes (ofPolygon part)) ≤ 5 + length (partBytes part)
+unfolding answerBytes each
+polygon-bytes part = go (part .outcome)
+  where
+    listed : length (answerBytes (Listed 0 (part ∷ []))) ≤ 5 + length (partBytes part)
+    listed = omega (arith, parts-bytes 0 (part ∷ []), length-append (partBytes part) [])
+
+    go : (to : Polygon.Routed) → length (answerBytes (ofOutcome to (Listed 0 (part ∷ [])))) ≤ 5 + length (partBytes part)
+    go Polygon.nothing = omega (arith, length-header 0 0 0)
+    go Polygon.dropped = omega (arith, length-header 1 1 0)
+    go Polygon.unchanged = omega (arith, length-header 2 0 0)
+    go (Polygon.cut rings) = listed
+    go (Polygon.overlay reason) = listed
 
 route-fits : (flags : Flags) (rect : Rect) (b : TileBounds) (rings : List (List Coord)) → SomeRings rings
-    → length (each (partBytes coordBytes) (listedBefore 0 (Polygon.routeRect flags rect b rings) [])) ≤ partRoom 16 rings
-unfolding Polygon.routeRect each
-route-fits flags Rects.Nothing b rings some = omega arith
-route-fits flags Rects.NotFinite b rings some = omega arith
+    → length (answerBytes (ofPolygon (partOf 0 b rings (Polygon.routeRect flags rect b rings)))) ≤ 5 + partRoom coordinateBytes rings
+unfolding Polygon.routeRect answerBytes
+route-fits flags Rects.Nothing b rings some = omega (arith, length-header 0 0 0)
+route-fits flags Rects.NotFinite b rings some = omega (arith, length-header 1 1 0)
 route-fits flags (Rects.Box w s e n) b rings some =
-    routed-fits 0 b rings some (Polygon.routeExterior flags (Rects.Box w s e n) b (exterior rings))
+    let to = Polygon.routeExterior flags (Rects.Box w s e n) b (exterior rings) in
+    omega (arith, polygon-bytes (routedPart 0 to b rings), bytes-fit 0 b rings some to)
 
 polygon-fits : (flags : Flags) (b : TileBounds) (parts : List (List (List Coord))) → Every SomeRings parts
-    → length (answerBytes coordBytes (ofPolygon (Polygon.route flags b (onlyPart parts)))) ≤ 5 + total (partRoom 16) parts
+    → length (answerBytes (ofPolygon (routePolygon flags b (onlyPart parts)))) ≤ 5 + total (partRoom coordinateBytes) parts
 unfolding Polygon.route Polygon.routeRect withRings total answerBytes
 polygon-fits flags b [] some = omega (arith, length-header 0 0 0)
-polygon-fits flags b (part ∷ parts) some =
-    omega (arith, polygon-bytes (Polygon.route flags b part), route-fits flags (rectangle part) b part (some .0))
+polygon-fits flags b (part ∷ parts) some = omega (arith, route-fits flags (rectangle part) b part (some .0))
 
 multipolygon-fits : (flags : Flags) (b : TileBounds) (parts : List (List (List Coord))) → Every SomeRings parts
-    → length (answerBytes coordBytes (ofMultipolygon flags b parts)) ≤ 5 + total (partRoom 16) parts
+    → length (answerBytes (ofMultipolygon flags b parts)) ≤ 5 + total (partRoom coordinateBytes) parts
 unfolding ofMultipolygon answerBytes
 multipolygon-fits flags b parts some =
     let whole = withParts Rects.Nothing parts in go whole (intersectsBounds whole b) (isFullyInside whole b)
   where
-    go : (r : Rect) (i j : Bool) → length (answerBytes coordBytes
-        (ifBox r (cond i (cond j Unchanged (ofListing (listParts flags b 0 parts))) (Nothing 0)))) ≤ 5 + total (partRoom 16) parts
+    go : (r : Rect) (i j : Bool) → length (answerBytes
+        (ifBox r (cond i (cond j Unchanged (ofListing (listParts flags b 0 parts))) (Nothing 0)))) ≤ 5 + total (partRoom coordinateBytes)
+        parts
     go Rects.Nothing i j = omega (arith, length-header 0 0 0)
     go Rects.NotFinite i j = omega (arith, length-header 1 1 0)
     go (Rects.Box w s e n) false j = omega (arith, length-header 0 0 0)
@@ -351,9 +367,9 @@ answer-fits : (f : Frame) → Every SomeRings (f .parts) → length (frameBytes 
 unfolding answerTo outputRoom
 answer-fits f some = go (eqb (f .head .kind) polygonKind)
   where
-    go : (t : Bool) → length (answerBytes coordBytes
-        (cond t (ofPolygon (Polygon.route (flagsIn (f .head)) (boundsIn (f .head)) (onlyPart (f .parts))))
-        (ofMultipolygon (flagsIn (f .head)) (boundsIn (f .head)) (f .parts)))) ≤ 5 + total (partRoom 16) (f .parts)
+    go : (t : Bool) → length (answerBytes
+        (cond t (ofPolygon (routePolygon (flagsIn (f .head)) (boundsIn (f .head)) (onlyPart (f .parts))))
+        (ofMultipolygon (flagsIn (f .head)) (boundsIn (f .head)) (f .parts)))) ≤ 5 + total (partRoom coordinateBytes) (f .parts)
     go true = polygon-fits (flagsIn (f .head)) (boundsIn (f .head)) (f .parts) some
     go false = multipolygon-fits (flagsIn (f .head)) (boundsIn (f .head)) (f .parts) some
 

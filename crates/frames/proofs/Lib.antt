@@ -1,6 +1,4 @@
 pub mod Counts
-pub mod CutParts
-pub mod Cutting
 pub mod Entries
 pub mod Listings
 pub mod Sizes

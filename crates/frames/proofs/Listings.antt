@@ -26,20 +26,20 @@ use Rattle.clip.specs.Polygon.{answerOf, told}
 use Rattle.clip.proofs.Cuts.{cut-fits-room, hole-fits-room}
 use Rattle.frame_bytes.specs.Frame.{Reading, read, mostParts, readPart, readMany}
 use Rattle.frame_bytes.specs.Contracts.{Accepted, allIn, partAt, measuredOf}
-use Rattle.frame_bytes.specs.Room.{partRoom}
-use Rattle.frame_bytes.specs.Encoding.{each, countBytes, coordBytes, headerBytes, ringBytes}
+use Rattle.frame_bytes.specs.Room.{coordinateBytes, partRoom}
+use Rattle.frame_bytes.specs.Encoding.{each, headerBytes}
 use Rattle.frame_bytes.proofs.Readings.{taken, part-reads}
 use Rattle.frame_bytes.proofs.Places.{step}
-use Rattle.frame_bytes.proofs.Writing.{sets-before, each-append, length-count, length-header, length-ring}
+use Rattle.frame_bytes.proofs.Writing.{sets-before, each-append, length-header}
+use Rattle.frame_parts.specs.Part.{Part, partOf, partBytes}
+use Rattle.frame_parts.specs.Contracts.{uncutPart, writtenPart, partAnswer, Lengths, PartRoom, PositionsRoom}
+use Rattle.frame_parts.proofs.CutParts.{some-rings, uncut-length, bytes-fit}
 use Rattle.frames.specs.declared.parts.ListedSoFar.{ListedSoFar}
-use Rattle.frames.specs.Answer.{Part, Answer, Nothing, Dropped, Unchanged, Listed, listedBefore, Listing, addPart, listParts, ofParts}
-use Rattle.frames.specs.Answer.{ofPolygon, routePart}
-use Rattle.frames.specs.Output.{partBytes, answerBytes}
-use Rattle.frames.specs.Contracts.{writtenPart, partAnswer, PartRoom, routePartAs, partsFrom, unchangedBytes, withPart, Lists}
-use Rattle.frames.specs.Contracts.{listingOf, finishedHeader, finishedLength, polygonHeader, polygonLength, Answers, Few, Workable}
-use Rattle.frames.specs.Contracts.{PartsRoom}
-use Rattle.frames.proofs.Cutting.{unless-append, unless-bytes}
-use Rattle.frames.proofs.CutParts.{some-rings, overlay-length, part-bytes}
+use Rattle.frames.specs.Answer.{Answer, Nothing, Dropped, Unchanged, Listed, ofPolygon, routePart, isListed, listedBefore, Listing}
+use Rattle.frames.specs.Answer.{addPart, listParts, ofParts}
+use Rattle.frames.specs.Output.{answerBytes}
+use Rattle.frames.specs.Contracts.{routePartAs, partAs, partsFrom, unchangedBytes, withPart, Lists, listingOf, finishedHeader}
+use Rattle.frames.specs.Contracts.{finishedLength, polygonHeader, polygonLength, Answers, Few, Workable, PartsRoom}
 
 -- ---- a part of a multipolygon, by its rectangle
 
@@ -57,54 +57,65 @@ routed-as flags b rings = go (rectangle rings)
 
 -- ---- one part listed, or not
 
-one-part : (part : Part) → each (partBytes coordBytes) (part ∷ []) ≡ partBytes coordBytes part
-unfolding each
-one-part part = append-nil (partBytes coordBytes part)
+unchanged-length : (i : ℕ) → length (partBytes (uncutPart i Polygon.unchanged)) ≡ 4
+unchanged-length i = uncut-length (uncutPart i Polygon.unchanged) refl
 
-unchanged-length : (i : ℕ) → length (partBytes coordBytes (record { index = i; outcome = Polygon.unchanged })) ≡ 4
+-- a part of which this becomes; one that is unchanged is written without its origins, of which it has none
+abbrev partWith : ℕ → List (List ℕ) → Polygon.Routed → Part
+partWith i origins to = record { index = i; outcome = to; origins = origins }
+
+unchanged-bytes : (i : ℕ) (origins : List (List ℕ)) → partBytes (partWith i origins Polygon.unchanged) ≡ partBytes
+    (uncutPart i Polygon.unchanged)
 unfolding partBytes
-unchanged-length i = omega (arith, length-append (countBytes i) (2 ∷ 0 ∷ []), length-count i)
+unchanged-bytes i origins = refl
 
-pub listed-part : (i : ℕ) (to : Polygon.Routed) (l : ListedSoFar) (out : List ℕ)
-    → Lists (listingOf i to) l out (withPart (partAnswer (l .next) i to) l)
-    (sets (sets out (l .next) (writtenPart i to)) (l .next) (unchangedBytes i (partAnswer (l .next) i to)))
-unfolding each
-listed-part i Polygon.nothing l out =
-    record { output = refl; next-after = omega arith; parts-after = omega arith; guard-after = omega arith }
-listed-part i Polygon.dropped l out =
-    record { output = refl; next-after = omega arith; parts-after = omega arith; guard-after = omega arith }
-listed-part i Polygon.unchanged l out = record {
-  output = rw (append-nil (partBytes coordBytes (record { index = i; outcome = Polygon.unchanged })));
-  next-after =
-      omega (arith, length-append (partBytes coordBytes (record { index = i; outcome = Polygon.unchanged })) [], unchanged-length i);
-  parts-after = omega arith;
-  guard-after = omega arith;
-}
-listed-part i (Polygon.cut rings) l out = record {
-  output = rw (append-nil (partBytes coordBytes (record { index = i; outcome = Polygon.cut rings })));
-  next-after = omega (arith, length-append (partBytes coordBytes (record { index = i; outcome = Polygon.cut rings })) []);
-  parts-after = omega arith;
-  guard-after = omega arith;
-}
-listed-part i (Polygon.overlay reason) l out = record {
-  output = rw (append-nil (partBytes coordBytes (record { index = i; outcome = Polygon.overlay reason })));
-  next-after = omega (arith, length-append (partBytes coordBytes (record { index = i; outcome = Polygon.overlay reason })) []);
-  parts-after = omega arith;
-  guard-after = omega arith;
-}
+module _ (i : ℕ) (origins : List (List ℕ)) (l : ListedSoFar) (out : List ℕ) where
+  pub listed-part : (to : Polygon.Routed) → Lists (listingOf (partWith i origins to)) l out
+      (withPart (partAnswer (l .next) (partWith i origins to)) l)
+      (sets (sets out (l .next) (writtenPart (partWith i origins to))) (l .next)
+      (unchangedBytes i (partAnswer (l .next) (partWith i origins to))))
+  unfolding each
+  listed-part Polygon.nothing =
+      record { output = refl; next-after = omega arith; parts-after = omega arith; guard-after = omega arith }
+  listed-part Polygon.dropped =
+      record { output = refl; next-after = omega arith; parts-after = omega arith; guard-after = omega arith }
+  listed-part Polygon.unchanged = record {
+    output = rw (append-nil (partBytes (partWith i origins Polygon.unchanged)), unchanged-bytes i origins);
+    next-after =
+        omega (
+          arith,
+          length-append (partBytes (partWith i origins Polygon.unchanged)) [],
+          ap length (unchanged-bytes i origins),
+          unchanged-length i,
+        );
+    parts-after = omega arith;
+    guard-after = omega arith;
+  }
+  listed-part (Polygon.cut rings) = record {
+    output = rw (append-nil (partBytes (partWith i origins (Polygon.cut rings))));
+    next-after = omega (arith, length-append (partBytes (partWith i origins (Polygon.cut rings))) []);
+    parts-after = omega arith;
+    guard-after = omega arith;
+  }
+  listed-part (Polygon.overlay reason) = record {
+    output = rw (append-nil (partBytes (partWith i origins (Polygon.overlay reason))));
+    next-after = omega (arith, length-append (partBytes (partWith i origins (Polygon.overlay reason))) []);
+    parts-after = omega arith;
+    guard-after = omega arith;
+  }
 
 -- ---- what is listed, and what is left to list
 
-pub listed-append : (i : ℕ) (to : Polygon.Routed) (parts : List Part) → listedBefore i to parts ≡ listedBefore i to [] ++ parts
-listed-append i Polygon.nothing parts = refl
-listed-append i Polygon.dropped parts = refl
-listed-append i Polygon.unchanged parts = refl
-listed-append i (Polygon.cut rings) parts = refl
-listed-append i (Polygon.overlay reason) parts = refl
+pub listed-append : (part : Part) (parts : List Part) → listedBefore part parts ≡ listedBefore part [] ++ parts
+listed-append part parts = go (isListed (part .outcome))
+  where
+    go : (t : Bool) → cond t (part ∷ parts) parts ≡ cond t (part ∷ []) [] ++ parts
+    go true = refl
+    go false = refl
 
 pub record AheadParts (x : Listing) (l : ListedSoFar) (out : List ℕ) (y : Listing) (l′ : ListedSoFar) (out′ : List ℕ) : Type 0 where
-  pub output : sets out (l .next) (each (partBytes coordBytes) (x .parts)) ≡ sets out′ (l′ .next) (each (partBytes coordBytes) (y .parts))
-  pub next : l .next + length (each (partBytes coordBytes) (x .parts)) ≡ l′ .next + length (each (partBytes coordBytes) (y .parts))
+  pub output : sets out (l .next) (each partBytes (x .parts)) ≡ sets out′ (l′ .next) (each partBytes (y .parts))
+  pub next : l .next + length (each partBytes (x .parts)) ≡ l′ .next + length (each partBytes (y .parts))
   pub counts : l .parts + length (x .parts) ≡ l′ .parts + length (y .parts)
   pub guards : l .guard + x .guard ≡ l′ .guard + y .guard
 
@@ -116,13 +127,13 @@ pub parts-then : {x y z : Listing} {l l′ l″ : ListedSoFar} {o o′ o″ : Li
 parts-then f g =
     record { output = f .output ∙ g .output; next = f .next ∙ g .next; counts = f .counts ∙ g .counts; guards = f .guards ∙ g .guards }
 
-pub parts-one : (i : ℕ) (to : Polygon.Routed) (y : Listing) (l l′ : ListedSoFar) (out out′ : List ℕ) → Lists (listingOf i to) l out l′
-    out′ → AheadParts (addPart i to y) l out y l′ out′
-parts-one i to y l l′ out out′ p =
-    let f = partBytes coordBytes in
-    let x = listedBefore i to [] in
-    let a = listed-append i to (y .parts) in
-    let e : each f (listedBefore i to (y .parts)) ≡ each f x ++ each f (y .parts) = rw a (each-append f x (y .parts)) in
+pub parts-one : (part : Part) (y : Listing) (l l′ : ListedSoFar) (out out′ : List ℕ) → Lists (listingOf part) l out l′ out′
+    → AheadParts (addPart part y) l out y l′ out′
+parts-one part y l l′ out out′ p =
+    let f = partBytes in
+    let x = listedBefore part [] in
+    let a = listed-append part (y .parts) in
+    let e : each f (listedBefore part (y .parts)) ≡ each f x ++ each f (y .parts) = rw a (each-append f x (y .parts)) in
     record {
       output = rw (e, sets-append out (l .next) (each f x) (each f (y .parts)), ← p .next-after, ← p .output);
       next = omega (arith, ap length e, length-append (each f x) (each f (y .parts)), p .next-after);
@@ -144,76 +155,30 @@ parts-none flags b i x l l′ out out′ f =
 
 -- ---- the room of a part's bytes
 
-holes-bytes : (b : TileBounds) (rings : List (List Coord)) → length (each (ringBytes coordBytes) (Polygon.cutHoles b rings)) ≤ 2
-    * length rings + 16 * total ringRoom rings
-unfolding Polygon.cutHoles each total
-holes-bytes b [] = omega arith
-holes-bytes b (r ∷ rings) =
-    let f = ringBytes coordBytes in
-    let c = Polygon.cutHole b r in
-    let l = Polygon.cutHoles b rings in
-    omega (
-      arith,
-      ap (λ (x : List (List Coord)). length (each f x)) (unless-append c l),
-      ap length
-          (each-append f (Polygon.unlessNone c []) l),
-      length-append (each f (Polygon.unlessNone c [])) (each f l),
-      unless-bytes c,
-      hole-fits-room b r,
-      holes-bytes b rings,
-    )
+-- where it is not listed it has none
+pub listed-length : (part : Part) → length (each partBytes (listedBefore part [])) ≤ length (partBytes part)
+unfolding each
+listed-length part = go (isListed (part .outcome))
+  where
+    go : (t : Bool) → length (each partBytes (cond t (part ∷ []) [])) ≤ length (partBytes part)
+    go true = omega (arith, length-append (partBytes part) [])
+    go false = omega arith
 
-rings-bytes : (b : TileBounds) (rings : List (List Coord)) → length (each (ringBytes coordBytes) (Polygon.cutRings b rings)) ≤ 2
-    * length rings + 16 * total ringRoom rings
-unfolding Polygon.cutRings each total
-rings-bytes b [] = omega arith
-rings-bytes b (r ∷ rings) =
-    let f = ringBytes coordBytes in
-    omega (
-      arith,
-      length-append (f (Polygon.cutExterior b r)) (each f (Polygon.cutHoles b rings)),
-      length-ring
-          (Polygon.cutExterior b r),
-      cut-fits-room b r,
-      holes-bytes b rings,
-    )
-
-module _ (i : ℕ) (b : TileBounds) (rings : List (List Coord)) (some : 0 < length rings) where
-  pub routed-fits : (to : Route) → length (each (partBytes coordBytes) (listedBefore i (Polygon.routed to b rings) [])) ≤ partRoom 16 rings
-  unfolding each partRoom Polygon.overlayOrDropped
-  routed-fits Routes.Nothing = omega arith
-  routed-fits Routes.Unchanged =
-      omega (arith, length-append (partBytes coordBytes (record { index = i; outcome = Polygon.unchanged })) [], unchanged-length i)
-  routed-fits (Routes.Cut n) =
-      omega (
-        arith,
-        length-append (partBytes coordBytes (record { index = i; outcome = Polygon.cut (Polygon.cutRings b rings) })) [],
-        part-bytes i (Polygon.cutRings b rings),
-        rings-bytes b rings,
-      )
-  routed-fits (Routes.Overlay reason) = go (anyHugeRing rings)
-    where
-      go : (t : Bool) → length (each (partBytes coordBytes) (listedBefore i (cond t Polygon.dropped (Polygon.overlay reason)) [])) ≤ 6
-          + 2 * length rings + 16 * total ringRoom rings
-      go true = omega arith
-      go false =
-          omega (
-            arith,
-            length-append (partBytes coordBytes (record { index = i; outcome = Polygon.overlay reason })) [],
-            overlay-length i reason,
-          )
-
-  pub listed-fits : (flags : Flags) (rect : Rect) → length
-      (each (partBytes coordBytes) (listedBefore i (routePartAs flags rect b rings) [])) ≤ partRoom 16 rings
-  unfolding routePartAs
-  listed-fits flags rect = go (intersectsBounds rect b) (isFullyInside rect b)
-    where
-      go : (s t : Bool) → length (each (partBytes coordBytes)
-          (listedBefore i (cond s (cond t Polygon.unchanged (Polygon.routeMeasured flags rect b rings)) Polygon.nothing) []))
-          ≤ partRoom 16 rings
-      go false t = routed-fits Routes.Nothing
-      go true true = routed-fits Routes.Unchanged
-      go true false = routed-fits (Polygon.routeExterior flags rect b (exterior rings))
+pub listed-fits : (i : ℕ) (b : TileBounds) (rings : List (List Coord)) → 0 < length rings → (flags : Flags) (rect : Rect)
+    → length (each partBytes (listedBefore (partAs i flags rect b rings) [])) ≤ partRoom coordinateBytes rings
+unfolding routePartAs
+listed-fits i b rings some flags rect = omega (
+  arith,
+  listed-length (partAs i flags rect b rings),
+  go (intersectsBounds rect b) (isFullyInside rect b),
+)
+  where
+    go : (s t : Bool) → length (partBytes
+        (partOf i b rings (cond s (cond t Polygon.unchanged (Polygon.routeMeasured flags rect b rings)) Polygon.nothing)))
+        ≤ partRoom coordinateBytes rings
+    go false t = bytes-fit i b rings some Routes.Nothing
+    go true true = bytes-fit i b rings some Routes.Unchanged
+    go true false = bytes-fit i b rings some (Polygon.routeExterior flags rect b (exterior rings))
 
 -- ---- the next of so many parts
 
@@ -250,32 +215,33 @@ next-part frame at k h pos a = let t = taken (readMany readPart k (drop at frame
           later = rw l;
         }
 
-module _ (flags : Flags) (bounds : TileBounds) (frame : List ℕ) (at k ring a b order out to : ℕ) (h : 0 < k)
-    (room : PartsRoom frame at k ring a b order out to) where
+module _ (flags : Flags) (bounds : TileBounds) (frame : List ℕ) (at k : ℕ) (lent : Lengths) (order out to : ℕ) (h : 0 < k)
+    (room : PartsRoom frame at k lent order out to) where
   pub part-next : NextPart frame at k
   part-next = next-part frame at k (room .within) h (room .accepted)
 
-  output-here : to + total (partRoom 16) (partAt frame at ∷ partsFrom frame (nextPlace frame at) (k - 1)) ≤ out
+  output-here : to + total (partRoom coordinateBytes) (partAt frame at ∷ partsFrom frame (nextPlace frame at) (k - 1)) ≤ out
   output-here = rw (part-next .here) at (room .output)
 
-  workable-here : Workable ring a b order (partAt frame at) × Every (Workable ring a b order) (partsFrom frame (nextPlace frame at) (k - 1))
-  workable-here = subst (Every (Workable ring a b order)) (part-next .here) (room .workable)
+  workable-here : Workable lent order (partAt frame at) × Every (Workable lent order) (partsFrom frame (nextPlace frame at) (k - 1))
+  workable-here = subst (Every (Workable lent order)) (part-next .here) (room .workable)
 
-  pub part-room : PartRoom frame at ring a b order out to
+  pub part-room : PartRoom frame at lent out to
   unfolding total
   part-room =
       record {
         within = room .within;
         accepted = part-next .accepted;
         working = workable-here .0 .working;
-        positions =
-            workable-here .0 .positions;
         output = omega (arith, output-here);
       }
 
+  pub positions-room : PositionsRoom (partAt frame at) order
+  positions-room = workable-here .0 .positions
+
   pub parts-room : (i : ℕ) (rect : Rect) (to′ : ℕ)
-      → to′ ≡ to + length (each (partBytes coordBytes) (listedBefore i (routePartAs flags rect bounds (partAt frame at)) []))
-      → PartsRoom frame (nextPlace frame at) (k - 1) ring a b order out to′
+      → to′ ≡ to + length (each partBytes (listedBefore (partAs i flags rect bounds (partAt frame at)) []))
+      → PartsRoom frame (nextPlace frame at) (k - 1) lent order out to′
   unfolding total
   parts-room i rect to′ e =
       record {
@@ -291,33 +257,40 @@ module _ (flags : Flags) (bounds : TileBounds) (frame : List ℕ) (at k ring a b
       }
 
   -- what the part and those behind it list
-  pub listing-here : (i : ℕ) → listParts flags bounds i (partsFrom frame at k) ≡ addPart i
-      (routePartAs flags (rectangle (partAt frame at)) bounds (partAt frame at))
+  pub listing-here : (i : ℕ) → listParts flags bounds i (partsFrom frame at k) ≡ addPart
+      (partAs i flags (rectangle (partAt frame at)) bounds (partAt frame at))
       (listParts flags bounds (suc i) (partsFrom frame (nextPlace frame at) (k - 1)))
   unfolding listParts
   listing-here i = rw (part-next .here, routed-as flags bounds (partAt frame at))
 
 -- the slices have kept their lengths
-pub same-parts-room : (frame : List ℕ) (at k to ring a b order out ring′ a′ b′ order′ out′ : ℕ) → ring′ ≡ ring → a′ ≡ a → b′ ≡ b
-    → order′ ≡ order → out′ ≡ out → PartsRoom frame at k ring a b order out to → PartsRoom frame at k ring′ a′ b′ order′ out′ to
-same-parts-room frame at k to ring a b order out ring′ a′ b′ order′ out′ er ea eb eo eu r = rw (er, ea, eb, eo, eu) r
+pub same-parts-room : {frame : List ℕ} {at k to order out order′ out′ : ℕ} {lent lent′ : Lengths} → lent′ ≡ lent → order′ ≡ order
+    → out′ ≡ out → PartsRoom frame at k lent order out to → PartsRoom frame at k lent′ order′ out′ to
+same-parts-room el eo eu r = rw (el, eo, eu) r
 
 pub parts-end : (frame : List ℕ) (at k : ℕ) → k ≤ 0 → partsFrom frame at k ≡ []
 unfolding readMany
 parts-end frame at zero h = refl
 parts-end frame at (suc k) h = absurd (omega arith)
 
-few-one : (i : ℕ) (to : Polygon.Routed) → (length (listedBefore i to []) ≤ 1) × (told (answerOf to) .guards ≤ 1)
-few-one i Polygon.nothing = (omega arith, omega arith)
-few-one i Polygon.dropped = (omega arith, omega arith)
-few-one i Polygon.unchanged = (omega arith, omega arith)
-few-one i (Polygon.cut rings) = (omega arith, omega arith)
-few-one i (Polygon.overlay reason) = (omega arith, omega arith)
+pub few-one : (part : Part) → (length (listedBefore part []) ≤ 1) × (told (answerOf (part .outcome)) .guards ≤ 1)
+few-one part = (listed (isListed (part .outcome)), guards (part .outcome))
+  where
+    listed : (t : Bool) → length (cond t (part ∷ []) []) ≤ 1
+    listed true = omega arith
+    listed false = omega arith
 
-pub few-next : (i : ℕ) (to : Polygon.Routed) (l r : ListedSoFar) (out out′ : List ℕ) → Few i l → suc i ≤ mostParts
-    → Lists (listingOf i to) l out r out′ → Few (suc i) r
-few-next i to l r out out′ f h p =
-    let o = few-one i to in record {
+    guards : (to : Polygon.Routed) → told (answerOf to) .guards ≤ 1
+    guards Polygon.nothing = omega arith
+    guards Polygon.dropped = omega arith
+    guards Polygon.unchanged = omega arith
+    guards (Polygon.cut rings) = omega arith
+    guards (Polygon.overlay reason) = omega arith
+
+pub few-next : (i : ℕ) (part : Part) (l r : ListedSoFar) (out out′ : List ℕ) → Few i l → suc i ≤ mostParts
+    → Lists (listingOf part) l out r out′ → Few (suc i) r
+few-next i part l r out out′ f h p =
+    let o = few-one part in record {
       guards = omega (arith, f .guards, p .guard-after);
       listed =
           omega (arith, f .listed, p .parts-after);
@@ -342,7 +315,7 @@ finished guard (part ∷ parts) l out out₁ out₂ r p hr ho =
     let g : l .guard ≡ guard = omega (arith, p .guard-after) in
     let k : l .parts ≡ length (part ∷ parts) = omega (arith, p .parts-after) in
     let h = headerBytes 3 guard (length (part ∷ parts)) in
-    let body = each (partBytes coordBytes) (part ∷ parts) in
+    let body = each partBytes (part ∷ parts) in
     record {
       count = hr ∙ rw n (omega (arith, p .next-after, length-append h body, length-header 3 guard (length (part ∷ parts))));
       output = ho ∙ rw (n, g, k, p .output) (header-before out h body (length-header 3 guard (length (part ∷ parts))));
@@ -351,26 +324,29 @@ finished guard (part ∷ parts) l out out₁ out₂ r p hr ho =
 -- ---- a polygon's answer
 
 module _ (out out₁ out₂ : List ℕ) (r : ℕ) where
-  pub alone : (number guard : ℕ) (answer : Answer) → answerBytes coordBytes answer ≡ headerBytes number guard 0 → out₁ ≡ out → r ≡ 5
+  pub alone : (number guard : ℕ) (answer : Answer) → answerBytes answer ≡ headerBytes number guard 0 → out₁ ≡ out → r ≡ 5
       → out₂ ≡ sets out₁ 0 (headerBytes number guard 0) → Answers answer out r out₂
   alone number guard answer e h hr ho = record { count = hr ∙ rw e (sym (length-header number guard 0)); output = ho ∙ rw (h, e) }
 
-  listed-alone : (part : Part) → out₁ ≡ sets out 5 (partBytes coordBytes part) → r ≡ 5 + length (partBytes coordBytes part)
+  listed-alone : (part : Part) → out₁ ≡ sets out 5 (partBytes part) → r ≡ 5 + length (partBytes part)
       → out₂ ≡ sets out₁ 0 (headerBytes 3 0 1) → Answers (Listed 0 (part ∷ [])) out r out₂
   unfolding answerBytes each
   listed-alone part h hr ho =
-      let body = partBytes coordBytes part in
+      let body = partBytes part in
       let n = append-nil body in
       record {
         count = hr ∙ omega (arith, length-append (headerBytes 3 0 1) (body ++ []), length-header 3 0 1, ap length n);
         output = ho ∙ rw (h, n) (header-before out (headerBytes 3 0 1) body (length-header 3 0 1));
       }
 
-  pub polygon-answers : (to : Polygon.Routed) → out₁ ≡ sets out 5 (writtenPart 0 to) → r ≡ polygonLength (partAnswer 5 0 to)
-      → out₂ ≡ sets out₁ 0 (polygonHeader (partAnswer 5 0 to)) → Answers (ofPolygon to) out r out₂
-  unfolding answerBytes
-  polygon-answers Polygon.nothing h hr ho = alone 0 0 (Nothing 0) refl h hr ho
-  polygon-answers Polygon.dropped h hr ho = alone 1 1 Dropped refl h hr ho
-  polygon-answers Polygon.unchanged h hr ho = alone 2 0 Unchanged refl h hr ho
-  polygon-answers (Polygon.cut rings) h hr ho = listed-alone (record { index = 0; outcome = Polygon.cut rings }) h hr ho
-  polygon-answers (Polygon.overlay reason) h hr ho = listed-alone (record { index = 0; outcome = Polygon.overlay reason }) h hr ho
+  module _ (origins : List (List ℕ)) where
+    pub polygon-answers : (to : Polygon.Routed) → out₁ ≡ sets out 5 (writtenPart (partWith 0 origins to))
+        → r ≡ polygonLength (partAnswer 5 (partWith 0 origins to)) → out₂ ≡ sets out₁ 0 (polygonHeader (partAnswer 5 (partWith 0 origins
+        to)))
+        → Answers (ofPolygon (partWith 0 origins to)) out r out₂
+    unfolding answerBytes
+    polygon-answers Polygon.nothing h hr ho = alone 0 0 (Nothing 0) refl h hr ho
+    polygon-answers Polygon.dropped h hr ho = alone 1 1 Dropped refl h hr ho
+    polygon-answers Polygon.unchanged h hr ho = alone 2 0 Unchanged refl h hr ho
+    polygon-answers (Polygon.cut rings) h hr ho = listed-alone (partWith 0 origins (Polygon.cut rings)) h hr ho
+    polygon-answers (Polygon.overlay reason) h hr ho = listed-alone (partWith 0 origins (Polygon.overlay reason)) h hr ho

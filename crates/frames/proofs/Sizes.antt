@@ -22,8 +22,31 @@ use Rattle.frame_bytes.specs.Contracts.{Accepted, ringsFrom, partAt}
 use Rattle.frame_bytes.specs.Frame.{mostInRing, countOf, coordsOf, readRing, readMany, readPart}
 use Rattle.frame_bytes.proofs.Coordinates.{close-grows}
 use Rattle.frame_bytes.proofs.PartRings.{next-ring, part-rings}
+use Rattle.frame_parts.specs.Contracts.{Lengths}
 use Rattle.frames.specs.Contracts.{Workable, partsFrom}
 use Rattle.frames.proofs.Listings.{nextPlace, next-part}
+
+-- working slices of these lengths, and that many positions, are enough for a ring of m coordinates
+pub record Enough (m : ℕ) (lent : Lengths) (order : ℕ) : Type 0 where
+  pub small : m ≤ mostInRing + 1
+  pub ring : 2 * m ≤ lent .ring
+  pub a : 2 * B m ≤ lent .a
+  pub a-origins : B m ≤ lent .a-origins
+  pub b : 2 * B m ≤ lent .b
+  pub b-origins : B m ≤ lent .b-origins
+  pub positions : B m ≤ order
+
+pub enough : (m n : ℕ) → m ≤ mostInRing + 1 → B m ≡ n
+    → Enough m (record { ring = 2 * m; a = 2 * n; a-origins = n; b = 2 * n; b-origins = n }) n
+enough m n h e = record {
+  small = h;
+  ring = omega arith;
+  a = omega (arith, e);
+  a-origins = omega (arith, e);
+  b = omega (arith, e);
+  b-origins = omega (arith, e);
+  positions = omega (arith, e);
+}
 
 -- m coordinates, closed, are the most that a ring can have behind the head and two counts
 module _ (frame : List ℕ) (m : ℕ) (small : length frame ≤ 47 + 16 * m) where
@@ -50,27 +73,26 @@ module _ (frame : List ℕ) (m : ℕ) (small : length frame ≤ 47 + 16 * m) whe
         closes = rw (ring-closed r c (ringsFrom frame to k) q′, later .closes);
       })
 
-  -- working slices of these lengths have room for a ring of m coordinates
-  module _ (ring a b order : ℕ) (hm : m ≤ mostInRing + 1) (hring : 2 * m ≤ ring) (ha : 2 * B m ≤ a) (hb : 2 * B m ≤ b)
-      (horder : B m ≤ order) where
-    workable : (rings : List (List Coord)) → Rings rings → Workable ring a b order rings
+  module _ (lent : Lengths) (order : ℕ) (enough : Enough m lent order) where
+    workable : (rings : List (List Coord)) → Rings rings → Workable lent order rings
     workable rings r =
         let l = B-mono (largest length rings) m (r .short) in
         record {
           working =
               record {
-                small = omega (arith, r .short);
+                small = omega (arith, r .short, enough .small);
                 closes = r .closes;
-                lent = omega (arith, r .short);
-                first =
-                    omega (arith, l);
-                second = omega (arith, l);
+                ring-room = omega (arith, r .short, enough .ring);
+                a-room = omega (arith, l, enough .a);
+                a-origin-room = omega (arith, l, enough .a-origins);
+                b-room = omega (arith, l, enough .b);
+                b-origin-room = omega (arith, l, enough .b-origins);
               };
-          positions = omega (arith, l);
+          positions = omega (arith, l, enough .positions);
         }
 
     pub parts-fit : (k at : ℕ) (r : Rect) → 44 ≤ at → at ≤ length frame → Accepted (readMany readPart k (drop at frame))
-        → (withParts r (partsFrom frame at k) ≡ Rects.NotFinite → ⊥) → Every (Workable ring a b order) (partsFrom frame at k)
+        → (withParts r (partsFrom frame at k) ≡ Rects.NotFinite → ⊥) → Every (Workable lent order) (partsFrom frame at k)
     unfolding readMany withParts
     parts-fit zero at r h w x q = tt
     parts-fit (suc k) at r h w x q =
@@ -87,4 +109,4 @@ module _ (frame : List ℕ) (m : ℕ) (small : length frame ≤ 47 + 16 * m) whe
         → ⊥ = λ z. q′ (rw (rs .same, z) (stays-parts (partsFrom frame to k))) in
         let first = subst Rings (sym (rs .same)) (rings-fit (countOf (drop at frame)) (at + 2) r (omega arith) (rs .whole)
         (rs .accepted) finite) in
-        subst (Every (Workable ring a b order)) (sym here) (workable (partAt frame at) first, later)
+        subst (Every (Workable lent order)) (sym here) (workable (partAt frame at) first, later)

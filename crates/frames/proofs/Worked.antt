@@ -1,8 +1,8 @@
 -- Document 01's worked cases marked P ("Worked on bounds 0, 0, 10, 10, buffer 0"), which "speak of the reasons merged back", and cases of
--- document 02, Point 1, with their positions: two tables and one claim, computed from the definitions, from a frame's bytes to the
--- bytes that answer it. Assumes nothing.
+-- document 02, Point 1, with their positions, and Point 12, with their origins: three tables and one claim, computed from the definitions,
+-- from a frame's bytes to the bytes that answer it. Assumes nothing.
 use mathlib.Core.Path.{_≡_, refl}
-use mathlib.Core.Bool.{cond}
+use mathlib.Core.Bool.{Bool, true, false, cond, _&&_}
 use mathlib.Core.List.{List, [], _∷_, _++_}
 use Prim.Native.Nat.{ℕ, _*_, _^_}
 use lib.Dec.{eqb}
@@ -21,17 +21,21 @@ use Rattle.box_pairs.specs.Pairs.{firstInRow, firstFrom, edgesCross, firstPair}
 use Rattle.box_pairs.specs.Issue.{repeatedFrom, issueOf, hasIssue}
 use Rattle.sutherland_hodgman.specs.CuttingLines.{inside, crossing}
 use Rattle.sutherland_hodgman.specs.Clip.{steps, leaveOff, around, pass, passes, finish, clipRing}
+use Rattle.sutherland_hodgman.specs.Origins.{positionsFrom, stepsOrigins, aroundOrigins, passOrigins, passesOrigins, closeOrigins}
+use Rattle.sutherland_hodgman.specs.Origins.{finishOrigins, clipOrigins}
 use Rattle.rings.specs.Bridge.{runsAlong, bridgeOf, firstBridge}
 use Rattle.rings.specs.Rectangle.{withCoord, withRing, withRings, reaches, intersectsBounds, liesBetween, isFullyInside, withParts}
 use Rattle.rings.specs.Representable.{hugeCoord, anyHuge, anyHugeRing}
 use Rattle.clip.specs.Polygon.{bridgeUnlessSkipped, routeCut, routeExterior, cutHole, cutHoles, cutRings, overlayOrDropped, routeRect}
 use Rattle.clip.specs.Polygon.{route, mergedNumber}
+use Rattle.clip.specs.Origins.{holeOrigins, holesOrigins, cutOrigins}
 use Rattle.frame_bytes.specs.declared.reader.FrameRefusal.{FrameRefusal}
 use Rattle.frame_bytes.specs.Frame.{polygonKind, multipolygonKind, Reading, refused, read, Frame, readMany, countOf, coordsOf, readCount}
 use Rattle.frame_bytes.specs.Frame.{readCoords, readRing, readPart, readParts, readFrame}
-use Rattle.frame_bytes.specs.Encoding.{each, countBytes, coordBytes, ringBytes}
+use Rattle.frame_bytes.specs.Encoding.{each, countBytes, coordBytes, vertexBytes, withOrigins, ringsWithOrigins, ringBytes}
+use Rattle.frame_parts.specs.Part.{partBytes}
 use Rattle.frames.specs.Answer.{routePart, listParts, ofMultipolygon, answerTo}
-use Rattle.frames.specs.Output.{partBytes, answerBytes, frameBytes}
+use Rattle.frames.specs.Output.{answerBytes, frameBytes}
 
 -- ---- coordinates
 
@@ -48,6 +52,22 @@ nanY x = record { x = num x; y = nan }
 westOf : ℕ → ℕ → Coord
 unfolding num ofInt
 westOf x y = record { x = ofInt binary64 (negℤ (pos x)); y = num y }
+
+-- south-west of 0, 0
+southWestOf : ℕ → Coord
+unfolding num ofInt
+southWestOf d = record { x = ofInt binary64 (negℤ (pos d)); y = ofInt binary64 (negℤ (pos d)) }
+
+-- ---- origins: "the position, or 65,532 to 65,535 for the four lines"
+
+abbrev left : ℕ
+left = 65532
+
+abbrev right : ℕ
+right = 65533
+
+abbrev bottom : ℕ
+bottom = 65534
 
 -- ---- rows
 
@@ -84,9 +104,9 @@ overlay reason = answer (3 ∷ 0 ∷ 0 ∷ 1 ∷ 0 ∷ 0 ∷ 0 ∷ 5 ∷ reason 
 abbrev overlayAt : ℕ → ℕ → ℕ → Outcome
 overlayAt reason first second = answer (3 ∷ 0 ∷ 0 ∷ 1 ∷ 0 ∷ 0 ∷ 0 ∷ 5 ∷ reason ∷ first ∷ 0 ∷ second ∷ 0 ∷ [])
 
--- "if cut, ring count and rings as above"
-abbrev cutTo : List Coord → Outcome
-cutTo r = answer (3 ∷ 0 ∷ 0 ∷ 1 ∷ 0 ∷ 0 ∷ 0 ∷ 4 ∷ 0 ∷ 1 ∷ 0 ∷ ringBytes coordBytes r)
+-- "if cut, ring count and rings as above"; "Coordinates in answers are followed by 2 bytes"
+abbrev cutTo : List Coord → List ℕ → Outcome
+cutTo r origins = answer (3 ∷ 0 ∷ 0 ∷ 1 ∷ 0 ∷ 0 ∷ 0 ∷ 4 ∷ 0 ∷ 1 ∷ 0 ∷ ringBytes vertexBytes (withOrigins r origins))
 
 -- a polygon with one number of flags
 abbrev row : ℕ → List Coord → Outcome → Row
@@ -113,7 +133,7 @@ table =
     -- "(2,2)(8,2)(8,8)(2,8)(2,2): unchanged."
     always (at 2 2 ∷ at 8 2 ∷ at 8 8 ∷ at 2 8 ∷ at 2 2 ∷ []) unchanged
     -- "(5,5)(15,5)(15,8)(5,8)(5,5): cut (5,5)(10,5)(10,8)(5,8)(5,5) with flags 3; overlay, reason 4, with 0, 1, 2."
-    ∷ (row 3 acrossEast (cutTo (at 5 5 ∷ at 10 5 ∷ at 10 8 ∷ at 5 8 ∷ at 5 5 ∷ [])) ∷ [])
+    ∷ (row 3 acrossEast (cutTo (at 5 5 ∷ at 10 5 ∷ at 10 8 ∷ at 5 8 ∷ at 5 5 ∷ []) (0 ∷ right ∷ right ∷ 3 ∷ 0 ∷ [])) ∷ [])
     ∷ unlessBoth acrossEast (overlay 4)
     -- "Bow tie (2,2)(8,8)(8,2)(2,8)(2,2): flags 0 overlay, reason 1; flags 1 unchanged; as a multipolygon's only part, flags 0, unchanged."
     ∷ (row 0 bowTie (overlay 1) ∷ row 1 bowTie unchanged ∷ record { given = frame multipolygonKind 0 bowTie; becomes = unchanged } ∷ [])
@@ -165,6 +185,17 @@ located =
     ∷ unlessBoth acrossEast (overlayAt 4 0 0)
     ∷ []
 
+-- ---- a case of document 02, Point 12
+
+-- From (8,8) far to the north-east and further to the south-west: the first coordinate of the cut holds a NaN, so that it "ends with it
+-- appended twice", and "any closing vertex appended after the passes has its first's" origin.
+abbrev traced : List (List Row)
+traced =
+    (row 3 (at 8 8 ∷ at (10 ^ 308) (10 ^ 308) ∷ southWestOf (17 * 10 ^ 307) ∷ at 8 8 ∷ []) (cutTo
+    (nanX 0 ∷ at 0 0 ∷ at 8 8 ∷ at 10 10 ∷ nanX 0 ∷ nanX 0 ∷ nanX 0 ∷ [])
+    (bottom ∷ left ∷ 0 ∷ right ∷ bottom ∷ bottom ∷ bottom ∷ [])) ∷ [])
+    ∷ []
+
 -- ---- the claim
 
 -- "Kind, 1 byte ..; flags, 1 byte ..; west, south, east, north, buffer, 8 bytes each; part count, 2 bytes": one part, of one ring
@@ -203,13 +234,32 @@ abbrev becoming : List Row → List Outcome
 becoming [] = []
 becoming (c ∷ cs) = c .becomes ∷ becoming cs
 
+-- Whether answers are the same, byte by byte: numbers that come from coordinates near the largest double are compared quicker than terms.
+abbrev sameBytes : List ℕ → List ℕ → Bool
+sameBytes [] [] = true
+sameBytes [] (b ∷ m) = false
+sameBytes (a ∷ l) [] = false
+sameBytes (a ∷ l) (b ∷ m) = eqb a b && sameBytes l m
+
+abbrev sameAnswer : Outcome → Outcome → Bool
+sameAnswer (answer l) (answer m) = sameBytes l m
+sameAnswer (answer l) (refusal r) = false
+sameAnswer (answer l) (cutRing c) = false
+sameAnswer (refusal r) to = false
+sameAnswer (cutRing c) to = false
+
+abbrev allSame : List Row → Bool
+allSame [] = true
+allSame (c ∷ cs) = sameAnswer (outcomeOf asWritten (c .given)) (c .becomes) && allSame cs
+
 each-becomes : (outcomes merged (rows table) ≡ becoming (rows table)) × (outcomes asWritten (rows located) ≡ becoming (rows located))
+    × (allSame (rows traced) ≡ true)
 unfolding readFrame readParts readPart readRing readCoords readCount readMany coordsOf countOf fromLow toLow answerTo ofMultipolygon
     withParts listParts routePart answerBytes partBytes ringBytes each route routeRect routeExterior routeCut overlayOrDropped cutRings
     cutHoles cutHole bridgeUnlessSkipped firstBridge bridgeOf runsAlong withRings withRing withCoord intersectsBounds reaches
     isFullyInside liesBetween anyHugeRing anyHuge hugeCoord issueOf hasIssue repeatedFrom firstPair firstFrom firstInRow edgesCross cross
     apart apartOn degenerate intersectProperly splits aboveBelow crossProductSign clipRing finish passes pass around leaveOff steps inside
-    crossing interpolate same last closed close at nanX nanY westOf num minimum maximum magnitude tolerance near overlayLimit huge
-    ofInt ofBits toBits
-    round isNan lt le eq add sub mul div
-each-becomes = (refl, refl)
+    crossing interpolate cutOrigins holesOrigins holeOrigins clipOrigins closeOrigins finishOrigins passesOrigins passOrigins aroundOrigins
+    stepsOrigins positionsFrom withOrigins ringsWithOrigins same last closed close at nanX nanY westOf southWestOf num minimum maximum
+    magnitude tolerance near overlayLimit huge ofInt ofBits toBits round isNan lt le eq add sub mul div
+each-becomes = (refl, refl, refl)

@@ -1,6 +1,6 @@
 -- What a frame call answers, as a value (document 01, "Multipolygons"; for a polygon, "Nothing, or dropped" to "Overlay wanted").
 -- Definitions only.
-use mathlib.Core.Bool.{cond}
+use mathlib.Core.Bool.{Bool, true, false, cond}
 use mathlib.Core.List.{List, [], _∷_}
 use Prim.Native.Nat.{ℕ, suc, _+_}
 use lib.Dec.{eqb}
@@ -16,11 +16,7 @@ use Rattle.clip.specs.Polygon as Polygon
 use Rattle.clip.specs.Polygon.{answerOf, told}
 use Rattle.frame_bytes.specs.declared.head.Head.{Head}
 use Rattle.frame_bytes.specs.Frame.{polygonKind, Frame}
-
--- a listed part: its number in the frame, "index from 0", and what becomes of it
-pub record Part : Type 0 where
-  pub index : ℕ
-  pub outcome : Polygon.Routed
+use Rattle.frame_parts.specs.Part.{Part, partOf}
 
 -- "(0 nothing, 1 whole dropped, 2 whole unchanged, 3 listed), guard count", listed parts: a number here is the guard count, which is 1
 -- where the whole is dropped and 0 where it is unchanged
@@ -32,12 +28,16 @@ pub data Answer : Type 0 where
 
 -- ---- a polygon: "A polygon's cut or overlay is listed as part 0."
 
-abbrev pub ofPolygon : Polygon.Routed → Answer
-ofPolygon Polygon.nothing = Nothing 0
-ofPolygon Polygon.dropped = Dropped
-ofPolygon Polygon.unchanged = Unchanged
-ofPolygon (Polygon.cut rings) = Listed 0 (record { index = 0; outcome = Polygon.cut rings } ∷ [])
-ofPolygon (Polygon.overlay reason) = Listed 0 (record { index = 0; outcome = Polygon.overlay reason } ∷ [])
+-- by what becomes of it, `listed` being the answer that lists it
+abbrev pub ofOutcome : Polygon.Routed → Answer → Answer
+ofOutcome Polygon.nothing listed = Nothing 0
+ofOutcome Polygon.dropped listed = Dropped
+ofOutcome Polygon.unchanged listed = Unchanged
+ofOutcome (Polygon.cut rings) listed = listed
+ofOutcome (Polygon.overlay reason) listed = listed
+
+abbrev pub ofPolygon : Part → Answer
+ofPolygon part = ofOutcome (part .outcome) (Listed 0 (part ∷ []))
 
 -- ---- a multipolygon
 
@@ -55,21 +55,24 @@ pub record Listing : Type 0 where
   pub parts : List Part
 
 -- what is left out or dropped is not listed
-abbrev pub listedBefore : ℕ → Polygon.Routed → List Part → List Part
-listedBefore i Polygon.nothing parts = parts
-listedBefore i Polygon.dropped parts = parts
-listedBefore i Polygon.unchanged parts = record { index = i; outcome = Polygon.unchanged } ∷ parts
-listedBefore i (Polygon.cut rings) parts = record { index = i; outcome = Polygon.cut rings } ∷ parts
-listedBefore i (Polygon.overlay reason) parts = record { index = i; outcome = Polygon.overlay reason } ∷ parts
+abbrev pub isListed : Polygon.Routed → Bool
+isListed Polygon.nothing = false
+isListed Polygon.dropped = false
+isListed Polygon.unchanged = true
+isListed (Polygon.cut rings) = true
+isListed (Polygon.overlay reason) = true
+
+abbrev pub listedBefore : Part → List Part → List Part
+listedBefore part parts = cond (isListed (part .outcome)) (part ∷ parts) parts
 
 -- "Guard counts add up."
-abbrev pub addPart : ℕ → Polygon.Routed → Listing → Listing
-addPart i outcome l = record { guard = told (answerOf outcome) .guards + l .guard; parts = listedBefore i outcome (l .parts) }
+abbrev pub addPart : Part → Listing → Listing
+addPart part l = record { guard = told (answerOf (part .outcome)) .guards + l .guard; parts = listedBefore part (l .parts) }
 
 -- the parts from the i-th on
 unfoldable pub listParts : Flags → TileBounds → ℕ → List (List (List Coord)) → Listing
 listParts flags b i [] = record { guard = 0; parts = [] }
-listParts flags b i (part ∷ parts) = addPart i (routePart flags b part) (listParts flags b (suc i) parts)
+listParts flags b i (part ∷ parts) = addPart (partOf i b part (routePart flags b part)) (listParts flags b (suc i) parts)
 
 -- "No part listed: nothing, with that count."
 abbrev pub ofParts : ℕ → List Part → Answer
@@ -98,11 +101,16 @@ flagsIn head = record { «assume_simple» = head .«assume_simple»; «skip_boun
 abbrev pub boundsIn : Head → TileBounds
 boundsIn head = buffered (head .bounds) (head .buffer)
 
--- a polygon's only part
+-- a polygon's only part, and what becomes of it
 abbrev pub onlyPart : List (List (List Coord)) → List (List Coord)
 onlyPart parts = getD parts 0 []
 
+abbrev pub routePolygon : Flags → TileBounds → List (List Coord) → Part
+routePolygon flags b rings = partOf 0 b rings (Polygon.route flags b rings)
+
 unfoldable pub answerTo : Frame → Answer
 answerTo f =
-    cond (eqb (f .head .kind) polygonKind) (ofPolygon (Polygon.route (flagsIn (f .head)) (boundsIn (f .head)) (onlyPart (f .parts))))
-    (ofMultipolygon (flagsIn (f .head)) (boundsIn (f .head)) (f .parts))
+    let flags = flagsIn (f .head) in
+    let bounds = boundsIn (f .head) in
+    cond (eqb (f .head .kind) polygonKind) (ofPolygon (routePolygon flags bounds (onlyPart (f .parts))))
+    (ofMultipolygon flags bounds (f .parts))

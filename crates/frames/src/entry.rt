@@ -41,7 +41,7 @@ pub enum FrameAnswer {
 }
 
 // In arrays for rings of up to m coordinates, closed: 2 m numbers for the ring, 2 B(m) each for the cutter's scratch slice and its output,
-// B(m) positions. Here m is 6.
+// B(m) each for their origins, B(m) positions. Here m is 6.
 fn answer_small(frame: &[u8], head: Head, rect: Rect, bounds: TileBounds, out: &mut [u8]) -> usize
     requires { ⌜ Contracts.Cuttable (now frame) head (length (now out)) × (length (now frame) ≤ Contracts.longestFor 6) ⌝ }
     ensures { λ r. ⌜ Contracts.Answers (Contracts.answerMeasured head rect bounds
@@ -49,7 +49,9 @@ fn answer_small(frame: &[u8], head: Head, rect: Rect, bounds: TileBounds, out: &
 {
     let mut ring = [0.0; 12];
     let mut a = [0.0; 60];
+    let mut a_origins = [0u16; 30];
     let mut b = [0.0; 60];
+    let mut b_origins = [0u16; 30];
     let mut order = [0u32; 30];
     answer_in(
         frame,
@@ -58,7 +60,9 @@ fn answer_small(frame: &[u8], head: Head, rect: Rect, bounds: TileBounds, out: &
         bounds,
         &mut ring,
         &mut a,
+        &mut a_origins,
         &mut b,
+        &mut b_origins,
         &mut order,
         out,
     )
@@ -72,7 +76,9 @@ fn answer_medium(frame: &[u8], head: Head, rect: Rect, bounds: TileBounds, out: 
 {
     let mut ring = [0.0; 64];
     let mut a = [0.0; 328];
+    let mut a_origins = [0u16; 164];
     let mut b = [0.0; 328];
+    let mut b_origins = [0u16; 164];
     let mut order = [0u32; 164];
     answer_in(
         frame,
@@ -81,7 +87,9 @@ fn answer_medium(frame: &[u8], head: Head, rect: Rect, bounds: TileBounds, out: 
         bounds,
         &mut ring,
         &mut a,
+        &mut a_origins,
         &mut b,
+        &mut b_origins,
         &mut order,
         out,
     )
@@ -95,7 +103,9 @@ fn answer_large(frame: &[u8], head: Head, rect: Rect, bounds: TileBounds, out: &
 {
     let mut ring = [0.0; 162];
     let mut a = [0.0; 816];
+    let mut a_origins = [0u16; 408];
     let mut b = [0.0; 816];
+    let mut b_origins = [0u16; 408];
     let mut order = [0u32; 408];
     answer_in(
         frame,
@@ -104,7 +114,9 @@ fn answer_large(frame: &[u8], head: Head, rect: Rect, bounds: TileBounds, out: &
         bounds,
         &mut ring,
         &mut a,
+        &mut a_origins,
         &mut b,
+        &mut b_origins,
         &mut order,
         out,
     )
@@ -118,7 +130,9 @@ fn answer_full(frame: &[u8], head: Head, rect: Rect, bounds: TileBounds, out: &m
 {
     let mut ring = [0.0; 636];
     let mut a = [0.0; 3220];
+    let mut a_origins = [0u16; 1610];
     let mut b = [0.0; 3220];
+    let mut b_origins = [0u16; 1610];
     let mut order = [0u32; 1610];
     answer_in(
         frame,
@@ -127,7 +141,9 @@ fn answer_full(frame: &[u8], head: Head, rect: Rect, bounds: TileBounds, out: &m
         bounds,
         &mut ring,
         &mut a,
+        &mut a_origins,
         &mut b,
+        &mut b_origins,
         &mut order,
         out,
     )

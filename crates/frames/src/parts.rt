@@ -7,10 +7,9 @@ ghost use Rattle.frame_bytes.specs.Contracts as FrameBytesContracts;
 ghost use Rattle.frame_bytes.specs.Frame as Frames;
 ghost use Rattle.frame_bytes.specs.Room as OutputRoom;
 ghost use Rattle.frame_bytes.specs.Encoding as Encoding;
+ghost use Rattle.frame_parts.specs.Contracts as PartContracts;
 ghost use Rattle.frames.specs.Answer as Answers;
 ghost use Rattle.frames.specs.Contracts as Contracts;
-use super::part::PartAnswer;
-use super::part::route_part;
 use clip::polygon::DROPPED;
 use clip::polygon::Flags;
 use clip::polygon::NOTHING;
@@ -23,6 +22,8 @@ use frame_bytes::head::Head;
 use frame_bytes::measure::part_rect;
 use frame_bytes::reader::POLYGON;
 use frame_bytes::room::LEAST_ROOM;
+use frame_parts::PartAnswer;
+use frame_parts::route_part;
 use rings::rectangle::Rect;
 use rings::rectangle::intersects_bounds;
 use rings::rectangle::is_fully_inside;
@@ -78,15 +79,18 @@ fn add_part(
     bounds: TileBounds,
     ring: &mut [f64],
     a: &mut [f64],
+    a_origins: &mut [u16],
     b: &mut [f64],
+    b_origins: &mut [u16],
     order: &mut [u32],
     out: &mut [u8],
     before: ListedSoFar,
 ) -> ListedSoFar
-    requires { ⌜ Contracts.PartRoom (now frame) at (length (now ring)) (length (now a)) (length (now b)) (length (now order))
-        (length (now out)) (before .next) × Contracts.Few index before ⌝ }
-    ensures { λ r. ⌜ Contracts.Lists (Contracts.listingOf index
-        (Contracts.routePartAs flags rect bounds (FrameBytesContracts.partAt (now (frame .entry)) at))) before (now (out .entry)) r
+    requires { ⌜ PartContracts.PartRoom (now frame) at
+        (PartContracts.lengthsOf (now ring) (now a) (now «a_origins») (now b) (now «b_origins»)) (length (now out)) (before .next)
+        × PartContracts.PositionsRoom (FrameBytesContracts.partAt (now frame) at) (length (now order)) × Contracts.Few index before ⌝ }
+    ensures { λ r. ⌜ Contracts.Lists (Contracts.listingOf
+        (Contracts.partAs index flags rect bounds (FrameBytesContracts.partAt (now (frame .entry)) at))) before (now (out .entry)) r
         (now (out .exit)) ⌝ }
 {
     if !intersects_bounds(rect, bounds) {
@@ -105,7 +109,9 @@ fn add_part(
         bounds,
         ring,
         a,
+        a_origins,
         b,
+        b_origins,
         order,
         out,
         to,
@@ -121,12 +127,15 @@ fn list_parts(
     bounds: TileBounds,
     ring: &mut [f64],
     a: &mut [f64],
+    a_origins: &mut [u16],
     b: &mut [f64],
+    b_origins: &mut [u16],
     order: &mut [u32],
     out: &mut [u8],
 ) -> ListedSoFar
-    requires { ⌜ Contracts.PartsRoom (now frame) Frames.headBytes parts (length (now ring)) (length (now a)) (length (now b))
-        (length (now order)) (length (now out)) OutputRoom.leastRoom × (parts ≤ Frames.mostParts) ⌝ }
+    requires { ⌜ Contracts.PartsRoom (now frame) Frames.headBytes parts
+        (PartContracts.lengthsOf (now ring) (now a) (now «a_origins») (now b) (now «b_origins»)) (length (now order)) (length (now out))
+        OutputRoom.leastRoom × (parts ≤ Frames.mostParts) ⌝ }
     ensures { λ r. ⌜ Contracts.Lists (Answers.listParts flags bounds 0
         (Contracts.partsFrom (now (frame .entry)) Frames.headBytes parts))
         (record { guard = 0; parts = 0; next = OutputRoom.leastRoom }) (now (out .entry)) r (now (out .exit)) ⌝ }
@@ -150,7 +159,9 @@ fn list_parts(
             bounds,
             ring,
             a,
+            a_origins,
             b,
+            b_origins,
             order,
             out,
             listing,
@@ -210,12 +221,14 @@ pub fn answer_in(
     bounds: TileBounds,
     ring: &mut [f64],
     a: &mut [f64],
+    a_origins: &mut [u16],
     b: &mut [f64],
+    b_origins: &mut [u16],
     order: &mut [u32],
     out: &mut [u8],
 ) -> usize
-    requires { ⌜ Contracts.PartsReady (now frame) head (length (now ring)) (length (now a)) (length (now b)) (length (now order))
-        (length (now out)) ⌝ }
+    requires { ⌜ Contracts.PartsReady (now frame) head
+        (PartContracts.lengthsOf (now ring) (now a) (now «a_origins») (now b) (now «b_origins»)) (length (now order)) (length (now out)) ⌝ }
     ensures { λ r. ⌜ Contracts.Answers (Contracts.answerMeasured head rect bounds
         (Contracts.partsFrom (now (frame .entry)) Frames.headBytes (head .parts))) (now (out .entry)) r (now (out .exit)) ⌝ }
 {
@@ -233,13 +246,27 @@ pub fn answer_in(
             bounds,
             ring,
             a,
+            a_origins,
             b,
+            b_origins,
             order,
             out,
             LEAST_ROOM,
         );
         return finish_polygon(answer, out);
     }
-    let listing = list_parts(frame, head.parts, flags, bounds, ring, a, b, order, out);
+    let listing = list_parts(
+        frame,
+        head.parts,
+        flags,
+        bounds,
+        ring,
+        a,
+        a_origins,
+        b,
+        b_origins,
+        order,
+        out,
+    );
     finish(listing, out)
 }

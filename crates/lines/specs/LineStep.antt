@@ -56,11 +56,10 @@ lineLength (b ∷ rest) = cond (eqb b newline) 1 (suc (lineLength rest))
 
 -- ---- the lent slices
 
--- bytes for an answer: 22 asks for at most 50,077 of any frame (`frame-most` in `frame_bytes/proofs/MostRoom.antt`), and a refusal has
--- five.
--- Any number from there on would do
+-- bytes for an answer: 22 asks for at most 56,259 of any frame (`frame-most` in `frame_bytes/proofs/MostRoom.antt`), and a refusal has
+-- five. Any number from there on would do.
 abbrev pub answerRoom : ℕ
-answerRoom = 10 * longest
+answerRoom = 12 * longest
 
 -- bytes for an answer as a line
 abbrev pub lineRoom : ℕ

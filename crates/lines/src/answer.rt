@@ -20,7 +20,7 @@ use frames::parts::put_alone;
 const NOT_PAIRS: u8 = 10;
 
 // The room for an answer's bytes, and for the answer as a line.
-const ANSWER_ROOM: usize = 10 * LONGEST;
+const ANSWER_ROOM: usize = 12 * LONGEST;
 
 pub const LINE_ROOM: usize = 2 * ANSWER_ROOM + 1;
 

@@ -45,7 +45,7 @@ fn slices_fit(kept: &[u8], out: &[u8]) -> bool
 }
 
 // Takes a block up to and with its first newline, and answers the line that ends there; or takes it to its end. `kept` needs 5,120 bytes
-// and `out` LINE_ROOM, 102,401: where one is shorter nothing is taken, so a loop over a block must stop where nothing was taken of some.
+// and `out` LINE_ROOM, 122,881: where one is shorter nothing is taken, so a loop over a block must stop where nothing was taken of some.
 // Write out the bytes written before the next call, and lend it the line that was returned and `kept` as it was left; only bytes past the
 // line's own may change. Of the returned line the contract says what is printed for an input that goes on from it: among lines of which
 // that is the same, which is returned is free.

@@ -25,7 +25,7 @@ use streams::try_again;
 use streams::write_out;
 
 // Room for the longest line, and for some answers that wait to be written: a write for each would cost more than the answer.
-const OUTPUT: usize = 131072;
+const OUTPUT: usize = 151552;
 
 // What a block leaves: the line to go on with, the line that the input ended in, or that a read or a write failed.
 enum Turn {

@@ -38,19 +38,22 @@ pub extern "C" fn ringcut_ring(
     east: f64,
     north: f64,
     scratch: &mut [f64],
+    origin_scratch: &mut [u16],
     out: &mut [f64],
+    out_origins: &mut [u16],
 ) -> i64
     ensures answer { λ c. ⌜ c ≡ ringCallCode (ringCallAnswer (now (ring .entry)) (newOf west south east north)
-        (ringSlices (now (scratch .entry)) (now (out .entry)))) ⌝ }
-    ensures lent { λ _. ⌜ ringSlices (now (scratch .exit)) (now (out .exit))
+        (ringSlices (now (scratch .entry)) (now («origin_scratch» .entry)) (now (out .entry)) (now («out_origins» .entry)))) ⌝ }
+    ensures lent { λ _. ⌜ ringSlices (now (scratch .exit)) (now («origin_scratch» .exit)) (now (out .exit)) (now («out_origins» .exit))
         ≡ ringCallSlices (now (ring .entry)) (newOf west south east north)
-        (ringSlices (now (scratch .entry)) (now (out .entry))) ⌝ }
+        (ringSlices (now (scratch .entry)) (now («origin_scratch» .entry)) (now (out .entry)) (now («out_origins» .entry))) ⌝ }
     ensures promise { λ _. ⌜ RingCallPromise (now (ring .entry)) (newOf west south east north)
         (ringCallAnswer (now (ring .entry)) (newOf west south east north)
-        (ringSlices (now (scratch .entry)) (now (out .entry)))) (now (out .exit)) ⌝ }
+        (ringSlices (now (scratch .entry)) (now («origin_scratch» .entry)) (now (out .entry)) (now («out_origins» .entry))))
+        (now (out .exit)) ⌝ }
 {
     let bounds = TileBounds::new(west, south, east, north);
-    match sutherland_hodgman::call::ring(ring, bounds, scratch, out) {
+    match sutherland_hodgman::call::ring(ring, bounds, scratch, origin_scratch, out, out_origins) {
         RingAnswer::Refused(r) => refusal_code(r),
         RingAnswer::Clipped(n) => n as i64,
     }
@@ -77,20 +80,26 @@ pub extern "C" fn ringcut_polygon(
     coords: &[f64],
     lengths: &[u32],
     scratch: &mut [f64],
+    origin_scratch: &mut [u16],
     order: &mut [u32],
     out: &mut [f64],
     out_lengths: &mut [u32],
+    out_origins: &mut [u16],
 ) -> i64
     ensures answer { λ c. ⌜ c ≡ sliceCallCode (sliceCallAnswer
         (flagsOf «assume_simple» «skip_boundary_fallback») (newOf west south east north) buffer (now (coords .entry)) (now (lengths .entry))
-        (polygonSlices (now (scratch .entry)) (now (order .entry)) (now (out .entry)) (now («out_lengths» .entry)))) ⌝ }
+        (polygonSlices (now (scratch .entry)) (now («origin_scratch» .entry)) (now (order .entry)) (now (out .entry))
+        (now («out_lengths» .entry)) (now («out_origins» .entry)))) ⌝ }
     ensures guards { λ c. ⌜ guardsIn c ≡ sliceCallGuards (sliceCallAnswer
         (flagsOf «assume_simple» «skip_boundary_fallback») (newOf west south east north) buffer (now (coords .entry)) (now (lengths .entry))
-        (polygonSlices (now (scratch .entry)) (now (order .entry)) (now (out .entry)) (now («out_lengths» .entry)))) ⌝ }
-    ensures lent { λ _. ⌜ polygonSlices (now (scratch .exit)) (now (order .exit)) (now (out .exit)) (now («out_lengths» .exit))
+        (polygonSlices (now (scratch .entry)) (now («origin_scratch» .entry)) (now (order .entry)) (now (out .entry))
+        (now («out_lengths» .entry)) (now («out_origins» .entry)))) ⌝ }
+    ensures lent { λ _. ⌜ polygonSlices (now (scratch .exit)) (now («origin_scratch» .exit)) (now (order .exit)) (now (out .exit))
+        (now («out_lengths» .exit)) (now («out_origins» .exit))
         ≡ sliceCallSlices (flagsOf «assume_simple» «skip_boundary_fallback») (newOf west south east north) buffer (now (coords .entry))
         (now (lengths .entry))
-        (polygonSlices (now (scratch .entry)) (now (order .entry)) (now (out .entry)) (now («out_lengths» .entry))) ⌝ }
+        (polygonSlices (now (scratch .entry)) (now («origin_scratch» .entry)) (now (order .entry)) (now (out .entry))
+        (now («out_lengths» .entry)) (now («out_origins» .entry))) ⌝ }
 {
     let flags = Flags {
         assume_simple: is_set(assume_simple),
@@ -103,9 +112,11 @@ pub extern "C" fn ringcut_polygon(
         coords,
         lengths,
         scratch,
+        origin_scratch,
         order,
         out,
         out_lengths,
+        out_origins,
     ) {
         SliceAnswer::Refused(r) => refusal_code(r),
         SliceAnswer::Answered(answer, guards) => answer_code(answer) as i64,

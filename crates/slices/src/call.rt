@@ -187,7 +187,7 @@ fn put_hole(
 ) -> Placed
     requires { ⌜ Contracts.HoleRoom n (now ring) (length (now scratch)) (length (now out)) (length (now «out_lengths»)) at ⌝ }
     requires { ⌜ Contracts.HoleOriginRoom n (now ring) (length (now «origin_scratch»)) (length (now «out_origins»)) at ⌝ }
-    ensures rings { λ r. ⌜ Contracts.Put (Polygon.cutHole bounds (Ring.close (Ring.coords (take (2 * n) (now (ring .entry)))))) at
+    ensures ring { λ r. ⌜ Contracts.Put (Polygon.cutHole bounds (Ring.close (Ring.coords (take (2 * n) (now (ring .entry)))))) at
         (now (out .entry)) (now («out_lengths» .entry)) r (now (out .exit)) (now («out_lengths» .exit)) ⌝ }
     ensures origins { λ r. ⌜ take (r .coordinates) (now («out_origins» .exit)) ≡ take (at .coordinates) (now («out_origins» .entry))
         ++ Origins.holeOrigins bounds (Ring.close (Ring.coords (take (2 * n) (now (ring .entry))))) ⌝ }
@@ -206,7 +206,7 @@ fn put_hole(
     count_ring(m, out_lengths, at)
 }
 
-// Cuts lent rings as holes, each in the output behind the rings counted so far.
+// Cuts lent rings as holes, each in the output behind the rings counted so far, and their origins in theirs.
 fn put_holes(
     coords: &[f64],
     lengths: &[u32],
@@ -522,8 +522,8 @@ pub fn polygon(
         out_origins.len(),
     ) {
         RoomCheck::Fails(refusal) => SliceAnswer::Refused(refusal),
-        RoomCheck::Passes(room) => {
-            let numbers = 2 * room;
+        RoomCheck::Passes(origin_room) => {
+            let room = 2 * origin_room;
             let answer = clip_padded(
                 flags,
                 bounds.buffered(buffer),
@@ -532,9 +532,9 @@ pub fn polygon(
                 scratch,
                 origin_scratch,
                 order,
-                &mut out[..numbers],
+                &mut out[..room],
                 out_lengths,
-                &mut out_origins[..room],
+                &mut out_origins[..origin_room],
             );
             clear(scratch);
             clear_origins(origin_scratch);

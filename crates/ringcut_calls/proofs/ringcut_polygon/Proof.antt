@@ -36,13 +36,13 @@ enum-known-answer c = search needs
 answer-code-requires : tie.Need-answer-code-requires
 answer-code-requires c κs =
     let b = answer-below _ _ _ _ _ _ _ _ (sym (c .before .before .before .before .before .before .before .before .before .before .before
-    .polygon .ensures .0) ∙ c .before .answer .given .1) in
+    .before .before .before .before .polygon .ensures .0) ∙ c .before .answer .given .1) in
     omega arith
 
 cast-result : tie.Need-cast-result
 cast-result c =
     let b = answer-below _ _ _ _ _ _ _ _ (sym (c .before .before .before .before .before .before .before .before .before .before .before
-    .before .polygon .ensures .0) ∙ c .before .before .answer .given .1) in
+    .before .before .before .before .before .polygon .ensures .0) ∙ c .before .before .answer .given .1) in
     sfits-of (omega (arith, c .answer-code .ensures))
 
 same-length : tie.Need-same-length
@@ -57,28 +57,31 @@ same-length-3 c = search needs
 same-length-4 : tie.Need-same-length-4
 same-length-4 c = search needs
 
-returns : tie.Need-returns
-returns c =
-    let e = c .before .before .before .before .before .before .before .before .before .before .before .before .polygon .ensures in
-    let q = c .before .before .r .given .1 in
-    let f : SFits w64 (c .refusal-code .result) = rw (c .refusal-code .ensures) (refusal-fits (c .before .before .r .given .0 .0)) in
-    let h = toZ-ofZ f ∙ c .refusal-code .ensures ∙ ap sliceCallCode (sym q) in
-    rw (
-      ← c .before .before .before .before .before .before .before .before .before .before .before .before .before .before .before .before
-          .before .before .before .is-set .ensures,
-      ← c .before .before .before .before .before .before .before .before .before .before .before .before .before .before .before .before
-          .before .before .is-set2 .ensures,
-      ← c .before .before .before .before .before .before .before .before .before .before .before .before .before .before .before .before
-          .before .new .ensures,
-      ← e .0,
-    )
-    (h, (guards-told _ _ _ _ _ _ _ _ (e .0) h, e .1))
-
 same-length-5 : tie.Need-same-length-5
 same-length-5 c = search needs
 
 same-length-6 : tie.Need-same-length-6
 same-length-6 c = search needs
+
+returns : tie.Need-returns
+returns c =
+    let e = c .before .before .before .before .before .before .before .before .before .before .before .before .before .before .before
+    .before .polygon .ensures in
+    let q = c .before .before .r .given .1 in
+    let f : SFits w64 (c .refusal-code .result) = rw (c .refusal-code .ensures) (refusal-fits (c .before .before .r .given .0 .0)) in
+    let h = toZ-ofZ f ∙ c .refusal-code .ensures ∙ ap sliceCallCode (sym q) in
+    rw (
+      ← c .before .before .before .before .before .before .before .before .before .before .before .before .before .before .before .before
+          .before .before .before .before .before .before .before .before .before .is-set .ensures,
+      ← c .before .before .before .before
+          .before .before .before .before .before .before .before .before .before .before .before .before .before .before .before .before
+          .before .before .before .before .is-set2 .ensures,
+      ← c .before .before .before .before .before .before .before .before
+          .before .before .before .before .before .before .before .before .before .before .before .before .before .before .before
+          .new .ensures,
+      ← e .0,
+    )
+    (h, (guards-told _ _ _ _ _ _ _ _ (e .0) h, e .1))
 
 same-length-7 : tie.Need-same-length-7
 same-length-7 c = search needs
@@ -86,20 +89,35 @@ same-length-7 c = search needs
 same-length-8 : tie.Need-same-length-8
 same-length-8 c = search needs
 
+same-length-9 : tie.Need-same-length-9
+same-length-9 c = search needs
+
+same-length-10 : tie.Need-same-length-10
+same-length-10 c = search needs
+
+same-length-11 : tie.Need-same-length-11
+same-length-11 c = search needs
+
+same-length-12 : tie.Need-same-length-12
+same-length-12 c = search needs
+
 returns-2 : tie.Need-returns-2
 returns-2 c =
-    let e = c .before .before .before .before .before .before .before .before .before .before .before .before .polygon .ensures in
+    let e = c .before .before .before .before .before .before .before .before .before .before .before .before .before .before .before
+    .before .polygon .ensures in
     let q = c .before .before .answer .given .1 in
     let b = answer-below _ _ _ _ _ _ _ _ (sym (e .0) ∙ q) in
     let f : SFits w64 (pos (c .answer-code .result)) = sfits-of (omega (arith, c .answer-code .ensures)) in
     let h = toZ-ofZ f ∙ ap pos (c .answer-code .ensures) ∙ ap sliceCallCode (sym q) in
     rw (
       ← c .before .before .before .before .before .before .before .before .before .before .before .before .before .before .before .before
-          .before .before .before .is-set .ensures,
-      ← c .before .before .before .before .before .before .before .before .before .before .before .before .before .before .before .before
-          .before .before .is-set2 .ensures,
-      ← c .before .before .before .before .before .before .before .before .before .before .before .before .before .before .before .before
-          .before .new .ensures,
+          .before .before .before .before .before .before .before .before .before .is-set .ensures,
+      ← c .before .before .before .before
+          .before .before .before .before .before .before .before .before .before .before .before .before .before .before .before .before
+          .before .before .before .before .is-set2 .ensures,
+      ← c .before .before .before .before .before .before .before .before
+          .before .before .before .before .before .before .before .before .before .before .before .before .before .before .before
+          .new .ensures,
       ← e .0,
     )
     (h, (guards-told _ _ _ _ _ _ _ _ (e .0) h, e .1))
@@ -121,9 +139,13 @@ ringcut-polygon-spec =
     same-length-2
     same-length-3
     same-length-4
-    returns
     same-length-5
     same-length-6
+    returns
     same-length-7
     same-length-8
+    same-length-9
+    same-length-10
+    same-length-11
+    same-length-12
     returns-2)

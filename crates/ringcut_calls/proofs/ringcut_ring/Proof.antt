@@ -26,9 +26,8 @@ enum-known-n : tie.Need-enum-known-n
 enum-known-n c = search needs
 
 cast-result : tie.Need-cast-result
-cast-result c =
-    count-fits _ (answer-few _ _ _ _ (sym (c .before .before .before .before .before .before .before .ring .ensures .0)
-    ∙ c .before .n .given .1))
+cast-result c = count-fits _ (answer-few _ _ _ _ (sym (c .before .before .before .before .before .before .before .before .before .before
+    .before .ring .ensures .0) ∙ c .before .n .given .1))
 
 same-length : tie.Need-same-length
 same-length c = search needs
@@ -36,31 +35,43 @@ same-length c = search needs
 same-length-2 : tie.Need-same-length-2
 same-length-2 c = search needs
 
-returns : tie.Need-returns
-returns c =
-    let e = c .before .before .before .before .before .before .before .before .ring .ensures in
-    let q = c .before .before .r .given .1 in
-    let f : SFits w64 (c .refusal-code .result) = rw (c .refusal-code .ensures) (refusal-fits (c .before .before .r .given .0 .0)) in
-    rw (
-      ← c .before .before .before .before .before .before .before .before .before .before .before .new
-          .ensures,
-      ← e .0,
-    ) (toZ-ofZ f ∙ c .refusal-code .ensures ∙ ap ringCallCode (sym q), e .1)
-
 same-length-3 : tie.Need-same-length-3
 same-length-3 c = search needs
 
 same-length-4 : tie.Need-same-length-4
 same-length-4 c = search needs
 
+returns : tie.Need-returns
+returns c =
+    let e = c .before .before .before .before .before .before .before .before .before .before .before .before .ring .ensures in
+    let q = c .before .before .r .given .1 in
+    let f : SFits w64 (c .refusal-code .result) = rw (c .refusal-code .ensures) (refusal-fits (c .before .before .r .given .0 .0)) in
+    rw (
+      ← c .before .before .before .before .before .before .before .before .before .before .before .before .before .before .before .before
+          .before .new .ensures,
+      ← e .0,
+    ) (toZ-ofZ f ∙ c .refusal-code .ensures ∙ ap ringCallCode (sym q), e .1)
+
+same-length-5 : tie.Need-same-length-5
+same-length-5 c = search needs
+
+same-length-6 : tie.Need-same-length-6
+same-length-6 c = search needs
+
+same-length-7 : tie.Need-same-length-7
+same-length-7 c = search needs
+
+same-length-8 : tie.Need-same-length-8
+same-length-8 c = search needs
+
 returns-2 : tie.Need-returns-2
 returns-2 c =
-    let e = c .before .before .before .before .before .before .before .ring .ensures in
+    let e = c .before .before .before .before .before .before .before .before .before .before .before .ring .ensures in
     let q = c .before .n .given .1 in
     rw (
-      ← c .before .before .before .before .before .before .before .before .before .before .new .ensures,
-      ←
-          e .0,
+      ← c .before .before .before .before .before .before .before .before .before .before .before .before .before .before .before .before
+          .new .ensures,
+      ← e .0,
     ) (toZ-ofZ (count-fits _ (answer-few _ _ _ _ (sym (e .0) ∙ q))) ∙ ap ringCallCode (sym q), e .1)
 
 pub ringcut-ring-spec : {M : Type 1} → statement M
@@ -75,7 +86,11 @@ ringcut-ring-spec =
     cast-result
     same-length
     same-length-2
-    returns
     same-length-3
     same-length-4
+    returns
+    same-length-5
+    same-length-6
+    same-length-7
+    same-length-8
     returns-2)

@@ -5,6 +5,7 @@ use denote.Ref.{now}
 use borrow.Author.Needs.{needs}
 use Rattle.sutherland_hodgman.proofs.Offered.{B-318}
 use Rattle.frames.specs.Contracts.{answerMeasured}
+use Rattle.frames.proofs.Sizes.{enough}
 use Rattle.frames.proofs.Entries.{holds, ready, parts-read, as-answer}
 use Rattle.frames.proofs.entry.answer_full.Statement.{statement}
 use Rattle.frames.proofs.entry.answer_full.Tie as tie
@@ -21,24 +22,31 @@ slice-aggregate-answer-in-3 c = search needs
 slice-aggregate-answer-in-4 : tie.Need-slice-aggregate-answer-in-4
 slice-aggregate-answer-in-4 c = search needs
 
+slice-aggregate-answer-in-5 : tie.Need-slice-aggregate-answer-in-5
+slice-aggregate-answer-in-5 c = search needs
+
+slice-aggregate-answer-in-6 : tie.Need-slice-aggregate-answer-in-6
+slice-aggregate-answer-in-6 c = search needs
+
 answer-in-requires : tie.Need-answer-in-requires
 answer-in-requires c κs =
-    let s = c .before .before .before .before .before .before .before in
-    let a = s .args in
-    let long = holds (now (a .frame)) (s .pre .answerable .accepted) .long in
-    ready (now (a .frame)) (a .head) 318 _ _ _ _ _ (s .pre) (omega (arith, long)) (omega arith) (omega arith) (omega (arith, B-318))
-    (omega (arith, B-318)) (omega (arith, B-318))
+    let s = c .before .before .before .before .before .before .before .before .before in
+    ready (now (s .args .frame)) (s .args .head) 318 _ _ _ (s .pre) (omega (
+      arith,
+      holds (now (s .args .frame)) (s .pre .answerable
+          .accepted) .long,
+    )) (enough 318 1610 (omega arith) B-318)
 
 same-length : tie.Need-same-length
 same-length c = search needs
 
 returns : tie.Need-returns
 returns c =
-    let a = c .before .before .before .before .before .before .before .before .before .before .before .before .before .before .args in
-    as-answer (ap (answerMeasured (a .head) (a .rect) (a .bounds))
-    (sym (parts-read (now (a .frame)) (a .head) _
-    (c .before .before .before .before .before .before .before .before .before .before .before .before .before .before .pre
-    .answerable)))) (c .before .before .before .before .before .before .answer-in .ensures)
+    let s = c .before .before .before .before .before .before .before .before .before .before .before .before .before .before .before
+    .before .before .before in
+    as-answer (ap (answerMeasured (s .args .head) (s .args .rect) (s .args .bounds))
+    (sym (parts-read (now (s .args .frame)) (s .args .head) _ (s .pre .answerable)))) (c .before .before .before .before .before .before
+    .before .before .answer-in .ensures)
 
 pub answer-full-spec : {M : Type 1} → statement M
 answer-full-spec =
@@ -48,6 +56,8 @@ answer-full-spec =
     slice-aggregate-answer-in-2
     slice-aggregate-answer-in-3
     slice-aggregate-answer-in-4
+    slice-aggregate-answer-in-5
+    slice-aggregate-answer-in-6
     answer-in-requires
     same-length
     returns)

@@ -1,7 +1,7 @@
 -- `list_part` meets its contract: each arm knows its answer. Assumes nothing.
 use native.Mathlib.Omega.{arith}
 use borrow.Author.Needs.{needs}
-use Rattle.frames.specs.Output.{partBytes}
+use Rattle.frame_parts.specs.Part.{partBytes}
 use Rattle.frames.proofs.parts.list_part.Statement.{statement}
 use Rattle.frames.proofs.parts.list_part.Tie as tie
 

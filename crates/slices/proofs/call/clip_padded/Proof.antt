@@ -43,15 +43,22 @@ mul-clear c = omega (
 )
 
 sub-clear : tie.Need-sub-clear
-sub-clear c = filled-fits (c .before .before .before .before .before .before .before .before .before .before .before .before .clip-polygon
-    .ensures .1 .0)
+sub-clear c = omega (
+  arith,
+  filled-fits (c .before .before .before .before .before .before .before .before .before .before .before .before
+      .clip-polygon .ensures .1 .0),
+)
 
 part-clear-start : tie.Need-part-clear-start
-part-clear-start c = filled-fits (c .before .before .before .before .before .before .before .before .before .before .before .before
-    .clip-polygon .ensures .1 .0)
+part-clear-start c = omega (
+  arith,
+  filled-fits (c .before .before .before .before .before .before .before .before .before .before .before
+      .before .clip-polygon .ensures .1 .0),
+)
 
 part-clear-end : tie.Need-part-clear-end
-part-clear-end c = search needs
+part-clear-end c = let w = filled-fits (c .before .before .before .before .before .before .before .before .before .before .before .before
+    .clip-polygon .ensures .1 .0) in search needs
 
 clear-requires : tie.Need-clear-requires
 clear-requires c κs = search needs
@@ -67,12 +74,18 @@ mul-clear-origins c = omega (
 )
 
 sub-clear-origins : tie.Need-sub-clear-origins
-sub-clear-origins c = origins-filled-fit (c .before .before .before .before .before .before .before .before .before .before .before .before
-    .before .before .before .before .clip-polygon .ensures .1 .1)
+sub-clear-origins c = omega (
+  arith,
+  origins-filled-fit (c .before .before .before .before .before .before .before .before .before .before
+      .before .before .before .before .before .before .clip-polygon .ensures .1 .1),
+)
 
 part-clear-origins-start : tie.Need-part-clear-origins-start
-part-clear-origins-start c = origins-filled-fit (c .before .before .before .before .before .before .before .before .before .before .before
-    .before .before .before .before .before .clip-polygon .ensures .1 .1)
+part-clear-origins-start c = omega (
+  arith,
+  origins-filled-fit (c .before .before .before .before .before .before .before .before .before
+      .before .before .before .before .before .before .before .clip-polygon .ensures .1 .1),
+)
 
 part-clear-origins-end : tie.Need-part-clear-origins-end
 part-clear-origins-end c = search needs

@@ -24,12 +24,12 @@ check-polygon-requires c κs = search needs
 enum-known-refusal : tie.Need-enum-known-refusal
 enum-known-refusal c = search needs
 
-enum-known-room : tie.Need-enum-known-room
-enum-known-room c = search needs
+enum-known-origin-room : tie.Need-enum-known-origin-room
+enum-known-origin-room c = search needs
 
-mul-numbers : tie.Need-mul-numbers
-mul-numbers c =
-    let p = passed-checks _ _ _ _ _ _ _ _ _ _ (c .before .before .before .check-polygon .ensures) (c .before .room .given .1) in
+mul-room : tie.Need-mul-room
+mul-room c =
+    let p = passed-checks _ _ _ _ _ _ _ _ _ _ (c .before .before .before .check-polygon .ensures) (c .before .origin-room .given .1) in
     omega (arith, p .small)
 
 buffered-requires : tie.Need-buffered-requires
@@ -38,22 +38,22 @@ buffered-requires c κs = search needs
 slice-relend-prefix-clip-padded : tie.Need-slice-relend-prefix-clip-padded
 slice-relend-prefix-clip-padded c =
     passed-checks _ _ _ _ _ _ _ _ _ _ (c .before .before .before .before .before .before .before .check-polygon .ensures) (c .before .before
-    .before .before .before .room .given .1) .within
+    .before .before .before .origin-room .given .1) .within
 
 slice-aggregate-clip-padded : tie.Need-slice-aggregate-clip-padded
 slice-aggregate-clip-padded c =
     sym (length-take-le _ _ (passed-checks _ _ _ _ _ _ _ _ _ _ (c .before .before .before .before .before .before .before .before
-    .check-polygon .ensures) (c .before .before .before .before .before .before .room .given .1) .within))
+    .check-polygon .ensures) (c .before .before .before .before .before .before .origin-room .given .1) .within))
 
 slice-relend-prefix-clip-padded-2 : tie.Need-slice-relend-prefix-clip-padded-2
 slice-relend-prefix-clip-padded-2 c =
     passed-checks _ _ _ _ _ _ _ _ _ _ (c .before .before .before .before .before .before .before .before .before .check-polygon .ensures) (c
-    .before .before .before .before .before .before .before .room .given .1) .origins-within
+    .before .before .before .before .before .before .before .origin-room .given .1) .origins-within
 
 slice-aggregate-clip-padded-2 : tie.Need-slice-aggregate-clip-padded-2
 slice-aggregate-clip-padded-2 c =
     sym (length-take-le _ _ (passed-checks _ _ _ _ _ _ _ _ _ _ (c .before .before .before .before .before .before .before .before .before
-    .before .check-polygon .ensures) (c .before .before .before .before .before .before .before .before .room .given .1)
+    .before .check-polygon .ensures) (c .before .before .before .before .before .before .before .before .origin-room .given .1)
     .origins-within))
 
 clip-padded-requires : tie.Need-clip-padded-requires
@@ -63,7 +63,7 @@ clip-padded-requires c κs =
     let ns = now (a .lengths) in
     let s = now (a .coords) in
     let p = passed-checks ns s _ _ _ _ _ _ _ _ (c .before .before .before .before .before .before .before .before .before .before
-    .check-polygon .ensures) (c .before .before .before .before .before .before .before .before .room .given .1) in
+    .check-polygon .ensures) (c .before .before .before .before .before .before .before .before .origin-room .given .1) in
     let l = length-take-le _ (now (a .out)) (p .within) in
     let o = length-take-le _ (now (a .out-origins)) (p .origins-within) in (
       part-room ns s _ _ _ _ _ (omega (arith, l, p .asked)) (p .polygon-room),
@@ -118,15 +118,15 @@ returns-2 c =
     let a = c .before .before .before .before .before .before .before .before .before .before .before .before .before .before .before
     .before .before .before .before .before .before .before .before .before .before .before .before .before .before .before .before
     .before .before .before .before .before .before .before .before .before .before .before .before .before .before .args in
-    let room = c .before .before .before .before .before .before .before .before .before .before .before .before .before .before .before
+    let origin-room = c .before .before .before .before .before .before .before .before .before .before .before .before .before .before
     .before .before .before .before .before .before .before .before .before .before .before .before .before .before .before .before
-    .before .before .before .room .given .0 .0 in
+    .before .before .before .before .origin-room .given .0 .0 in
     let p = passed-checks (now (a .lengths)) (now (a .coords)) _ _ _ _ _ _ _ _ (c .before .before .before .before .before .before .before
     .before .before .before .before .before .before .before .before .before .before .before .before .before .before .before .before
     .before .before .before .before .before .before .before .before .before .before .before .before .before .check-polygon .ensures)
     (c .before .before .before .before .before .before .before .before .before .before .before .before .before .before .before
     .before .before .before .before .before .before .before .before .before .before .before .before .before .before .before
-    .before .before .before .before .room .given .1) in
+    .before .before .before .before .origin-room .given .1) in
     let clipped = c .before .before .before .before .before .before .before .before .before .before .before .before .before .before .before
     .before .before .before .before .before .before .before .before .before .before .clip-padded in
     let kept = clipped .kept .1 .1 .1 .1 in
@@ -140,14 +140,15 @@ returns-2 c =
     let to = route (a .flags) bounds rings in (
       answered _ _ (p .passes) _ _ (clipped .ensures .0 ∙ rw b) (c .guard-count .ensures),
       rw (← b)
-          (written _ to (p .passes) rings (routedOrigins to bounds rings) _ room (p .asked) _ _ _ _ _ _
+          (written _ to (p .passes) rings (routedOrigins to bounds rings) _ origin-room (p .asked) _ _ _ _ _ _
           (cleared plusZero _ _ _ (c .before .before .before .before .before .before .before .before .before .before .before .clear
           .ensures) (kept .0))
           (cleared 0 _ _ _ (c .before .before .before .before .before .before .before .clear-origins .ensures) (kept .1 .0))
           (cleared 0 _ _ _ (c .before .before .before .clear-order .ensures) (kept .1 .1 .0))
-          (padded-front plusZero (numbersOf (writtenRings to)) _ (now (a .out)) (2 * room) (p .within) (clipped .ensures .1 .0 .output))
+          (padded-front plusZero (numbersOf (writtenRings to)) _ (now (a .out)) (2 * origin-room) (p .within) (clipped .ensures .1 .0
+          .output))
           (clipped .ensures .1 .0 .lengths)
-          (padded-front 0 (originsOf (routedOrigins to bounds rings)) _ (now (a .out-origins)) room (p .origins-within)
+          (padded-front 0 (originsOf (routedOrigins to bounds rings)) _ (now (a .out-origins)) origin-room (p .origins-within)
           (clipped .ensures .1 .1))),
     )
 
@@ -157,8 +158,8 @@ polygon-spec =
     (tie.spec
     check-polygon-requires
     enum-known-refusal
-    enum-known-room
-    mul-numbers
+    enum-known-origin-room
+    mul-room
     buffered-requires
     slice-relend-prefix-clip-padded
     slice-aggregate-clip-padded

@@ -10,10 +10,10 @@ use Rattle.rings.specs.Representable.{anyHugeRing}
 use Rattle.clip.specs.Polygon.{overlayOrDropped}
 use Rattle.frame_bytes.specs.Frame.{readPart}
 use Rattle.frame_bytes.specs.Contracts.{partAt}
-use Rattle.frames.specs.declared.part.PartAnswer.the-variants.{Listed}
-use Rattle.frames.proofs.CutParts.{huge-in, overlay-length, overlay-written}
-use Rattle.frames.proofs.part.overlay_or_dropped.Statement.{statement}
-use Rattle.frames.proofs.part.overlay_or_dropped.Tie as tie
+use Rattle.frame_parts.specs.declared.PartAnswer.the-variants.{Listed}
+use Rattle.frame_parts.proofs.CutParts.{huge-in, overlay-length, overlay-written}
+use Rattle.frame_parts.proofs.overlay_or_dropped.Statement.{statement}
+use Rattle.frame_parts.proofs.overlay_or_dropped.Tie as tie
 
 part-has-huge-requires : tie.Need-part-has-huge-requires
 part-has-huge-requires c κs = search needs

@@ -1,0 +1,2 @@
+pub mod CutParts
+pub mod Cutting
