@@ -18,7 +18,7 @@ use Rattle.sutherland_hodgman.proofs.Offered.{B-mono, B-none, B-closed}
 use Rattle.rings.specs.LentRings.{mostRings, total, ringRoom}
 use Rattle.frame_bytes.specs.Frame.{longest, headBytes, Reading, refused, read, readMany, countOf, coordsOf}
 use Rattle.frame_bytes.specs.Frame.{readRing, readPart, Frame, partCountOf, readFrame}
-use Rattle.frame_bytes.specs.Room.{leastRoom, coordinateBytes, partRoom, outputRoom, readCall}
+use Rattle.frame_bytes.specs.Room.{leastRoom, answerCoordSize, partRoom, outputRoom, readCall}
 use Rattle.frame_bytes.proofs.Coordinates.{close-grows}
 use Rattle.frame_bytes.proofs.Places.{no-more}
 use Rattle.frame_bytes.proofs.Readings.{many-first, ring-read, part-read, frame-read}
@@ -36,7 +36,7 @@ record Counted (parts rings asked bytes left : ℕ) : Type 0 where
   some : full ≤ coordinates
   few : full + empty ≤ rings
   lent : bytes ≡ left + 2 * parts + 2 * (full + empty) + 16 * coordinates
-  enough : asked ≤ 6 * parts + 2 * (full + empty) + coordinateBytes * (5 * full + 6 * coordinates)
+  enough : asked ≤ 6 * parts + 2 * (full + empty) + answerCoordSize * (5 * full + 6 * coordinates)
 
 -- ---- of many things, where it is known of each
 
@@ -70,9 +70,9 @@ module _ {A : Type 0} (f : List ℕ → Reading A) (g : A → ℕ) (parts rings 
 
 -- "2 × rings + 16 × its sum of B", with 18 for 16: what a ring adds
 ofRing : List Coord → ℕ
-ofRing ring = 2 + coordinateBytes * ringRoom ring
+ofRing ring = 2 + answerCoordSize * ringRoom ring
 
-rings-sum : (rings : List (List Coord)) → total ofRing rings ≡ 2 * length rings + coordinateBytes * total ringRoom rings
+rings-sum : (rings : List (List Coord)) → total ofRing rings ≡ 2 * length rings + answerCoordSize * total ringRoom rings
 unfolding total ofRing
 rings-sum [] = refl
 rings-sum (ring ∷ rings) = omega (arith, rings-sum rings)
@@ -87,7 +87,7 @@ ring-counted : (l : List ℕ) (ring : List Coord) (rest : List ℕ) → readRing
 unfolding ofRing
 ring-counted l ring rest e = by-count (countOf l) refl
   where
-    by-count : (n : ℕ) → countOf l ≡ n → Counted 0 1 (2 + coordinateBytes * ringRoom ring) (length l) (length rest)
+    by-count : (n : ℕ) → countOf l ≡ n → Counted 0 1 (2 + answerCoordSize * ringRoom ring) (length l) (length rest)
     by-count zero c =
         let r = ring-read l ring rest e in
         let none : length ring ≡ 0 = rw (r .coordinates) (closed-none (countOf l) (drop 2 l) c) in
@@ -116,7 +116,7 @@ ring-counted l ring rest e = by-count (countOf l) refl
 -- ---- a part, a frame
 
 part-counted : (l : List ℕ) (part : List (List Coord)) (rest : List ℕ) → readPart l ≡ read part rest
-    → Counted 1 mostRings (partRoom coordinateBytes part) (length l) (length rest)
+    → Counted 1 mostRings (partRoom answerCoordSize part) (length l) (length rest)
 unfolding partRoom
 part-counted l part rest e =
     let p = part-read l part rest e in
@@ -147,15 +147,15 @@ most parts asked bytes left h c = by-coordinates (ltb (c .coordinates) 282) refl
         by-parts (suc (suc k)) p = omega (arith, p, ltb-false (c .coordinates) 282 e, c .lent, c .enough)
 
 pub frame-most : (l : List ℕ) (f : Frame) (rest : List ℕ) → readFrame l ≡ read f rest
-    → outputRoom coordinateBytes (f .parts) ≤ mostRoom
+    → outputRoom answerCoordSize (f .parts) ≤ mostRoom
 unfolding outputRoom
 frame-most l f rest e =
     let r = frame-read l f rest e in
     let c =
-    many-counted readPart (partRoom coordinateBytes) 1 mostRings part-counted (partCountOf l) (drop headBytes l) (f .parts) rest
+    many-counted readPart (partRoom answerCoordSize) 1 mostRings part-counted (partCountOf l) (drop headBytes l) (f .parts) rest
     (r .parts) in
     let one : partCountOf l * 1 ≡ partCountOf l = omega arith in
-    most (partCountOf l) (total (partRoom coordinateBytes) (f .parts)) (length (drop headBytes l)) (length rest)
+    most (partCountOf l) (total (partRoom answerCoordSize) (f .parts)) (length (drop headBytes l)) (length rest)
     (omega (arith, r .short, r .long, length-drop headBytes l)) (rw one at c)
 
 -- 22 does not arise where the output has that room
@@ -166,5 +166,5 @@ has-room l out h = by-reading (readFrame l) refl
     by-reading : (x : Reading Frame) → readFrame l ≡ x → readCall l out ≡ x
     by-reading (refused r) e = rw e
     by-reading (read f rest) e =
-        let enough : outputRoom coordinateBytes (f .parts) ≤ out = omega (arith, h, frame-most l f rest e) in
-        rw (e, le-ltb out (outputRoom coordinateBytes (f .parts)) enough)
+        let enough : outputRoom answerCoordSize (f .parts) ≤ out = omega (arith, h, frame-most l f rest e) in
+        rw (e, le-ltb out (outputRoom answerCoordSize (f .parts)) enough)

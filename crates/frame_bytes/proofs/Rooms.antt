@@ -19,7 +19,7 @@ use Rattle.frame_bytes.specs.declared.room.MeasuredRoom.{MeasuredRoom}
 use Rattle.frame_bytes.specs.Frame.{Reading, refused, read, refusedIf, andThen, readMany, countOf, coordsOf, readRing, readPart}
 use Rattle.frame_bytes.specs.Frame.{Frame, readFrame, headBytes, partCountOf, mostParts, mostInRing}
 use Rattle.frame_bytes.specs.Contracts.{checkOf, Accepted, measuredRoom, frameRoom}
-use Rattle.frame_bytes.specs.Room.{partRoom, outputRoom, coordinateBytes, leastRoom, readCall}
+use Rattle.frame_bytes.specs.Room.{partRoom, outputRoom, answerCoordSize, leastRoom, readCall}
 use Rattle.frame_bytes.proofs.Coordinates.{close-grows}
 use Rattle.frame_bytes.proofs.Places.{step, ring-at, part-at}
 use Rattle.frame_bytes.proofs.Readings.{both, not-refused, taken, Reads, many-first, many-length, ring-read, part-read, frame-read}
@@ -143,7 +143,7 @@ pub rings-le : (size k : ℕ) (l : List ℕ) → Accepted (readMany readRing k l
 rings-le size k l a =
     let t = taken (readMany readRing k l) a in rw (t .is) (sum-le readRing ringRoom [] mostRing ring-le k l (t .value) (t .rest) (t .is))
 
-part-le : (l : List ℕ) (part : List (List Coord)) (rest : List ℕ) → readPart l ≡ read part rest → partRoom coordinateBytes part ≤ mostPart
+part-le : (l : List ℕ) (part : List (List Coord)) (rest : List ℕ) → readPart l ≡ read part rest → partRoom answerCoordSize part ≤ mostPart
 unfolding partRoom
 part-le l part rest e =
     let p = part-read l part rest e in
@@ -154,14 +154,14 @@ part-le l part rest e =
 module _ (frame : List ℕ) (at : ℕ) (h : at ≤ length frame) (a : Accepted (readPart (drop at frame))) where
   pub part-passed : (rings : MeasuredRoom) → rings ≡ measuredRoom (length frame) (total ringRoom)
       (readMany readRing (countOf (drop at frame)) (drop (at + 2) frame))
-      → measuredRoom (length frame) (partRoom coordinateBytes) (readPart (drop at frame)) ≡ record
-      { room = 6 + 2 * countOf (drop at frame) + coordinateBytes * rings .room; next = rings .next }
+      → measuredRoom (length frame) (partRoom answerCoordSize) (readPart (drop at frame)) ≡ record
+      { room = 6 + 2 * countOf (drop at frame) + answerCoordSize * rings .room; next = rings .next }
   unfolding partRoom
   part-passed rings r = let t = taken (readPart (drop at frame)) a in go (t .value) (t .rest) (t .is)
     where
       go : (part : List (List Coord)) (rest : List ℕ) → readPart (drop at frame) ≡ read part rest
-          → measuredRoom (length frame) (partRoom coordinateBytes) (readPart (drop at frame)) ≡ record
-          { room = 6 + 2 * countOf (drop at frame) + coordinateBytes * rings .room; next = rings .next }
+          → measuredRoom (length frame) (partRoom answerCoordSize) (readPart (drop at frame)) ≡ record
+          { room = 6 + 2 * countOf (drop at frame) + answerCoordSize * rings .room; next = rings .next }
       go part rest e =
           let p = part-at frame at part rest h e in
           let n = many-length readRing (countOf (drop at frame)) (drop (at + 2) frame) part rest (p .rings) in
@@ -169,10 +169,10 @@ module _ (frame : List ℕ) (at : ℕ) (h : at ≤ length frame) (a : Accepted (
 
 -- ---- the parts of a frame
 
-pub parts-le : (size k : ℕ) (l : List ℕ) → Accepted (readMany readPart k l) → measuredRoom size (total (partRoom coordinateBytes))
+pub parts-le : (size k : ℕ) (l : List ℕ) → Accepted (readMany readPart k l) → measuredRoom size (total (partRoom answerCoordSize))
     (readMany readPart k l) .room ≤ k * mostPart
 parts-le size k l a =
-    let t = taken (readMany readPart k l) a in rw (t .is) (sum-le readPart (partRoom coordinateBytes) [] mostPart part-le k l (t .value)
+    let t = taken (readMany readPart k l) a in rw (t .is) (sum-le readPart (partRoom answerCoordSize) [] mostPart part-le k l (t .value)
     (t .rest) (t .is))
 
 module _ (frame : List ℕ) (a : Accepted (readFrame frame)) where
@@ -185,13 +185,13 @@ module _ (frame : List ℕ) (a : Accepted (readFrame frame)) where
   pub frame-parts : Accepted (readMany readPart (partCountOf frame) (drop headBytes frame))
   frame-parts = let t = taken (readFrame frame) a in rw (frame-read frame (t .value) (t .rest) (t .is) .parts)
 
-  pub frame-passed : frameRoom coordinateBytes (readFrame frame) ≡ leastRoom + measuredRoom (length frame)
-      (total (partRoom coordinateBytes)) (readMany readPart (partCountOf frame) (drop headBytes frame)) .room
+  pub frame-passed : frameRoom answerCoordSize (readFrame frame) ≡ leastRoom + measuredRoom (length frame)
+      (total (partRoom answerCoordSize)) (readMany readPart (partCountOf frame) (drop headBytes frame)) .room
   unfolding outputRoom
   frame-passed = let t = taken (readFrame frame) a in go (t .value) (t .rest) (t .is)
     where
       go : (f : Frame) (rest : List ℕ) → readFrame frame ≡ read f rest
-          → frameRoom coordinateBytes (readFrame frame) ≡ leastRoom + measuredRoom (length frame) (total (partRoom coordinateBytes))
+          → frameRoom answerCoordSize (readFrame frame) ≡ leastRoom + measuredRoom (length frame) (total (partRoom answerCoordSize))
           (readMany readPart (partCountOf frame) (drop headBytes frame)) .room
       go f rest e = rw (e, frame-read frame f rest e .parts)
 
@@ -203,27 +203,27 @@ module _ (l : List ℕ) (out : ℕ) where
   call-refused r e = go (readFrame l) e
     where
       go : (x : Reading Frame) → checkOf x ≡ Fails r
-          → checkOf (andThen x (λ f rest. refusedIf (ltb out (outputRoom coordinateBytes (f .parts))) Output (read f rest))) ≡ Fails r
+          → checkOf (andThen x (λ f rest. refusedIf (ltb out (outputRoom answerCoordSize (f .parts))) Output (read f rest))) ≡ Fails r
       go (refused s) e = cc
       go (read f rest) e = absurd (let z : _≡_ {A = ℕ} 0 1 = cc in omega arith)
 
   -- an accepted frame: whether the output is too small
   pub call-room : Accepted (readFrame l) → checkOf (readCall l out) ≡ checkOf
-      (refusedIf (ltb out (frameRoom coordinateBytes (readFrame l))) Output (readFrame l))
+      (refusedIf (ltb out (frameRoom answerCoordSize (readFrame l))) Output (readFrame l))
   unfolding readCall
   call-room a = let t = taken (readFrame l) a in rw (t .is)
 
 -- what a frame call that is not refused reads
 pub call-read : (l : List ℕ) (out : ℕ) (f : Frame) (rest : List ℕ) → readCall l out ≡ read f rest → (readFrame l ≡ read f rest)
-    × (outputRoom coordinateBytes (f .parts) ≤ out)
+    × (outputRoom answerCoordSize (f .parts) ≤ out)
 unfolding readCall
 call-read l out f rest e =
     let p = both (readFrame l) _ f rest e in
-    let q = not-refused (ltb out (outputRoom coordinateBytes (p .value .parts))) Output _ f rest (p .second) in
+    let q = not-refused (ltb out (outputRoom answerCoordSize (p .value .parts))) Output _ f rest (p .second) in
     let first = p .first in
     let second = q .1 in
     let same : p .value ≡ f = cc in
-    (cc, rw (← same) (ltb-false out (outputRoom coordinateBytes (p .value .parts)) (q .0)))
+    (cc, rw (← same) (ltb-false out (outputRoom answerCoordSize (p .value .parts)) (q .0)))
 
 pub refused-room : (coordinate : ℕ) (x : Reading Frame) (r : FrameRefusal) → checkOf x ≡ Fails r → frameRoom coordinate x ≡ 0
 refused-room coordinate (refused s) r e = refl

@@ -6,14 +6,18 @@ use Prim.Native.Nat.{ℕ, zero, suc, _+_, _*_, _<_, _≤_}
 use native.Mathlib.Nat.{add-zero}
 use native.Mathlib.Numerals.{add-one}
 use native.Mathlib.Omega.{arith}
-use lib.ListN.{length, getD, drop, set, length-append, drop-of-length-le}
-use lib.Seq.{sets, set-comm, drop-cons, getD-drop}
+use lib.ListN.{length, getD, take, drop, set, length-append, drop-of-length-le}
+use lib.Seq.{sets, set-comm, drop-cons, getD-take, getD-drop}
 use lib.Ieee.{Float}
 use Rattle.binary64.specs.Bytes.{Little, toLow, doubleBytes}
 use Rattle.binary64.proofs.Fill.{sets-append}
 use Rattle.tile.specs.declared.Coord.{Coord}
-use Rattle.frame_bytes.specs.Encoding.{each, countBytes, coordBytes, Vertex, vertexBytes, withOrigins, ringBytes, headerBytes}
-use Rattle.frame_bytes.specs.Room.{coordinateBytes}
+use Rattle.tile.specs.Ring.{coords}
+use Rattle.tile.specs.Contracts.{coordAt}
+use Rattle.tile.proofs.Rings.{length-front, front-at}
+use Rattle.frame_bytes.specs.Encoding.{each, countBytes, coordBytes, AnswerCoord, answerCoordBytes, withOrigins, ringBytes, headerBytes}
+use Rattle.frame_bytes.specs.Room.{answerCoordSize}
+use Rattle.frame_bytes.specs.Contracts.{frontAnswerCoords}
 
 -- ---- what is written behind, and then before, is one writing
 
@@ -44,7 +48,7 @@ length-double : (x : Float) → length (doubleBytes Little x) ≡ 8
 unfolding toLow
 length-double x = refl
 
-pub length-coord : (p : Coord) → length (coordBytes p) ≡ 16
+length-coord : (p : Coord) → length (coordBytes p) ≡ 16
 unfolding toLow
 length-coord p = refl
 
@@ -52,28 +56,28 @@ pub length-header : (number guard parts : ℕ) → length (headerBytes number gu
 unfolding toLow
 length-header number guard parts = refl
 
-length-vertex : (v : Vertex) → length (vertexBytes v) ≡ coordinateBytes
+length-answer-coord : (v : AnswerCoord) → length (answerCoordBytes v) ≡ answerCoordSize
 unfolding toLow
-length-vertex v = refl
+length-answer-coord v = refl
 
-length-each : (ring : List Vertex) → length (each vertexBytes ring) ≡ coordinateBytes * length ring
+length-each : (ring : List AnswerCoord) → length (each answerCoordBytes ring) ≡ answerCoordSize * length ring
 unfolding each
 length-each [] = refl
-length-each (v ∷ ring) = omega (arith, length-append (vertexBytes v) (each vertexBytes ring), length-vertex v, length-each ring)
+length-each (v ∷ ring) = omega (arith, length-append (answerCoordBytes v) (each answerCoordBytes ring), length-answer-coord v, length-each ring)
 
 pub length-with : (ring : List Coord) (origins : List ℕ) → length (withOrigins ring origins) ≡ length ring
 unfolding withOrigins
 length-with [] origins = refl
 length-with (p ∷ ring) origins = ap suc (length-with ring (drop 1 origins))
 
-pub length-ring : (ring : List Vertex) → length (ringBytes vertexBytes ring) ≡ 2 + coordinateBytes * length ring
+pub length-ring : (ring : List AnswerCoord) → length (ringBytes answerCoordBytes ring) ≡ 2 + answerCoordSize * length ring
 unfolding ringBytes
 length-ring ring =
-    omega (arith, length-append (countBytes (length ring)) (each vertexBytes ring), length-count (length ring), length-each ring)
+    omega (arith, length-append (countBytes (length ring)) (each answerCoordBytes ring), length-count (length ring), length-each ring)
 
 -- ---- a coordinate of a ring with its origin
 
-pub with-at : (ring : List Coord) (origins : List ℕ) (i : ℕ) (none : Coord) → i < length ring
+with-at : (ring : List Coord) (origins : List ℕ) (i : ℕ) (none : Coord) → i < length ring
     → getD (withOrigins ring origins) i (record { coord = none; origin = 0 })
     ≡ record { coord = getD ring i none; origin = getD origins i 0 }
 unfolding withOrigins
@@ -83,6 +87,18 @@ with-at (p ∷ ring) origins (suc i) none h =
     let e : getD (drop 1 origins) i 0 ≡ getD origins (suc i) 0 = getD-drop 1 origins i 0 ∙ ap (λ (k : ℕ). getD origins k 0) (omega arith) in
     rw (← e) (with-at ring (drop 1 origins) i none (omega arith))
 
+-- at the front of two slices
+
+pub length-vertices : (ring : List Float) (origins : List ℕ) (n : ℕ) → 2 * n ≤ length ring → length (frontAnswerCoords ring origins n) ≡ n
+length-vertices ring origins n h = length-with (coords (take (2 * n) ring)) (take n origins) ∙ length-front ring n h
+
+pub answer-coord-at : (ring : List Float) (origins : List ℕ) (n i : ℕ) (none : Coord) → 2 * n ≤ length ring → i < n
+    → getD (frontAnswerCoords ring origins n) i (record { coord = none; origin = 0 })
+    ≡ record { coord = coordAt ring i; origin = getD origins i 0 }
+answer-coord-at ring origins n i none h few =
+    with-at (coords (take (2 * n) ring)) (take n origins) i none (omega (arith, length-front ring n h))
+    ∙ rw (front-at ring n i none h few, getD-take n origins i 0 few)
+
 -- ---- what is written in steps
 
 pub coord-put : (out first all : List ℕ) (at : ℕ) (p : Coord) → first ≡ sets out at (doubleBytes Little (p .x))
@@ -90,9 +106,9 @@ pub coord-put : (out first all : List ℕ) (at : ℕ) (p : Coord) → first ≡ 
 coord-put out first all at p e f =
     f ∙ rw e (sym (rw (length-double (p .x)) at (sets-append out at (doubleBytes Little (p .x)) (doubleBytes Little (p .y)))))
 
-pub vertex-put : (out first all : List ℕ) (at : ℕ) (p : Coord) (origin : ℕ) → first ≡ sets out at (coordBytes p)
-    → all ≡ sets first (at + 16) (countBytes origin) → all ≡ sets out at (vertexBytes (record { coord = p; origin = origin }))
-vertex-put out first all at p origin e f =
+pub answer-coord-put : (out first all : List ℕ) (at : ℕ) (p : Coord) (origin : ℕ) → first ≡ sets out at (coordBytes p)
+    → all ≡ sets first (at + 16) (countBytes origin) → all ≡ sets out at (answerCoordBytes (record { coord = p; origin = origin }))
+answer-coord-put out first all at p origin e f =
     f ∙ rw e (sym (rw (length-coord p) at (sets-append out at (coordBytes p) (countBytes origin))))
 
 pub header-put : (out first all : List ℕ) (number guard parts : ℕ) → first ≡ sets (set out 0 number) 1 (countBytes guard)
@@ -108,25 +124,25 @@ part-put out first at index number reason e =
 
 -- ---- a ring: its count, and what is left to write with one coordinate of it written
 
-pub count-put : (out : List ℕ) (at : ℕ) (ring : List Vertex) → sets out at (ringBytes vertexBytes ring) ≡ sets
-    (sets out at (countBytes (length ring))) (at + 2) (each vertexBytes ring)
+pub count-put : (out : List ℕ) (at : ℕ) (ring : List AnswerCoord) → sets out at (ringBytes answerCoordBytes ring) ≡ sets
+    (sets out at (countBytes (length ring))) (at + 2) (each answerCoordBytes ring)
 unfolding ringBytes
-count-put out at ring = rw (length-count (length ring)) at (sets-append out at (countBytes (length ring)) (each vertexBytes ring))
+count-put out at ring = rw (length-count (length ring)) at (sets-append out at (countBytes (length ring)) (each answerCoordBytes ring))
 
-pub none-put : (out : List ℕ) (at : ℕ) (ring : List Vertex) → sets out at (each vertexBytes ring) ≡ sets out (at + coordinateBytes * 0)
-    (each vertexBytes (drop 0 ring))
-none-put out at ring = let e : at + coordinateBytes * 0 ≡ at = omega arith in rw e
+pub none-put : (out : List ℕ) (at : ℕ) (ring : List AnswerCoord) → sets out at (each answerCoordBytes ring) ≡ sets out (at + answerCoordSize * 0)
+    (each answerCoordBytes (drop 0 ring))
+none-put out at ring = let e : at + answerCoordSize * 0 ≡ at = omega arith in rw e
 
-pub one-put : (out : List ℕ) (at i : ℕ) (ring : List Vertex) (z : Vertex) → i < length ring
-    → sets out (at + coordinateBytes * i) (each vertexBytes (drop i ring)) ≡ sets
-    (sets out (at + coordinateBytes * i) (vertexBytes (getD ring i z))) (at + coordinateBytes * (i + 1))
-    (each vertexBytes (drop (i + 1) ring))
+pub one-put : (out : List ℕ) (at i : ℕ) (ring : List AnswerCoord) (z : AnswerCoord) → i < length ring
+    → sets out (at + answerCoordSize * i) (each answerCoordBytes (drop i ring)) ≡ sets
+    (sets out (at + answerCoordSize * i) (answerCoordBytes (getD ring i z))) (at + answerCoordSize * (i + 1))
+    (each answerCoordBytes (drop (i + 1) ring))
 unfolding each
 one-put out at i ring z h =
-    let e : at + coordinateBytes * (i + 1) ≡ at + coordinateBytes * i + coordinateBytes = omega arith in
-    rw (e, add-one i, drop-cons ring i z h) (rw (length-vertex (getD ring i z))
-    at (sets-append out (at + coordinateBytes * i) (vertexBytes (getD ring i z)) (each vertexBytes (drop (suc i) ring))))
+    let e : at + answerCoordSize * (i + 1) ≡ at + answerCoordSize * i + answerCoordSize = omega arith in
+    rw (e, add-one i, drop-cons ring i z h) (rw (length-answer-coord (getD ring i z))
+    at (sets-append out (at + answerCoordSize * i) (answerCoordBytes (getD ring i z)) (each answerCoordBytes (drop (suc i) ring))))
 
-pub all-put : (out : List ℕ) (at i : ℕ) (ring : List Vertex) → length ring ≤ i → sets out at (each vertexBytes (drop i ring)) ≡ out
+pub all-put : (out : List ℕ) (at i : ℕ) (ring : List AnswerCoord) → length ring ≤ i → sets out at (each answerCoordBytes (drop i ring)) ≡ out
 unfolding each
 all-put out at i ring h = rw (drop-of-length-le ring h)

@@ -1,11 +1,13 @@
--- What the functions that walk over a frame say to each other and to the crates above. No contract of an entry point reaches it, so a
--- reader of those can skip this file. Definitions only.
+-- What the functions that walk over a frame and those that write an answer say to each other and to the crates above. No contract of an
+-- entry point reaches it, so a reader of those can skip this file. Definitions only.
 use mathlib.Core.Path.{_≡_}
 use mathlib.Core.Bool.{Bool, true, false, not}
 use mathlib.Core.List.{List, []}
-use Prim.Native.Nat.{ℕ, _-_}
-use lib.ListN.{length, drop}
+use Prim.Native.Nat.{ℕ, _*_, _-_}
+use lib.Ieee.{Float}
+use lib.ListN.{length, take, drop}
 use Rattle.tile.specs.declared.Coord.{Coord}
+use Rattle.tile.specs.Ring.{coords}
 use Rattle.box_pairs.specs.Issue.{issueOf, hasIssue}
 use Rattle.rings.specs.declared.rectangle.Rect.{Rect}
 use Rattle.rings.specs.declared.rectangle.Rect.the-variants as Rects
@@ -20,6 +22,7 @@ use Rattle.frame_bytes.specs.declared.room.MeasuredRoom.{MeasuredRoom}
 use Rattle.frame_bytes.specs.declared.measure.Measured.{Measured}
 use Rattle.frame_bytes.specs.Frame.{Reading, refused, read, readMany, readRing, readPart, Frame}
 use Rattle.frame_bytes.specs.Room.{outputRoom}
+use Rattle.frame_bytes.specs.Encoding.{AnswerCoord, withOrigins}
 
 -- ---- a reading, as the functions answer it
 --
@@ -83,3 +86,9 @@ hugeOf (read rings rest) = anyHugeRing rings
 abbrev pub soundIfSimple : Reading (List (List Coord)) → Bool
 soundIfSimple (refused r) = false
 soundIfSimple (read rings rest) = not (hasIssue (issueOf true (exterior rings)))
+
+-- ---- what is written
+
+-- the n coordinates at the front of a slice, each with its origin from the front of another
+abbrev pub frontAnswerCoords : List Float → List ℕ → ℕ → List AnswerCoord
+frontAnswerCoords ring origins n = withOrigins (coords (take (2 * n) ring)) (take n origins)

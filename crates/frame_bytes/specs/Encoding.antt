@@ -18,21 +18,21 @@ abbrev pub coordBytes : Coord → List ℕ
 coordBytes p = doubleBytes Little (p .x) ++ doubleBytes Little (p .y)
 
 -- a coordinate of an answer and where it came from: a position in its input ring, or a line
-pub record Vertex : Type 0 where
+pub record AnswerCoord : Type 0 where
   pub coord : Coord
   pub origin : ℕ
 
 -- "Coordinates in answers are followed by 2 bytes, the position, or 65,532 to 65,535 for the four lines."
-abbrev pub vertexBytes : Vertex → List ℕ
-vertexBytes v = coordBytes (v .coord) ++ countBytes (v .origin)
+abbrev pub answerCoordBytes : AnswerCoord → List ℕ
+answerCoordBytes v = coordBytes (v .coord) ++ countBytes (v .origin)
 
 -- the coordinates of a ring, each with its origin
-unfoldable pub withOrigins : List Coord → List ℕ → List Vertex
+unfoldable pub withOrigins : List Coord → List ℕ → List AnswerCoord
 withOrigins [] origins = []
 withOrigins (p ∷ ring) origins = record { coord = p; origin = getD origins 0 0 } ∷ withOrigins ring (drop 1 origins)
 
 -- the rings of a polygon, each with its origins
-unfoldable pub ringsWithOrigins : List (List Coord) → List (List ℕ) → List (List Vertex)
+unfoldable pub ringsWithOrigins : List (List Coord) → List (List ℕ) → List (List AnswerCoord)
 ringsWithOrigins [] origins = []
 ringsWithOrigins (ring ∷ rings) origins = withOrigins ring (getD origins 0 []) ∷ ringsWithOrigins rings (drop 1 origins)
 

@@ -13,8 +13,8 @@ abbrev pub leastRoom : ℕ
 leastRoom = 5
 
 -- "Amends 22: 18 bytes a coordinate": in an answer. A frame that is lent has 16 for each.
-abbrev pub coordinateBytes : ℕ
-coordinateBytes = 18
+abbrev pub answerCoordSize : ℕ
+answerCoordSize = 18
 
 -- "for each part, 6 + 2 × rings + 16 × its sum of B": the bytes of a coordinate in an answer, 18 for 16 now, are a parameter. A part has a
 -- ring, so that this is no less than the 8 bytes of an overlay: "The frame part of 22 already has room for them and stays."
@@ -27,4 +27,4 @@ outputRoom size parts = leastRoom + total (partRoom size) parts
 
 -- "A frame call does 11 to 18 and 22": the frame, where an output of `out` bytes has the room
 unfoldable pub readCall : List ℕ → ℕ → Reading Frame
-readCall l out = andThen (readFrame l) (λ f rest. refusedIf (ltb out (outputRoom coordinateBytes (f .parts))) Output (read f rest))
+readCall l out = andThen (readFrame l) (λ f rest. refusedIf (ltb out (outputRoom answerCoordSize (f .parts))) Output (read f rest))

@@ -3,10 +3,10 @@
 ghost use mathlib.Core.Path.{_≡_};
 ghost use mathlib.Core.List.{[], _∷_, _++_};
 ghost use Prim.Native.Nat.{_+_, _*_, _≤_};
-ghost use lib.ListN.{length, take};
+ghost use lib.ListN.{length};
 ghost use lib.Seq.{sets};
-ghost use Rattle.tile.specs.Ring.{coords};
-ghost use Rattle.frame_bytes.specs.Room.{leastRoom, coordinateBytes};
+ghost use Rattle.frame_bytes.specs.Room.{leastRoom, answerCoordSize};
+ghost use Rattle.frame_bytes.specs.Contracts as Contracts;
 ghost use Rattle.frame_bytes.specs.Encoding as Encoding;
 use super::ring::COORD;
 use super::ring::COUNT;
@@ -19,7 +19,7 @@ use tile::ring::coord_at;
 pub const PART: usize = 4;
 
 // The bytes of a coordinate in an answer, its origin behind it. A frame that is lent has COORD for each.
-pub const VERTEX: usize = COORD + COUNT;
+pub const ANSWER_COORD: usize = COORD + COUNT;
 
 pub fn put_count(out: &mut [u8], at: usize, n: usize)
     requires { ⌜ at + 2 ≤ length (now out) ⌝ }
@@ -36,9 +36,9 @@ fn put_coord(out: &mut [u8], at: usize, p: Coord)
     write_f64(out, at + 8, p.y);
 }
 
-fn put_vertex(out: &mut [u8], at: usize, p: Coord, origin: u16)
-    requires { ⌜ at + coordinateBytes ≤ length (now out) ⌝ }
-    ensures { λ _. ⌜ now (out .exit) ≡ sets (now (out .entry)) at (Encoding.vertexBytes (record { coord = p; origin = origin })) ⌝ }
+fn put_answer_coord(out: &mut [u8], at: usize, p: Coord, origin: u16)
+    requires { ⌜ at + answerCoordSize ≤ length (now out) ⌝ }
+    ensures { λ _. ⌜ now (out .exit) ≡ sets (now (out .entry)) at (Encoding.answerCoordBytes (record { coord = p; origin = origin })) ⌝ }
 {
     put_coord(out, at, p);
     put_count(out, at + COORD, origin as usize);
@@ -47,20 +47,19 @@ fn put_vertex(out: &mut [u8], at: usize, p: Coord, origin: u16)
 // Writes the n coordinates at the front of a slice, their count first and behind each its origin, and answers where the next thing is
 // written.
 pub fn put_ring(ring: &[f64], origins: &[u16], n: usize, out: &mut [u8], at: usize) -> usize
-    requires { ⌜ (2 * n ≤ length (now ring)) × (n ≤ length (now origins)) × (at + 2 + coordinateBytes * n ≤ length (now out)) ⌝ }
-    ensures { λ r. ⌜ (r ≡ at + 2 + coordinateBytes * n) × (now (out .exit) ≡ sets (now (out .entry)) at
-        (Encoding.ringBytes Encoding.vertexBytes
-        (Encoding.withOrigins (coords (take (2 * n) (now (ring .entry)))) (take n (now (origins .entry)))))) ⌝ }
+    requires { ⌜ (2 * n ≤ length (now ring)) × (n ≤ length (now origins)) × (at + 2 + answerCoordSize * n ≤ length (now out)) ⌝ }
+    ensures { λ r. ⌜ (r ≡ at + 2 + answerCoordSize * n) × (now (out .exit) ≡ sets (now (out .entry)) at
+        (Encoding.ringBytes Encoding.answerCoordBytes (Contracts.frontAnswerCoords (now (ring .entry)) (now (origins .entry)) n))) ⌝ }
 {
     put_count(out, at, n);
     let first = at + COUNT;
     let mut i = 0usize;
     while i < n {
         let p = coord_at(ring, i);
-        put_vertex(out, first + VERTEX * i, p, origins[i]);
+        put_answer_coord(out, first + ANSWER_COORD * i, p, origins[i]);
         i += 1;
     }
-    first + VERTEX * n
+    first + ANSWER_COORD * n
 }
 
 // The header is written when the parts behind it are known.

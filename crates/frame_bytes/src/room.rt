@@ -6,8 +6,8 @@ ghost use Rattle.rings.specs.LentRings.{total, ringRoom, mostRings};
 ghost use Rattle.frame_bytes.specs.Contracts as Contracts;
 ghost use Rattle.frame_bytes.specs.Frame as Frames;
 ghost use Rattle.frame_bytes.specs.Room as OutputRoom;
+use super::encode::ANSWER_COORD;
 use super::encode::PART;
-use super::encode::VERTEX;
 use super::head::HEAD;
 use super::head::PART_COUNT;
 use super::reader::FrameCheck;
@@ -66,13 +66,13 @@ fn rings_room(frame: &[u8], start: usize, rings: usize) -> MeasuredRoom
 // The room, in bytes, of the part at `at`.
 fn part_room(frame: &[u8], at: usize) -> MeasuredRoom
     requires { ⌜ (at ≤ length (now frame)) × Contracts.Accepted (Frames.readPart (drop at (now frame))) ⌝ }
-    ensures { λ r. ⌜ r ≡ Contracts.measuredRoom (length (now (frame .entry))) (OutputRoom.partRoom OutputRoom.coordinateBytes)
+    ensures { λ r. ⌜ r ≡ Contracts.measuredRoom (length (now (frame .entry))) (OutputRoom.partRoom OutputRoom.answerCoordSize)
         (Frames.readPart (drop at (now (frame .entry)))) ⌝ }
 {
     let rings = count_at(frame, at);
     let cut = rings_room(frame, at + COUNT, rings);
     MeasuredRoom {
-        room: CUT_PART + COUNT * rings + VERTEX * cut.room,
+        room: CUT_PART + COUNT * rings + ANSWER_COORD * cut.room,
         next: cut.next,
     }
 }
@@ -80,7 +80,7 @@ fn part_room(frame: &[u8], at: usize) -> MeasuredRoom
 // The room, in bytes, of an answer to the frame.
 pub fn frame_room(frame: &[u8]) -> usize
     requires { ⌜ Contracts.Accepted (Frames.readFrame (now frame)) ⌝ }
-    ensures { λ r. ⌜ r ≡ Contracts.frameRoom OutputRoom.coordinateBytes (Frames.readFrame (now (frame .entry))) ⌝ }
+    ensures { λ r. ⌜ r ≡ Contracts.frameRoom OutputRoom.answerCoordSize (Frames.readFrame (now (frame .entry))) ⌝ }
 {
     let mut room = LEAST_ROOM;
     let mut at = HEAD;

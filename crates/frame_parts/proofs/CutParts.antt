@@ -27,10 +27,9 @@ use Rattle.clip.specs.Origins.{exteriorOrigins, cutOrigins}
 use Rattle.clip.specs.Contracts.{ExteriorRoom, RingOriginRoom}
 use Rattle.clip.proofs.Cuts.{cut-fits-room, exterior-origins-length}
 use Rattle.frame_bytes.specs.Frame.{Reading, refused, read, countOf, coordsOf, readPart}
-use Rattle.frame_bytes.specs.Contracts.{Accepted, allIn, partAt, hugeOf}
-use Rattle.frame_bytes.specs.Room.{coordinateBytes, partRoom}
-use Rattle.frame_bytes.specs.Encoding.{each, countBytes, Vertex, vertexBytes, withOrigins, ringsWithOrigins, ringBytes}
-use Rattle.frame_bytes.proofs.Coordinates.{decoded}
+use Rattle.frame_bytes.specs.Contracts.{Accepted, allIn, partAt, hugeOf, frontAnswerCoords}
+use Rattle.frame_bytes.specs.Room.{answerCoordSize, partRoom}
+use Rattle.frame_bytes.specs.Encoding.{each, countBytes, AnswerCoord, answerCoordBytes, ringsWithOrigins, ringBytes}
 use Rattle.frame_bytes.proofs.Writing.{sets-before, each-append, length-count, length-with, length-ring}
 use Rattle.frame_bytes.proofs.PartRings.{part-rings, exteriorAt, holesAt, first-ring, part-here}
 use Rattle.frame_parts.specs.declared.RingCursor.{RingCursor}
@@ -52,7 +51,7 @@ unfolding cutRings cutOrigins ringsWithOrigins
 rings-first b r rings = refl
 
 -- where the exterior is not empty it is written first
-unless-some : (c : List Vertex) (l : List (List Vertex)) → 0 < length c → c ∷ l ≡ unlessNone c [] ++ l
+unless-some : (c : List AnswerCoord) (l : List (List AnswerCoord)) → 0 < length c → c ∷ l ≡ unlessNone c [] ++ l
 unless-some [] l h = absurd (omega arith)
 unless-some (p ∷ c) l h = refl
 
@@ -74,10 +73,10 @@ module _ (bounds : TileBounds) (frame : List ℕ) (at m : ℕ) (lent : Lengths) 
   origins-here : take m b-origins ≡ exteriorOrigins bounds (exteriorAt frame at)
   origins-here = rw here at (stands .ring-origins)
 
-  output-here : to + partRoom coordinateBytes (exteriorAt frame at ∷ holesAt frame at) ≤ out
+  output-here : to + partRoom answerCoordSize (exteriorAt frame at ∷ holesAt frame at) ≤ out
   output-here = rw here at (room .output)
 
-  pub exterior-put : (2 * m ≤ length b) × (m ≤ length b-origins) × (to + 6 + 2 + coordinateBytes * m ≤ out)
+  pub exterior-put : (2 * m ≤ length b) × (m ≤ length b-origins) × (to + 6 + 2 + answerCoordSize * m ≤ out)
   unfolding partRoom total
   exterior-put = (
     stands-fits stands-here,
@@ -85,7 +84,7 @@ module _ (bounds : TileBounds) (frame : List ℕ) (at m : ℕ) (lent : Lengths) 
     omega (arith, stands-here .count, cut-fits-room bounds (exteriorAt frame at), output-here),
   )
 
-  pub exterior-ring : withOrigins (coords (take (2 * m) b)) (take m b-origins) ≡ exteriorVertices bounds (exteriorAt frame at)
+  pub exterior-ring : frontAnswerCoords b b-origins m ≡ exteriorVertices bounds (exteriorAt frame at)
   exterior-ring = rw (stands-front stands-here, origins-here)
 
   module _ (p r : RingCursor) (o o′ : List ℕ) (put : PutRings (unlessNone (exteriorVertices bounds (exteriorAt frame at)) []) p o r o′)
@@ -133,11 +132,11 @@ module _ (index : ℕ) (b : TileBounds) (rings : List (List Coord)) where
   abbrev ringCount : List ℕ
   ringCount = countBytes (length (cutRings b rings))
 
-  whole-bytes : partBytes (cutPart index b rings) ≡ (cutHead ++ ringCount) ++ each (ringBytes vertexBytes) (cutVertices b rings)
+  whole-bytes : partBytes (cutPart index b rings) ≡ (cutHead ++ ringCount) ++ each (ringBytes answerCoordBytes) (cutVertices b rings)
   unfolding partBytes
   whole-bytes =
-      sym (append-assoc cutHead ringCount (each (ringBytes vertexBytes) (cutVertices b rings))
-      ∙ append-assoc (countBytes index) (4 ∷ 0 ∷ []) (ringCount ++ each (ringBytes vertexBytes) (cutVertices b rings)))
+      sym (append-assoc cutHead ringCount (each (ringBytes answerCoordBytes) (cutVertices b rings))
+      ∙ append-assoc (countBytes index) (4 ∷ 0 ∷ []) (ringCount ++ each (ringBytes answerCoordBytes) (cutVertices b rings)))
 
   head-length : length (cutHead ++ ringCount) ≡ 6
   head-length =
@@ -149,12 +148,12 @@ module _ (index : ℕ) (b : TileBounds) (rings : List (List Coord)) where
         length-count (length (cutRings b rings)),
       )
 
-  pub part-bytes : length (partBytes (cutPart index b rings)) ≡ 6 + length (each (ringBytes vertexBytes) (cutVertices b rings))
+  part-bytes : length (partBytes (cutPart index b rings)) ≡ 6 + length (each (ringBytes answerCoordBytes) (cutVertices b rings))
   part-bytes =
       omega (
         arith,
         ap length whole-bytes,
-        length-append (cutHead ++ ringCount) (each (ringBytes vertexBytes) (cutVertices b rings)),
+        length-append (cutHead ++ ringCount) (each (ringBytes answerCoordBytes) (cutVertices b rings)),
         head-length,
       )
 
@@ -177,7 +176,7 @@ module _ (index : ℕ) (b : TileBounds) (rings : List (List Coord)) where
           ← sets-append o₁ to cutHead ringCount,
           put .output,
           s,
-          sets-before o to (cutHead ++ ringCount) (each (ringBytes vertexBytes) (cutVertices b rings)),
+          sets-before o to (cutHead ++ ringCount) (each (ringBytes answerCoordBytes) (cutVertices b rings)),
           ← whole-bytes,
         )
 
@@ -188,7 +187,7 @@ pub some-rings : (frame : List ℕ) (at : ℕ) → at ≤ length frame → Accep
 some-rings frame at h a = rw (part-here frame at h a) (omega arith)
 
 -- so that the room of a part, without a coordinate, is that of its overlay
-pub overlay-room : (rings : List (List Coord)) (out to : ℕ) → 0 < length rings → to + partRoom coordinateBytes rings ≤ out → to + 8 ≤ out
+pub overlay-room : (rings : List (List Coord)) (out to : ℕ) → 0 < length rings → to + partRoom answerCoordSize rings ≤ out → to + 8 ≤ out
 unfolding partRoom
 overlay-room rings out to some h = omega (arith, h)
 
@@ -253,17 +252,17 @@ overlay-part index b rings reason = go (anyHugeRing rings)
 
 -- ---- the room of a part's bytes
 
-holes-bytes : (b : TileBounds) (rings : List (List Coord)) → length (each (ringBytes vertexBytes) (holesVertices b rings))
-    ≤ 2 * length rings + coordinateBytes * total ringRoom rings
+holes-bytes : (b : TileBounds) (rings : List (List Coord)) → length (each (ringBytes answerCoordBytes) (holesVertices b rings))
+    ≤ 2 * length rings + answerCoordSize * total ringRoom rings
 unfolding cutHoles ringsWithOrigins each total
 holes-bytes b [] = omega arith
 holes-bytes b (r ∷ rings) =
-    let f = ringBytes vertexBytes in
+    let f = ringBytes answerCoordBytes in
     let c = holeVertices b r in
     let l = holesVertices b rings in
     omega (
       arith,
-      ap (λ (x : List (List Vertex)). length (each f x)) (holes-first b r rings ∙ unless-append c l),
+      ap (λ (x : List (List AnswerCoord)). length (each f x)) (holes-first b r rings ∙ unless-append c l),
       ap length (each-append f (unlessNone c []) l),
       length-append (each f (unlessNone c [])) (each f l),
       unless-bytes c,
@@ -271,15 +270,15 @@ holes-bytes b (r ∷ rings) =
       holes-bytes b rings,
     )
 
-rings-bytes : (b : TileBounds) (rings : List (List Coord)) → length (each (ringBytes vertexBytes) (cutVertices b rings))
-    ≤ 2 * length rings + coordinateBytes * total ringRoom rings
+rings-bytes : (b : TileBounds) (rings : List (List Coord)) → length (each (ringBytes answerCoordBytes) (cutVertices b rings))
+    ≤ 2 * length rings + answerCoordSize * total ringRoom rings
 unfolding cutRings ringsWithOrigins each total
 rings-bytes b [] = omega arith
 rings-bytes b (r ∷ rings) =
-    let f = ringBytes vertexBytes in
+    let f = ringBytes answerCoordBytes in
     omega (
       arith,
-      ap (λ (x : List (List Vertex)). length (each f x)) (rings-first b r rings),
+      ap (λ (x : List (List AnswerCoord)). length (each f x)) (rings-first b r rings),
       length-append (f (exteriorVertices b r)) (each f (holesVertices b rings)),
       length-ring (exteriorVertices b r),
       exterior-fits b r,
@@ -287,7 +286,7 @@ rings-bytes b (r ∷ rings) =
     )
 
 -- what is not cut and wants no overlay has four bytes
-pub four-bytes : (index : ℕ) (number reason : ℕ) → length (countBytes index ++ (number ∷ reason ∷ [])) ≡ 4
+four-bytes : (index : ℕ) (number reason : ℕ) → length (countBytes index ++ (number ∷ reason ∷ [])) ≡ 4
 four-bytes index number reason = omega (arith, length-append (countBytes index) (number ∷ reason ∷ []), length-count index)
 
 pub uncut-length : (part : Part) → partEnd (part .outcome) (part .origins) ≡ [] → length (partBytes part) ≡ 4
@@ -296,7 +295,7 @@ uncut-length part e = rw e (four-bytes (part .index) _ _)
 
 -- of a part that has a ring, whatever becomes of it
 module _ (index : ℕ) (b : TileBounds) (rings : List (List Coord)) (some : 0 < length rings) where
-  pub bytes-fit : (route : Route) → length (partBytes (routedPart index route b rings)) ≤ partRoom coordinateBytes rings
+  pub bytes-fit : (route : Route) → length (partBytes (routedPart index route b rings)) ≤ partRoom answerCoordSize rings
   unfolding partRoom overlayOrDropped
   bytes-fit Routes.Nothing = omega (arith, uncut-length (routedPart index Routes.Nothing b rings) refl)
   bytes-fit Routes.Unchanged = omega (arith, uncut-length (routedPart index Routes.Unchanged b rings) refl)
@@ -304,7 +303,7 @@ module _ (index : ℕ) (b : TileBounds) (rings : List (List Coord)) (some : 0 < 
   bytes-fit (Routes.Overlay reason) = go (anyHugeRing rings)
     where
       go : (t : Bool) → length (partBytes (partOf index b rings (cond t Polygon.dropped (Polygon.overlay reason))))
-          ≤ 6 + 2 * length rings + coordinateBytes * total ringRoom rings
+          ≤ 6 + 2 * length rings + answerCoordSize * total ringRoom rings
       go true = omega (arith, uncut-length (uncutPart index Polygon.dropped) refl)
       go false = omega (arith, overlay-length index reason)
 

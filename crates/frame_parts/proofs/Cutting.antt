@@ -24,9 +24,9 @@ use Rattle.clip.specs.Origins.{holeOrigins, holesOrigins}
 use Rattle.clip.specs.Contracts.{RingRoom, RingOriginRoom}
 use Rattle.clip.proofs.Cuts.{hole-fits-room, hole-origins-length}
 use Rattle.frame_bytes.specs.Frame.{countOf, coordsOf, readMany}
-use Rattle.frame_bytes.specs.Contracts.{ringsFrom}
-use Rattle.frame_bytes.specs.Room.{coordinateBytes}
-use Rattle.frame_bytes.specs.Encoding.{each, Vertex, vertexBytes, withOrigins, ringsWithOrigins, ringBytes}
+use Rattle.frame_bytes.specs.Contracts.{ringsFrom, frontAnswerCoords}
+use Rattle.frame_bytes.specs.Room.{answerCoordSize}
+use Rattle.frame_bytes.specs.Encoding.{each, AnswerCoord, answerCoordBytes, withOrigins, ringsWithOrigins, ringBytes}
 use Rattle.frame_bytes.proofs.Coordinates.{length-coordsOf, decoded}
 use Rattle.frame_bytes.proofs.Writing.{each-append, length-with, length-ring}
 use Rattle.frame_bytes.proofs.PartRings.{NextRing, next-ring}
@@ -117,10 +117,10 @@ pub unless-append : {A : Type 0} (c : List A) (l : List (List A)) → unlessNone
 unless-append [] l = refl
 unless-append (p ∷ c) l = refl
 
-pub unless-bytes : (c : List Vertex) → length (each (ringBytes vertexBytes) (unlessNone c [])) ≤ 2 + coordinateBytes * length c
+pub unless-bytes : (c : List AnswerCoord) → length (each (ringBytes answerCoordBytes) (unlessNone c [])) ≤ 2 + answerCoordSize * length c
 unfolding each
 unless-bytes [] = omega arith
-unless-bytes (p ∷ c) = omega (arith, length-append (ringBytes vertexBytes (p ∷ c)) [], length-ring (p ∷ c))
+unless-bytes (p ∷ c) = omega (arith, length-append (ringBytes answerCoordBytes (p ∷ c)) [], length-ring (p ∷ c))
 
 pub unless-count : {A : Type 0} (c : List A) → length (unlessNone c []) ≤ 1
 unless-count [] = omega arith
@@ -146,23 +146,23 @@ pub hole-fits : (b : TileBounds) (r : List Coord) → length (holeVertices b r) 
 hole-fits b r = omega (arith, length-with (cutHole b r) (holeOrigins b r), hole-fits-room b r)
 
 -- all that is to be written, from one state and from another
-pub record Ahead (rings : List (List Vertex)) (at : RingCursor) (out : List ℕ) (rings′ : List (List Vertex)) (at′ : RingCursor)
+pub record Ahead (rings : List (List AnswerCoord)) (at : RingCursor) (out : List ℕ) (rings′ : List (List AnswerCoord)) (at′ : RingCursor)
     (out′ : List ℕ) : Type 0 where
-  pub output : sets out (at .next) (each (ringBytes vertexBytes) rings) ≡ sets out′ (at′ .next) (each (ringBytes vertexBytes) rings′)
-  pub next : at .next + length (each (ringBytes vertexBytes) rings) ≡ at′ .next + length (each (ringBytes vertexBytes) rings′)
+  pub output : sets out (at .next) (each (ringBytes answerCoordBytes) rings) ≡ sets out′ (at′ .next) (each (ringBytes answerCoordBytes) rings′)
+  pub next : at .next + length (each (ringBytes answerCoordBytes) rings) ≡ at′ .next + length (each (ringBytes answerCoordBytes) rings′)
   pub counts : at .rings + length rings ≡ at′ .rings + length rings′
 
-pub ahead-start : (rings : List (List Vertex)) (at : RingCursor) (out : List ℕ) → Ahead rings at out rings at out
+pub ahead-start : (rings : List (List AnswerCoord)) (at : RingCursor) (out : List ℕ) → Ahead rings at out rings at out
 ahead-start rings at out = record { output = refl; next = refl; counts = refl }
 
-pub ahead-then : {x y z : List (List Vertex)} {p q r : RingCursor} {o o′ o″ : List ℕ} → Ahead x p o y q o′ → Ahead y q o′ z r o″
+pub ahead-then : {x y z : List (List AnswerCoord)} {p q r : RingCursor} {o o′ o″ : List ℕ} → Ahead x p o y q o′ → Ahead y q o′ z r o″
     → Ahead x p o z r o″
 ahead-then f g = record { output = f .output ∙ g .output; next = f .next ∙ g .next; counts = f .counts ∙ g .counts }
 
-pub ahead-put : (x l : List (List Vertex)) (at : RingCursor) (out : List ℕ) (r : RingCursor) (out′ : List ℕ) → PutRings x at out r out′
+ahead-put : (x l : List (List AnswerCoord)) (at : RingCursor) (out : List ℕ) (r : RingCursor) (out′ : List ℕ) → PutRings x at out r out′
     → Ahead (x ++ l) at out l r out′
 ahead-put x l at out r out′ p =
-    let f = ringBytes vertexBytes in
+    let f = ringBytes answerCoordBytes in
     let e = each-append f x l in
     let n = length-append (each f x) (each f l) in
     record {
@@ -172,13 +172,13 @@ ahead-put x l at out r out′ p =
     }
 
 -- nothing is left past the last ring
-pub ahead-none : (x : List (List Vertex)) (at : RingCursor) (out : List ℕ) (r : RingCursor) (out′ : List ℕ) → Ahead x at out [] r out′
+pub ahead-none : (x : List (List AnswerCoord)) (at : RingCursor) (out : List ℕ) (r : RingCursor) (out′ : List ℕ) → Ahead x at out [] r out′
     → PutRings x at out r out′
 unfolding each
 ahead-none x at out r out′ f =
     record { output = sym (f .output); next-after = omega (arith, f .next); rings-after = omega (arith, f .counts) }
 
-pub put-then : (x y : List (List Vertex)) (p q r : RingCursor) (o o′ o″ : List ℕ) → PutRings x p o q o′ → PutRings y q o′ r o″
+pub put-then : (x y : List (List AnswerCoord)) (p q r : RingCursor) (o o′ o″ : List ℕ) → PutRings x p o q o′ → PutRings y q o′ r o″
     → PutRings (x ++ y) p o r o″
 put-then x y p q r o o′ o″ f g =
     let n = ahead-put x y p o q o′ f in
@@ -205,10 +205,10 @@ module _ (bounds : TileBounds) (frame : List ℕ) (at k : ℕ) (lent : Lengths) 
   pub hole-whole : at + 2 + 16 * countOf (drop at frame) ≤ length frame
   hole-whole = hole .whole
 
-  pub working-here : Working (ringHere ∷ rest) lent
+  working-here : Working (ringHere ∷ rest) lent
   working-here = rw (hole .here) at (room .working)
 
-  output-here : p .next + (2 * length (ringHere ∷ rest) + coordinateBytes * total ringRoom (ringHere ∷ rest)) ≤ out
+  output-here : p .next + (2 * length (ringHere ∷ rest) + answerCoordSize * total ringRoom (ringHere ∷ rest)) ≤ out
   output-here = rw (hole .here) at (room .output)
 
   -- read into a slice, it can be cut
@@ -238,7 +238,7 @@ module _ (bounds : TileBounds) (frame : List ℕ) (at k : ℕ) (lent : Lengths) 
     origins-here : take m origins ≡ holeOrigins bounds ringHere
     origins-here = rw read-here at os
 
-    pub cut-put : (2 * m ≤ length after) × (m ≤ length origins) × (p .next + 2 + coordinateBytes * m ≤ out)
+    pub cut-put : (2 * m ≤ length after) × (m ≤ length origins) × (p .next + 2 + answerCoordSize * m ≤ out)
     unfolding total
     cut-put = (
       stands-fits stands-here,
@@ -246,7 +246,7 @@ module _ (bounds : TileBounds) (frame : List ℕ) (at k : ℕ) (lent : Lengths) 
       omega (arith, stands-here .count, hole-fits-room bounds ringHere, output-here),
     )
 
-    pub cut-ring : withOrigins (coords (take (2 * m) after)) (take m origins) ≡ holeVertices bounds ringHere
+    pub cut-ring : frontAnswerCoords after origins m ≡ holeVertices bounds ringHere
     cut-ring = rw (stands-front stands-here, origins-here)
 
   module _ (o : List ℕ) (r : RingCursor) (o′ : List ℕ) (put : PutRings (unlessNone (holeVertices bounds ringHere) []) p o r o′) where
@@ -272,18 +272,18 @@ holes-end bounds frame at (suc k) h = absurd (omega arith)
 
 -- ---- one ring written, or none
 
-pub none-rings : (at : RingCursor) (out : List ℕ) (c : List Vertex) → length c ≡ 0 → PutRings (unlessNone c []) at out at out
+pub none-rings : (at : RingCursor) (out : List ℕ) (c : List AnswerCoord) → length c ≡ 0 → PutRings (unlessNone c []) at out at out
 unfolding each
 none-rings at out [] h = record { output = refl; next-after = omega arith; rings-after = omega arith }
 none-rings at out (p ∷ c) h = absurd (omega arith)
 
-pub one-ring : (at : RingCursor) (out out′ : List ℕ) (next : ℕ) (c : List Vertex) → 0 < length c
-    → out′ ≡ sets out (at .next) (ringBytes vertexBytes c) → next ≡ at .next + 2 + coordinateBytes * length c
+pub one-ring : (at : RingCursor) (out out′ : List ℕ) (next : ℕ) (c : List AnswerCoord) → 0 < length c
+    → out′ ≡ sets out (at .next) (ringBytes answerCoordBytes c) → next ≡ at .next + 2 + answerCoordSize * length c
     → PutRings (unlessNone c []) at out (record { rings = at .rings + 1; next = next }) out′
 unfolding each
 one-ring at out out′ next [] h e f = absurd (omega arith)
 one-ring at out out′ next (p ∷ c) h e f = record {
-  output = e ∙ rw (append-nil (ringBytes vertexBytes (p ∷ c)));
-  next-after = omega (arith, length-append (ringBytes vertexBytes (p ∷ c)) [], length-ring (p ∷ c));
+  output = e ∙ rw (append-nil (ringBytes answerCoordBytes (p ∷ c)));
+  next-after = omega (arith, length-append (ringBytes answerCoordBytes (p ∷ c)) [], length-ring (p ∷ c));
   rings-after = refl;
 }

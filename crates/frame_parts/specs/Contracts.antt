@@ -19,8 +19,8 @@ use Rattle.clip.specs.declared.polygon.Route.{Route}
 use Rattle.clip.specs.Polygon as Polygon
 use Rattle.clip.specs.Origins as Origins
 use Rattle.frame_bytes.specs.Frame.{mostInRing, readRing, readMany, readPart}
-use Rattle.frame_bytes.specs.Room.{coordinateBytes, partRoom}
-use Rattle.frame_bytes.specs.Encoding.{each, Vertex, vertexBytes, withOrigins, ringsWithOrigins, ringBytes}
+use Rattle.frame_bytes.specs.Room.{answerCoordSize, partRoom}
+use Rattle.frame_bytes.specs.Encoding.{each, AnswerCoord, answerCoordBytes, withOrigins, ringsWithOrigins, ringBytes}
 use Rattle.frame_bytes.specs.Contracts.{Accepted, ringsFrom, partAt}
 use Rattle.frame_parts.specs.declared.PartAnswer.{PartAnswer}
 use Rattle.frame_parts.specs.declared.PartAnswer.the-variants as PartAnswers
@@ -68,22 +68,22 @@ abbrev pub partAnswer : ℕ → Part → PartAnswer
 partAnswer to part = answerOfOutcome (to + length (partBytes part)) (part .outcome)
 
 -- the rings of a cut, each coordinate with its origin: the exterior, a hole, all holes, and all rings
-abbrev pub exteriorVertices : TileBounds → List Coord → List Vertex
+abbrev pub exteriorVertices : TileBounds → List Coord → List AnswerCoord
 exteriorVertices b r = withOrigins (Polygon.cutExterior b r) (Origins.exteriorOrigins b r)
 
-abbrev pub holeVertices : TileBounds → List Coord → List Vertex
+abbrev pub holeVertices : TileBounds → List Coord → List AnswerCoord
 holeVertices b r = withOrigins (Polygon.cutHole b r) (Origins.holeOrigins b r)
 
-abbrev pub holesVertices : TileBounds → List (List Coord) → List (List Vertex)
+abbrev pub holesVertices : TileBounds → List (List Coord) → List (List AnswerCoord)
 holesVertices b rings = ringsWithOrigins (Polygon.cutHoles b rings) (Origins.holesOrigins b rings)
 
-abbrev pub cutVertices : TileBounds → List (List Coord) → List (List Vertex)
+abbrev pub cutVertices : TileBounds → List (List Coord) → List (List AnswerCoord)
 cutVertices b rings = ringsWithOrigins (Polygon.cutRings b rings) (Origins.cutOrigins b rings)
 
 -- rings were written behind those that stood there, and the cursor stands behind them
-pub record PutRings (rings : List (List Vertex)) (at : RingCursor) (out : List ℕ) (r : RingCursor) (out′ : List ℕ) : Type 0 where
-  pub output : out′ ≡ sets out (at .next) (each (ringBytes vertexBytes) rings)
-  pub next-after : r .next ≡ at .next + length (each (ringBytes vertexBytes) rings)
+pub record PutRings (rings : List (List AnswerCoord)) (at : RingCursor) (out : List ℕ) (r : RingCursor) (out′ : List ℕ) : Type 0 where
+  pub output : out′ ≡ sets out (at .next) (each (ringBytes answerCoordBytes) rings)
+  pub next-after : r .next ≡ at .next + length (each (ringBytes answerCoordBytes) rings)
   pub rings-after : r .rings ≡ at .rings + length rings
 
 -- ---- the working slices
@@ -117,14 +117,14 @@ pub record RingsRoom (frame : List ℕ) (at k : ℕ) (lent : Lengths) (out : ℕ
   pub within : at ≤ length frame
   pub accepted : Accepted (readMany readRing k (drop at frame))
   pub working : Working (ringsFrom frame at k) lent
-  pub output : placed .next + (2 * length (ringsFrom frame at k) + coordinateBytes * total ringRoom (ringsFrom frame at k)) ≤ out
+  pub output : placed .next + (2 * length (ringsFrom frame at k) + answerCoordSize * total ringRoom (ringsFrom frame at k)) ≤ out
 
 -- the frame has a part at position `at`, its rings can be cut, and it has room in the output from position `to` on
 pub record PartRoom (frame : List ℕ) (at : ℕ) (lent : Lengths) (out to : ℕ) : Type 0 where
   pub within : at ≤ length frame
   pub accepted : Accepted (readPart (drop at frame))
   pub working : Working (partAt frame at) lent
-  pub output : to + partRoom coordinateBytes (partAt frame at) ≤ out
+  pub output : to + partRoom answerCoordSize (partAt frame at) ≤ out
 
 -- the sweep has room for the positions of each ring of the part, cut or not
 abbrev pub PositionsRoom : List (List Coord) → ℕ → Type 0

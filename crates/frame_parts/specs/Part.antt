@@ -7,7 +7,7 @@ use Rattle.tile.specs.declared.TileBounds.{TileBounds}
 use Rattle.clip.specs.Polygon as Polygon
 use Rattle.clip.specs.Polygon.{answerOf, told, reasonDetail}
 use Rattle.clip.specs.Origins.{routedOrigins}
-use Rattle.frame_bytes.specs.Encoding.{each, countBytes, vertexBytes, ringsWithOrigins, ringBytes}
+use Rattle.frame_bytes.specs.Encoding.{each, countBytes, answerCoordBytes, ringsWithOrigins, ringBytes}
 
 -- its number in the frame, "index from 0", what becomes of it, and the origins of its rings where it is cut
 pub record Part : Type 0 where
@@ -26,7 +26,7 @@ abbrev pub partEnd : Polygon.Routed → List (List ℕ) → List ℕ
 partEnd Polygon.nothing origins = []
 partEnd Polygon.dropped origins = []
 partEnd Polygon.unchanged origins = []
-partEnd (Polygon.cut rings) origins = countBytes (length rings) ++ each (ringBytes vertexBytes) (ringsWithOrigins rings origins)
+partEnd (Polygon.cut rings) origins = countBytes (length rings) ++ each (ringBytes answerCoordBytes) (ringsWithOrigins rings origins)
 partEnd (Polygon.overlay reason) origins = countBytes (reasonDetail reason .first) ++ countBytes (reasonDetail reason .second)
 
 -- "A listed part: index from 0, 2 bytes; 1 byte (2 unchanged, 4 cut, 5 overlay); reason, 1 byte, 0 unless overlay"

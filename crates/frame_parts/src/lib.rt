@@ -2,14 +2,12 @@
 ghost use mathlib.Core.Path.{_≡_};
 ghost use mathlib.Core.List.{[]};
 ghost use Prim.Native.Nat.{_+_, _*_, _≤_};
-ghost use lib.ListN.{length, take, drop};
+ghost use lib.ListN.{length, drop};
 ghost use lib.Seq.{sets};
-ghost use Rattle.tile.specs.Ring.{coords};
 ghost use Rattle.rings.specs.LentRings.{exterior, mostRings};
 ghost use Rattle.clip.specs.Contracts as ClipContracts;
 ghost use Rattle.clip.specs.Polygon as Polygon;
 ghost use Rattle.frame_bytes.specs.Contracts as FrameBytesContracts;
-ghost use Rattle.frame_bytes.specs.Encoding as Encoding;
 ghost use Rattle.frame_bytes.specs.Frame as Frames;
 ghost use Rattle.frame_bytes.specs.Room as OutputRoom;
 ghost use Rattle.frame_parts.specs.Contracts as Contracts;
@@ -58,9 +56,9 @@ fn put_cut_ring(
     at: RingCursor,
 ) -> RingCursor
     requires { ⌜ (2 * n ≤ length (now ring)) × (n ≤ length (now origins))
-        × (at .next + 2 + OutputRoom.coordinateBytes * n ≤ length (now out)) × (at .rings ≤ mostRings) ⌝ }
-    ensures { λ r. ⌜ Contracts.PutRings (Polygon.unlessNone
-        (Encoding.withOrigins (coords (take (2 * n) (now (ring .entry)))) (take n (now (origins .entry)))) []) at (now (out .entry)) r
+        × (at .next + 2 + OutputRoom.answerCoordSize * n ≤ length (now out)) × (at .rings ≤ mostRings) ⌝ }
+    ensures { λ r. ⌜ Contracts.PutRings
+        (Polygon.unlessNone (FrameBytesContracts.frontAnswerCoords (now (ring .entry)) (now (origins .entry)) n) []) at (now (out .entry)) r
         (now (out .exit)) ⌝ }
 {
     if n == 0 {

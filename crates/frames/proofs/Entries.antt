@@ -14,7 +14,6 @@ use Rattle.binary64.specs.Lists.{Every}
 use Rattle.tile.specs.declared.Coord.{Coord}
 use Rattle.tile.specs.declared.TileBounds.{TileBounds}
 use Rattle.box_pairs.specs.Issue.{issueOf, hasIssue}
-use Rattle.sutherland_hodgman.specs.Growth.{B}
 use Rattle.rings.specs.declared.rectangle.Rect.{Rect}
 use Rattle.rings.specs.declared.rectangle.Rect.the-variants as Rects
 use Rattle.rings.specs.Rectangle.{rectangle, withRings, intersectsBounds, isFullyInside, withParts}
@@ -24,10 +23,10 @@ use Rattle.clip.specs.Polygon as Polygon
 use Rattle.frame_bytes.specs.declared.head.Head.{Head}
 use Rattle.frame_bytes.specs.declared.reader.FrameRefusal.{FrameRefusal}
 use Rattle.frame_bytes.specs.declared.reader.FrameCheck.the-variants.{Fails}
-use Rattle.frame_bytes.specs.Frame.{Reading, refused, read, polygonKind, multipolygonKind, longest, mostParts, mostInRing, headBytes}
+use Rattle.frame_bytes.specs.Frame.{Reading, refused, read, polygonKind, multipolygonKind, longest, mostParts, headBytes}
 use Rattle.frame_bytes.specs.Frame.{countOf, readRing, readPart, Frame, kindOf, partCountOf, wrongKind, wrongPartCount, headOf, readFrame}
 use Rattle.frame_bytes.specs.Contracts.{checkOf, Accepted, allIn, partAt, frameRoom, frameRect, soundIfSimple}
-use Rattle.frame_bytes.specs.Room.{leastRoom, coordinateBytes, partRoom, outputRoom, readCall}
+use Rattle.frame_bytes.specs.Room.{leastRoom, answerCoordSize, partRoom, outputRoom, readCall}
 use Rattle.frame_bytes.specs.Encoding.{each, headerBytes}
 use Rattle.frame_bytes.proofs.Readings.{taken, many-length, many-every, part-read, frame-read}
 use Rattle.frame_bytes.proofs.Rooms.{mostPart, parts-le, frame-head, frame-few, frame-parts, call-read}
@@ -37,7 +36,7 @@ use Rattle.frame_parts.specs.Part.{Part, partOf, partBytes}
 use Rattle.frame_parts.specs.Contracts.{routedPart, measuredPart, Lengths, PartRoom, PositionsRoom}
 use Rattle.frame_parts.proofs.CutParts.{bytes-fit}
 use Rattle.frames.specs.declared.entry.FrameAnswer.the-variants.{Refused, Answered}
-use Rattle.frames.specs.Answer.{Answer, Nothing, Dropped, Unchanged, Listed, ofOutcome, ofPolygon, routePart, listedBefore, listParts}
+use Rattle.frames.specs.Answer.{Answer, Nothing, Unchanged, Listed, ofOutcome, ofPolygon, routePart, listedBefore, listParts}
 use Rattle.frames.specs.Answer.{ofParts, ifBox, ofMultipolygon, flagsIn, boundsIn, onlyPart, routePolygon, answerTo}
 use Rattle.frames.specs.Output.{answerBytes, frameBytes, outputOf, frameCallOutput}
 use Rattle.frames.specs.Contracts.{partsFrom, ofListing, Answers, partsOf, answerRead, answerMeasured, unchangedAtOnce}
@@ -69,7 +68,7 @@ pub record Holds (frame : List ℕ) : Type 0 where
   pub long : length frame ≤ longest
   pub parts-from : partsFrom frame headBytes (partCountOf frame) ≡ partsOf (readFrame frame)
   pub rect : frameRect (readFrame frame) ≡ withParts Rects.Nothing (partsOf (readFrame frame))
-  pub fits : frameRoom coordinateBytes (readFrame frame) ≡ leastRoom + total (partRoom coordinateBytes) (partsOf (readFrame frame))
+  pub fits : frameRoom answerCoordSize (readFrame frame) ≡ leastRoom + total (partRoom answerCoordSize) (partsOf (readFrame frame))
   pub kinds : eqb (kindOf frame) multipolygonKind ≡ not (eqb (kindOf frame) polygonKind)
   pub only : eqb (kindOf frame) polygonKind ≡ true → partCountOf frame ≡ 1
 
@@ -290,14 +289,14 @@ parts-some l f rest e =
     many-every readPart SomeRings some-rings (partCountOf l) (drop headBytes l) (f .parts) rest (frame-read l f rest e .parts)
 
 listing-fits : (flags : Flags) (b : TileBounds) (i : ℕ) (parts : List (List (List Coord))) → Every SomeRings parts
-    → length (each partBytes (listParts flags b i parts .parts)) ≤ total (partRoom coordinateBytes) parts
+    → length (each partBytes (listParts flags b i parts .parts)) ≤ total (partRoom answerCoordSize) parts
 unfolding listParts total each
 listing-fits flags b i [] some = omega arith
 listing-fits flags b i (part ∷ parts) some =
     let f = partBytes in
     let listed = partOf i b part (routePart flags b part) in
     let l = listParts flags b (suc i) parts .parts in
-    let one : length (each f (listedBefore listed [])) ≤ partRoom coordinateBytes part = rw (← routed-as flags b part)
+    let one : length (each f (listedBefore listed [])) ≤ partRoom answerCoordSize part = rw (← routed-as flags b part)
     (listed-fits i b part (some .0) flags (rectangle part)) in
     omega (
       arith,
@@ -333,7 +332,7 @@ polygon-bytes part = go (part .outcome)
     go (Polygon.overlay reason) = listed
 
 route-fits : (flags : Flags) (rect : Rect) (b : TileBounds) (rings : List (List Coord)) → SomeRings rings
-    → length (answerBytes (ofPolygon (partOf 0 b rings (Polygon.routeRect flags rect b rings)))) ≤ 5 + partRoom coordinateBytes rings
+    → length (answerBytes (ofPolygon (partOf 0 b rings (Polygon.routeRect flags rect b rings)))) ≤ 5 + partRoom answerCoordSize rings
 unfolding Polygon.routeRect answerBytes
 route-fits flags Rects.Nothing b rings some = omega (arith, length-header 0 0 0)
 route-fits flags Rects.NotFinite b rings some = omega (arith, length-header 1 1 0)
@@ -342,19 +341,19 @@ route-fits flags (Rects.Box w s e n) b rings some =
     omega (arith, polygon-bytes (routedPart 0 to b rings), bytes-fit 0 b rings some to)
 
 polygon-fits : (flags : Flags) (b : TileBounds) (parts : List (List (List Coord))) → Every SomeRings parts
-    → length (answerBytes (ofPolygon (routePolygon flags b (onlyPart parts)))) ≤ 5 + total (partRoom coordinateBytes) parts
+    → length (answerBytes (ofPolygon (routePolygon flags b (onlyPart parts)))) ≤ 5 + total (partRoom answerCoordSize) parts
 unfolding Polygon.route Polygon.routeRect withRings total answerBytes
 polygon-fits flags b [] some = omega (arith, length-header 0 0 0)
 polygon-fits flags b (part ∷ parts) some = omega (arith, route-fits flags (rectangle part) b part (some .0))
 
 multipolygon-fits : (flags : Flags) (b : TileBounds) (parts : List (List (List Coord))) → Every SomeRings parts
-    → length (answerBytes (ofMultipolygon flags b parts)) ≤ 5 + total (partRoom coordinateBytes) parts
+    → length (answerBytes (ofMultipolygon flags b parts)) ≤ 5 + total (partRoom answerCoordSize) parts
 unfolding ofMultipolygon answerBytes
 multipolygon-fits flags b parts some =
     let whole = withParts Rects.Nothing parts in go whole (intersectsBounds whole b) (isFullyInside whole b)
   where
     go : (r : Rect) (i j : Bool) → length (answerBytes
-        (ifBox r (cond i (cond j Unchanged (ofListing (listParts flags b 0 parts))) (Nothing 0)))) ≤ 5 + total (partRoom coordinateBytes)
+        (ifBox r (cond i (cond j Unchanged (ofListing (listParts flags b 0 parts))) (Nothing 0)))) ≤ 5 + total (partRoom answerCoordSize)
         parts
     go Rects.Nothing i j = omega (arith, length-header 0 0 0)
     go Rects.NotFinite i j = omega (arith, length-header 1 1 0)
@@ -363,20 +362,20 @@ multipolygon-fits flags b parts some =
     go (Rects.Box w s e n) true false =
         omega (arith, parts-bytes (listParts flags b 0 parts .guard) (listParts flags b 0 parts .parts), listing-fits flags b 0 parts some)
 
-answer-fits : (f : Frame) → Every SomeRings (f .parts) → length (frameBytes f) ≤ outputRoom coordinateBytes (f .parts)
+answer-fits : (f : Frame) → Every SomeRings (f .parts) → length (frameBytes f) ≤ outputRoom answerCoordSize (f .parts)
 unfolding answerTo outputRoom
 answer-fits f some = go (eqb (f .head .kind) polygonKind)
   where
     go : (t : Bool) → length (answerBytes
         (cond t (ofPolygon (routePolygon (flagsIn (f .head)) (boundsIn (f .head)) (onlyPart (f .parts))))
-        (ofMultipolygon (flagsIn (f .head)) (boundsIn (f .head)) (f .parts)))) ≤ 5 + total (partRoom coordinateBytes) (f .parts)
+        (ofMultipolygon (flagsIn (f .head)) (boundsIn (f .head)) (f .parts)))) ≤ 5 + total (partRoom answerCoordSize) (f .parts)
     go true = polygon-fits (flagsIn (f .head)) (boundsIn (f .head)) (f .parts) some
     go false = multipolygon-fits (flagsIn (f .head)) (boundsIn (f .head)) (f .parts) some
 
 -- ---- the call
 
 pub call-accepts : (frame : List ℕ) (n : ℕ) → Accepted (readCall frame n) → Accepted (readFrame frame)
-    × (frameRoom coordinateBytes (readFrame frame) ≤ n)
+    × (frameRoom answerCoordSize (readFrame frame) ≤ n)
 call-accepts frame n a =
     let t = taken (readCall frame n) a in
     let c = call-read frame n (t .value) (t .rest) (t .is) in
@@ -410,6 +409,6 @@ answered-few frame out n q = go (readCall frame out) refl q
         let c = call-read frame out f rest e in
         let r = frame-read frame f rest (c .0) in
         let same : length (frameBytes f) ≡ n = cc in
-        let most : total (partRoom coordinateBytes) (f .parts) ≤ partCountOf frame * mostPart =
+        let most : total (partRoom answerCoordSize) (f .parts) ≤ partCountOf frame * mostPart =
         rw (r .parts) at (parts-le 0 (partCountOf frame) (drop headBytes frame) (frame-parts frame (rw (c .0)))) in
         omega (arith, same, answer-fits f (parts-some frame f rest (c .0)), most, r .few)

@@ -3,7 +3,7 @@
 use mathlib.Core.Path.{_≡_, refl, sym, _∙_, ap, subst}
 use mathlib.Core.Bool.{Bool, true, false, cond}
 use mathlib.Core.List.{List, [], _∷_, _++_, append-nil}
-use Prim.Native.Nat.{ℕ, zero, suc, _+_, _*_, _-_, _<_, _≤_}
+use Prim.Native.Nat.{ℕ, zero, suc, _+_, _-_, _<_, _≤_}
 use native.Mathlib.Omega.{arith}
 use borrow.Author.Tests.{eq-eqb, ne-eqb}
 use lib.Dec.{eqb}
@@ -16,17 +16,14 @@ use Rattle.tile.specs.declared.TileBounds.{TileBounds}
 use Rattle.rings.specs.declared.rectangle.Rect.{Rect}
 use Rattle.rings.specs.declared.rectangle.Rect.the-variants as Rects
 use Rattle.rings.specs.Rectangle.{rectangle, intersectsBounds, isFullyInside}
-use Rattle.rings.specs.Representable.{anyHugeRing}
-use Rattle.rings.specs.LentRings.{total, ringRoom, exterior}
+use Rattle.rings.specs.LentRings.{total, exterior}
 use Rattle.clip.specs.declared.polygon.Flags.{Flags}
-use Rattle.clip.specs.declared.polygon.Route.{Route}
 use Rattle.clip.specs.declared.polygon.Route.the-variants as Routes
 use Rattle.clip.specs.Polygon as Polygon
 use Rattle.clip.specs.Polygon.{answerOf, told}
-use Rattle.clip.proofs.Cuts.{cut-fits-room, hole-fits-room}
 use Rattle.frame_bytes.specs.Frame.{Reading, read, mostParts, readPart, readMany}
 use Rattle.frame_bytes.specs.Contracts.{Accepted, allIn, partAt, measuredOf}
-use Rattle.frame_bytes.specs.Room.{coordinateBytes, partRoom}
+use Rattle.frame_bytes.specs.Room.{answerCoordSize, partRoom}
 use Rattle.frame_bytes.specs.Encoding.{each, headerBytes}
 use Rattle.frame_bytes.proofs.Readings.{taken, part-reads}
 use Rattle.frame_bytes.proofs.Places.{step}
@@ -156,7 +153,7 @@ parts-none flags b i x l l′ out out′ f =
 -- ---- the room of a part's bytes
 
 -- where it is not listed it has none
-pub listed-length : (part : Part) → length (each partBytes (listedBefore part [])) ≤ length (partBytes part)
+listed-length : (part : Part) → length (each partBytes (listedBefore part [])) ≤ length (partBytes part)
 unfolding each
 listed-length part = go (isListed (part .outcome))
   where
@@ -165,7 +162,7 @@ listed-length part = go (isListed (part .outcome))
     go false = omega arith
 
 pub listed-fits : (i : ℕ) (b : TileBounds) (rings : List (List Coord)) → 0 < length rings → (flags : Flags) (rect : Rect)
-    → length (each partBytes (listedBefore (partAs i flags rect b rings) [])) ≤ partRoom coordinateBytes rings
+    → length (each partBytes (listedBefore (partAs i flags rect b rings) [])) ≤ partRoom answerCoordSize rings
 unfolding routePartAs
 listed-fits i b rings some flags rect = omega (
   arith,
@@ -175,7 +172,7 @@ listed-fits i b rings some flags rect = omega (
   where
     go : (s t : Bool) → length (partBytes
         (partOf i b rings (cond s (cond t Polygon.unchanged (Polygon.routeMeasured flags rect b rings)) Polygon.nothing)))
-        ≤ partRoom coordinateBytes rings
+        ≤ partRoom answerCoordSize rings
     go false t = bytes-fit i b rings some Routes.Nothing
     go true true = bytes-fit i b rings some Routes.Unchanged
     go true false = bytes-fit i b rings some (Polygon.routeExterior flags rect b (exterior rings))
@@ -220,7 +217,7 @@ module _ (flags : Flags) (bounds : TileBounds) (frame : List ℕ) (at k : ℕ) (
   pub part-next : NextPart frame at k
   part-next = next-part frame at k (room .within) h (room .accepted)
 
-  output-here : to + total (partRoom coordinateBytes) (partAt frame at ∷ partsFrom frame (nextPlace frame at) (k - 1)) ≤ out
+  output-here : to + total (partRoom answerCoordSize) (partAt frame at ∷ partsFrom frame (nextPlace frame at) (k - 1)) ≤ out
   output-here = rw (part-next .here) at (room .output)
 
   workable-here : Workable lent order (partAt frame at) × Every (Workable lent order) (partsFrom frame (nextPlace frame at) (k - 1))

@@ -32,7 +32,7 @@ use Rattle.clip.specs.Origins.{holeOrigins, holesOrigins, cutOrigins}
 use Rattle.frame_bytes.specs.declared.reader.FrameRefusal.{FrameRefusal}
 use Rattle.frame_bytes.specs.Frame.{polygonKind, multipolygonKind, Reading, refused, read, Frame, readMany, countOf, coordsOf, readCount}
 use Rattle.frame_bytes.specs.Frame.{readCoords, readRing, readPart, readParts, readFrame}
-use Rattle.frame_bytes.specs.Encoding.{each, countBytes, coordBytes, vertexBytes, withOrigins, ringsWithOrigins, ringBytes}
+use Rattle.frame_bytes.specs.Encoding.{each, countBytes, coordBytes, answerCoordBytes, withOrigins, ringsWithOrigins, ringBytes}
 use Rattle.frame_parts.specs.Part.{partBytes}
 use Rattle.frames.specs.Answer.{routePart, listParts, ofMultipolygon, answerTo}
 use Rattle.frames.specs.Output.{answerBytes, frameBytes}
@@ -106,7 +106,7 @@ overlayAt reason first second = answer (3 ∷ 0 ∷ 0 ∷ 1 ∷ 0 ∷ 0 ∷ 0 �
 
 -- "if cut, ring count and rings as above"; "Coordinates in answers are followed by 2 bytes"
 abbrev cutTo : List Coord → List ℕ → Outcome
-cutTo r origins = answer (3 ∷ 0 ∷ 0 ∷ 1 ∷ 0 ∷ 0 ∷ 0 ∷ 4 ∷ 0 ∷ 1 ∷ 0 ∷ ringBytes vertexBytes (withOrigins r origins))
+cutTo r origins = answer (3 ∷ 0 ∷ 0 ∷ 1 ∷ 0 ∷ 0 ∷ 0 ∷ 4 ∷ 0 ∷ 1 ∷ 0 ∷ ringBytes answerCoordBytes (withOrigins r origins))
 
 -- a polygon with one number of flags
 abbrev row : ℕ → List Coord → Outcome → Row

@@ -21,7 +21,7 @@ use Rattle.clip.specs.Polygon.{answerOf, told}
 use Rattle.frame_bytes.specs.declared.head.Head.{Head}
 use Rattle.frame_bytes.specs.Frame.{polygonKind, Frame, Reading, refused, read, readMany, readPart, mostParts}
 use Rattle.frame_bytes.specs.Frame.{multipolygonKind, headBytes, headOf, readFrame}
-use Rattle.frame_bytes.specs.Room.{coordinateBytes, partRoom, leastRoom}
+use Rattle.frame_bytes.specs.Room.{answerCoordSize, partRoom, leastRoom}
 use Rattle.frame_bytes.specs.Encoding.{each, headerBytes}
 use Rattle.frame_bytes.specs.Contracts.{Accepted, allIn, frameRoom, frameRect}
 use Rattle.frame_parts.specs.declared.PartAnswer.{PartAnswer}
@@ -121,7 +121,7 @@ pub record PartsRoom (frame : List ℕ) (at k : ℕ) (lent : Lengths) (order out
   pub within : at ≤ length frame
   pub accepted : Accepted (readMany readPart k (drop at frame))
   pub workable : Every (Workable lent order) (partsFrom frame at k)
-  pub output : to + total (partRoom coordinateBytes) (partsFrom frame at k) ≤ out
+  pub output : to + total (partRoom answerCoordSize) (partsFrom frame at k) ≤ out
 
 -- ---- a frame
 
@@ -162,7 +162,7 @@ pub record PartsReady (frame : List ℕ) (head : Head) (lent : Lengths) (order o
 pub record Answerable (frame : List ℕ) (head : Head) (out : ℕ) : Type 0 where
   pub accepted : Accepted (readFrame frame)
   pub head-read : head ≡ headOf frame
-  pub output : frameRoom coordinateBytes (readFrame frame) ≤ out
+  pub output : frameRoom answerCoordSize (readFrame frame) ≤ out
 
 -- such a frame without a coordinate that is NaN or infinite
 pub record Cuttable (frame : List ℕ) (head : Head) (out : ℕ) : Type 0 where

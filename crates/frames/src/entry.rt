@@ -203,7 +203,7 @@ fn answer_measured(frame: &[u8], head: Head, rect: Rect, out: &mut [u8]) -> usiz
 // Writes the answer to an accepted frame and tells how many bytes it has.
 fn answer(frame: &[u8], out: &mut [u8]) -> usize
     requires { ⌜ FrameBytesContracts.Accepted (Frames.readFrame (now frame))
-        × (FrameBytesContracts.frameRoom OutputRoom.coordinateBytes (Frames.readFrame (now frame)) ≤ length (now out)) ⌝ }
+        × (FrameBytesContracts.frameRoom OutputRoom.answerCoordSize (Frames.readFrame (now frame)) ≤ length (now out)) ⌝ }
     ensures { λ r. ⌜ Contracts.Answers (Contracts.answerRead (Frames.readFrame (now (frame .entry)))) (now (out .entry)) r
         (now (out .exit)) ⌝ }
 {

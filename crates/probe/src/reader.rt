@@ -2,7 +2,7 @@
 ghost use mathlib.Core.Path.{_≡_};
 ghost use Rattle.frame_bytes.specs.Frame.{readFrame};
 ghost use Rattle.frame_bytes.specs.Contracts.{checkOf, frameRoom};
-ghost use Rattle.frame_bytes.specs.Room.{coordinateBytes, readCall};
+ghost use Rattle.frame_bytes.specs.Room.{answerCoordSize, readCall};
 ghost use Rattle.probe.specs.Reader as Reader;
 use frame_bytes::reader::FrameCheck;
 use frame_bytes::reader::check_frame;
@@ -24,7 +24,7 @@ pub extern "C" fn probe_check_call(frame: &[u8], out: usize) -> u8
 // 0 for a frame that is refused.
 #[no_mangle]
 pub extern "C" fn probe_frame_room(frame: &[u8]) -> usize
-    ensures { λ r. ⌜ r ≡ frameRoom coordinateBytes (readFrame (now (frame .entry))) ⌝ }
+    ensures { λ r. ⌜ r ≡ frameRoom answerCoordSize (readFrame (now (frame .entry))) ⌝ }
 {
     match check_frame(frame) {
         FrameCheck::Fails(_) => 0,

@@ -1,32 +1,19 @@
 -- `put_cut_ring` meets its contract: nothing for a ring without coordinates, else its bytes. Assumes nothing.
-use mathlib.Core.Path.{_≡_, _∙_}
-use mathlib.Core.List.{List}
-use Prim.Native.Nat.{ℕ, _*_, _≤_}
+use mathlib.Core.Path.{_∙_}
 use native.Mathlib.Omega.{arith}
 use denote.Ref.{now}
-use lib.Ieee.{Float}
-use lib.ListN.{length, take}
 use borrow.Author.Needs.{needs}
-use Rattle.tile.specs.Ring.{coords}
-use Rattle.tile.proofs.Rings.{length-front}
-use Rattle.frame_bytes.specs.Encoding.{Vertex, withOrigins}
-use Rattle.frame_bytes.proofs.Writing.{length-with}
+use Rattle.frame_bytes.specs.Contracts.{frontAnswerCoords}
+use Rattle.frame_bytes.proofs.Writing.{length-vertices}
 use Rattle.frame_parts.proofs.Cutting.{none-rings, one-ring}
 use Rattle.frame_parts.proofs.put_cut_ring.Statement.{statement}
 use Rattle.frame_parts.proofs.put_cut_ring.Tie as tie
-
--- the ring with its origins
-abbrev vertices : List Float → List ℕ → ℕ → List Vertex
-vertices ring origins n = withOrigins (coords (take (2 * n) ring)) (take n origins)
-
-length-vertices : (ring : List Float) (origins : List ℕ) (n : ℕ) → 2 * n ≤ length ring → length (vertices ring origins n) ≡ n
-length-vertices ring origins n h = length-with (coords (take (2 * n) ring)) (take n origins) ∙ length-front ring n h
 
 returns : tie.Need-returns
 returns c =
     let a = c .before .before .before .before in
     let e = c .if1 .taken in
-    none-rings (a .args .at) (now (a .args .out)) (vertices (now (a .args .ring)) (now (a .args .origins)) (a .args .n))
+    none-rings (a .args .at) (now (a .args .out)) (frontAnswerCoords (now (a .args .ring)) (now (a .args .origins)) (a .args .n))
     (length-vertices (now (a .args .ring)) (now (a .args .origins)) (a .args .n) (a .pre .0) ∙ e)
 
 put-ring-requires : tie.Need-put-ring-requires
@@ -43,7 +30,7 @@ returns-2 c =
     let a = c .before .before .before .before .before .before .before .before .before in
     let m = length-vertices (now (a .args .ring)) (now (a .args .origins)) (a .args .n) (a .pre .0) in
     let w = c .before .before .before .put-ring .ensures in
-    one-ring (a .args .at) (now (a .args .out)) _ _ (vertices (now (a .args .ring)) (now (a .args .origins)) (a .args .n))
+    one-ring (a .args .at) (now (a .args .out)) _ _ (frontAnswerCoords (now (a .args .ring)) (now (a .args .origins)) (a .args .n))
     (omega (arith, m, c .before .before .before .before .before .if1 .left)) (w .1) (w .0 ∙ rw m)
 
 pub put-cut-ring-spec : {M : Type 1} → statement M

@@ -8,7 +8,7 @@ use borrow.Author.Needs.{needs}
 use lib.ListN.{length, drop}
 use Rattle.frame_bytes.specs.declared.room.MeasuredRoom.{MeasuredRoom}
 use Rattle.frame_bytes.specs.Frame.{headBytes, partCountOf, readPart}
-use Rattle.frame_bytes.specs.Room.{leastRoom, coordinateBytes, partRoom}
+use Rattle.frame_bytes.specs.Room.{leastRoom, answerCoordSize, partRoom}
 use Rattle.frame_bytes.proofs.Readings.{part-reads}
 use Rattle.frame_bytes.proofs.Rooms.{left, Summed, sum-here, sum-step, sum-end, parts-le, frame-head, frame-few, frame-parts}
 use Rattle.frame_bytes.proofs.Rooms.{frame-passed}
@@ -19,14 +19,14 @@ use Rattle.frame_bytes.proofs.room.frame_room.Tie as tie
 abbrev whole : List ℕ → MeasuredRoom
 whole frame =
     record {
-      room = leastRoom + left readPart (partRoom coordinateBytes) frame headBytes (partCountOf frame) .room;
+      room = leastRoom + left readPart (partRoom answerCoordSize) frame headBytes (partCountOf frame) .room;
       next =
-          left readPart (partRoom coordinateBytes) frame headBytes (partCountOf frame) .next;
+          left readPart (partRoom answerCoordSize) frame headBytes (partCountOf frame) .next;
     }
 
 abbrev Inv-loop : tie.InvT-loop
 Inv-loop frame room₀ at₀ left₀ room at left =
-    (left ≤ partCountOf frame) × Summed readPart (partRoom coordinateBytes) frame (whole frame) room at left
+    (left ≤ partCountOf frame) × Summed readPart (partRoom answerCoordSize) frame (whole frame) room at left
 
 abbrev μ-loop : tie.MeasureT-loop
 μ-loop frame room₀ at₀ left₀ room at left = left
@@ -53,7 +53,7 @@ part-room-requires : tie.Need-part-room-requires Inv-loop μ-loop
 part-room-requires c κs =
     let l = c .before .loop in (
       l .inv .1 .within,
-      sum-here readPart (partRoom coordinateBytes) (now (c .before .before .before .before .args .frame)) (l .at)
+      sum-here readPart (partRoom answerCoordSize) (now (c .before .before .before .before .args .frame)) (l .at)
           (l .left) (c .loop-test .taken) (l .inv .1 .accepted),
     )
 
@@ -62,7 +62,7 @@ add-room c =
     let a = c .before .before .before .before .before .before in
     let f = now (a .args .frame) in
     let l = c .before .before .before .loop in
-    let s = sum-step readPart (partRoom coordinateBytes) f part-reads _ (l .room) (l .at) (l .left) (c .before .part-room .result)
+    let s = sum-step readPart (partRoom answerCoordSize) f part-reads _ (l .room) (l .at) (l .left) (c .before .part-room .result)
     (c .before .before .loop-test .taken) (c .before .part-room .ensures) (l .inv .1) in
     let e = s .sum in
     let few = frame-few f (a .pre) in
@@ -79,7 +79,7 @@ loop-again c =
     let f = now (c .before .before .before .before .before .before .args .frame) in
     let l = c .before .before .before .loop in (
       search needs,
-      sum-step readPart (partRoom coordinateBytes) f part-reads _ (l .room) (l .at) (l .left)
+      sum-step readPart (partRoom answerCoordSize) f part-reads _ (l .room) (l .at) (l .left)
           (c .before .part-room .result) (c .before .before .loop-test .taken) (c .before .part-room .ensures) (l .inv .1),
     )
 
@@ -88,7 +88,7 @@ returns c =
     let a = c .before .before .before .before in
     let f = now (a .args .frame) in
     let l = c .before .loop in
-    let e = sum-end readPart (partRoom coordinateBytes) f (whole f) (l .room) (l .at) (l .left) (c .loop-test .left) (l .inv .1) in
+    let e = sum-end readPart (partRoom answerCoordSize) f (whole f) (l .room) (l .at) (l .left) (c .loop-test .left) (l .inv .1) in
     rw (frame-passed f (a .pre)) (sym (ap (λ (p : MeasuredRoom). p .room) e))
 
 pub frame-room-spec : {M : Type 1} → statement M

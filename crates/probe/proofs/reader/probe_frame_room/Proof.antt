@@ -3,7 +3,7 @@ use mathlib.Core.Path.{sym, _∙_}
 use denote.Ref.{now}
 use borrow.Author.Needs.{needs}
 use Rattle.frame_bytes.specs.Frame.{readFrame}
-use Rattle.frame_bytes.specs.Room.{coordinateBytes}
+use Rattle.frame_bytes.specs.Room.{answerCoordSize}
 use Rattle.frame_bytes.proofs.Rooms.{refused-room}
 use Rattle.probe.proofs.reader.probe_frame_room.Statement.{statement}
 use Rattle.probe.proofs.reader.probe_frame_room.Tie as tie
@@ -23,7 +23,7 @@ frame-room-requires c κs = sym (c .before .before .check-frame .ensures) ∙ c 
 returns : tie.Need-returns
 returns c =
     let f = now (c .before .before .before .before .args .frame) in
-    sym (refused-room coordinateBytes (readFrame f) _ (sym (c .before .before .check-frame .ensures) ∙ c .enum-told .given .1))
+    sym (refused-room answerCoordSize (readFrame f) _ (sym (c .before .before .check-frame .ensures) ∙ c .enum-told .given .1))
 
 returns-2 : tie.Need-returns-2
 returns-2 c = search needs

@@ -1,9 +1,9 @@
--- `put_vertex` meets its contract. Assumes nothing.
+-- `put_answer_coord` meets its contract. Assumes nothing.
 use denote.Ref.{now}
 use borrow.Author.Needs.{needs}
-use Rattle.frame_bytes.proofs.Writing.{vertex-put}
-use Rattle.frame_bytes.proofs.encode.put_vertex.Statement.{statement}
-use Rattle.frame_bytes.proofs.encode.put_vertex.Tie as tie
+use Rattle.frame_bytes.proofs.Writing.{answer-coord-put}
+use Rattle.frame_bytes.proofs.encode.put_answer_coord.Statement.{statement}
+use Rattle.frame_bytes.proofs.encode.put_answer_coord.Tie as tie
 
 put-coord-requires : tie.Need-put-coord-requires
 put-coord-requires c κs = search needs
@@ -20,9 +20,9 @@ same-length c = search needs
 returns : tie.Need-returns
 returns c =
     let a = c .before .before .before .before .before .before .before .before .before .args in
-    vertex-put (now (a .out)) _ _ (a .at) (a .p) (a .origin) (c .before .before .before .before .before .before .put-coord .ensures)
+    answer-coord-put (now (a .out)) _ _ (a .at) (a .p) (a .origin) (c .before .before .before .before .before .before .put-coord .ensures)
     (c .before .before .put-count .ensures)
 
-pub put-vertex-spec : {M : Type 1} → statement M
-put-vertex-spec =
+pub put-answer-coord-spec : {M : Type 1} → statement M
+put-answer-coord-spec =
     tie.close (tie.spec put-coord-requires add-put-count put-count-requires same-length returns)
