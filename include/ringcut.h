@@ -90,9 +90,11 @@ enum ringcut_reason {
 
 /*
  * Where a coordinate of a cut came from: its origin, 16 bits. A number under 65,532 is a position: the coordinate is the one that
- * stands there, counted from 0, in the ring that was lent. The others are the line that made it, where an edge of the ring crosses
- * that line. Positions are those of its own ring, in holes too. A coordinate that is appended to close a cut ring has the origin of
- * the first. 0 is a position like any other: how many origins there are is told by the count of coordinates alone.
+ * stands there, counted from 0, in the ring that was lent. The others are the line that made it, where an edge of the ring, as the
+ * lines before it have left it, crosses that line; the order is left, right, bottom, top. Positions are those of its own ring, in
+ * holes too. A coordinate that is appended to close a cut ring has the origin of the first; where the last equals the first
+ * already, none is appended, and the last keeps its own. 0 is a position like any other: how many origins there are is told by the
+ * count of coordinates alone.
  *
  * With them a caller can leave the tile's edge out where it draws borders. Between two neighbours of a cut ring the outline runs
  * along the tile's edge if both were made by a line, and that is the same line, or both x are west, or both x are east (the bounds

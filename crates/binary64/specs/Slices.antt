@@ -1,5 +1,6 @@
 -- What a call leaves in a lent slice (document 01, "Frames": "fills scratch and order with zeros"; document 02, Point 4: "the output past
--- the answer, up to what 22 asks, then holds zeros"). Definitions only.
+-- the answer, up to what 22 asks, then holds zeros"; Point 12: the u16 output "past the answer follows the output's rule"). Definitions
+-- only.
 use mathlib.Core.Bool.{false}
 use mathlib.Core.List.{List, _++_}
 use Prim.Native.Nat.{ℕ, _-_}

@@ -1,5 +1,6 @@
 -- Where each coordinate of a cut polygon came from (document 02, Point 12): in step with the cut rings of Polygon. A ring is given closed;
--- positions are those of the ring as lent, as the first pass leaves off what closing appends (`origins-close`). Definitions only.
+-- positions are those of the ring as lent, as the first pass leaves off what closing appends (`origins-close` in
+-- sutherland_hodgman/proofs/OriginLaws.antt; a polygon with a NaN, which closing does not close, is dropped). Definitions only.
 use mathlib.Core.Path.{_≡_}
 use mathlib.Core.Bool.{cond}
 use mathlib.Core.List.{List, [], _∷_}

@@ -1,7 +1,7 @@
 -- The most room that an accepted frame asks for: an output of 56,259 bytes is enough for every frame. Assumes nothing.
 --
--- A frame of 5,120 bytes has 5,076 behind its head: two for each part and each ring, and sixteen for each coordinate, of which an answer
--- has eighteen. Closing adds at most one coordinate to a ring that has any. So what a frame asks for is bounded by how many parts, rings
+-- A frame of 5,120 bytes has 5,076 behind its head: two for each part and each ring, and sixteen for each coordinate; an answer has
+-- eighteen for each. Closing adds at most one coordinate to a ring that has any. So what a frame asks for is bounded by how many parts, rings
 -- and coordinates it has, and these by its bytes.
 use mathlib.Core.Path.{_≡_, refl, ap}
 use mathlib.Core.Bool.{Bool, true, false}

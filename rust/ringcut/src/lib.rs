@@ -14,8 +14,8 @@
 //! zeros, from end to end. What it leaves in the output, and in the slice for origins, past its answer:
 //!
 //! - [`cut_frame`] leaves it as it was.
-//! - [`cut_polygon`] and [`cut_ring`], which work in these two slices too, leave zeros (+0.0) up to the length that they ask of
-//!   each, whatever they answer, and all that is beyond that length as it was.
+//! - [`cut_polygon`] and [`cut_ring`], which work in these two slices too, leave zeros (+0.0 in the output) up to the length that they
+//!   ask of each, whatever they answer, and all that is beyond that length as it was.
 //!
 //! That is proved: of bytes and whole numbers exactly, of numbers in `f64` as far as the proofs tell two of them apart, which
 //! is by number and sign of zero, all NaNs being one. The library writes nothing where it leaves a buffer as it was, so the

@@ -7,7 +7,8 @@ use crate::Edge;
 /// Where a coordinate of a cut came from: 16 bits in the slices for origins and in a frame's answer, every value of which stands for
 /// one.
 ///
-/// A coordinate that is appended to close a cut ring has the origin of the first. As text it is what a support desk reads out.
+/// A coordinate that is appended to close a cut ring has the origin of the first; where the last equals the first already, none is
+/// appended, and the last keeps its own. As text it is what a support desk reads out, where a position is the number of a corner.
 ///
 /// ```
 /// use ringcut::{Edge, Origin};
@@ -28,7 +29,8 @@ pub enum Origin {
     /// It is the coordinate that stands at this position, from 0 and under 65,532, in the ring that was lent. Each ring has
     /// positions of its own, holes too.
     Position(u16),
-    /// It was made by this line, where an edge of the ring crosses it.
+    /// It was made by this line, where an edge of the ring, as the lines before it have left it, crosses it. The ring is cut at
+    /// Left, Right, Bottom and Top, in this order.
     Line(Edge),
 }
 
