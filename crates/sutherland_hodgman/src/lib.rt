@@ -108,7 +108,7 @@ fn previous(ring: &[f64], m: usize, i: usize) -> Coord
 }
 
 // From a vertex that is in: copies the vertices that follow it as long as they are in, up to the first that is not, which is judged too.
-// Their origins are left to be copied as a run: in this loop they would take half as long again as the vertices alone.
+// Their origins are left to be copied as a run, so that this loop stays small (docs/DECISIONS.md, "Origins").
 fn copy_inside(
     ring: &[f64],
     m: usize,
