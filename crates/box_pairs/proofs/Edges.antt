@@ -28,7 +28,8 @@ use Rattle.box_pairs.specs.Contracts.{keyAt, Kept, Sorted, front, edgesA
 use Rattle.box_pairs.specs.Contracts.{Unused, pairNumber, lesser, PairBelow}
 use Rattle.box_pairs.specs.Pairs.{vertexAt, edgesCross, firstFrom, firstPair}
 use Rattle.box_pairs.specs.Contracts.{anyPair, selfIntersecting}
-use Rattle.box_pairs.proofs.Crossing.{cross-mirror, cross-numbers, apart-left, apart-y, minimum-is-number}
+use Rattle.box_pairs.proofs.FloatCrossing.{minimum-is-number}
+use Rattle.box_pairs.proofs.Crossing.{cross-mirror, cross-numbers, apart-left, apart-y}
 use Rattle.box_pairs.proofs.Sweep.{Sweeps}
 use Rattle.box_pairs.proofs.First.{isPair, First, first-from, first-verdict}
 

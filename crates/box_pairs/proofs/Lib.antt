@@ -1,3 +1,5 @@
+mod Cases
+mod FloatCrossing
 mod Crossing
 mod Edges
 mod First

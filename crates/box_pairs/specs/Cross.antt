@@ -1,8 +1,10 @@
--- When two edges cross (document 01, "Unchanged"; the source's `edges_intersect_properly`, `cross_product_sign`). Definitions only.
+-- When two edges cross (document 01, "Unchanged"; the source's `edges_intersect_properly`, `cross_product_sign`; document 02, Point 5).
+-- Definitions only.
 use mathlib.Core.Bool.{Bool, not, _&&_, _||_}
 use lib.Ieee.{Float, binary64, lt, sub, mul, ofBits}
 use Rattle.binary64.specs.Compare.{minimum, maximum, near}
 use Rattle.tile.specs.declared.Coord.{Coord}
+use Rattle.exact.specs.Grid.{mayShare}
 
 -- 0.0
 abbrev pub zero64 : Float
@@ -38,5 +40,10 @@ unfoldable pub apart : Coord → Coord → Coord → Coord → Bool
 apart a1 a2 b1 b2 = apartOn (a1 .x) (a2 .x) (b1 .x) (b2 .x) || apartOn (a1 .y) (a2 .y) (b1 .y) (b2 .y)
 
 -- "Two edges cross if their boxes are not apart, neither is shorter than 1e-10 in both axes, and `edges_intersect_properly` says so"
+unfoldable pub crossInFloats : Coord → Coord → Coord → Coord → Bool
+crossInFloats a1 a2 b1 b2 = not (apart a1 a2 b1 b2) && (not (degenerate a1 a2 || degenerate b1 b2) && intersectProperly a1 a2 b1 b2)
+
+-- "From now on a pair crosses only if, besides, the two closed segments share a point, reckoned exactly, where each of the eight numbers
+-- is .." (document 02)
 unfoldable pub cross : Coord → Coord → Coord → Coord → Bool
-cross a1 a2 b1 b2 = not (apart a1 a2 b1 b2) && (not (degenerate a1 a2 || degenerate b1 b2) && intersectProperly a1 a2 b1 b2)
+cross a1 a2 b1 b2 = crossInFloats a1 a2 b1 b2 && mayShare a1 a2 b1 b2

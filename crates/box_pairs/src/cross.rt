@@ -1,10 +1,14 @@
-// Whether two edges cross: the source's `edges_intersect_properly`, between edges that are long enough and whose boxes meet.
+// Whether two edges cross: the source's `edges_intersect_properly`, between edges that are long enough and whose boxes meet, and the exact
+// test.
 ghost use mathlib.Core.Path.{_≡_};
+ghost use mathlib.Core.Bool.{true};
+ghost use Rattle.exact.specs.Grid.{MayShare, Decides};
 ghost use Rattle.box_pairs.specs.Cross as Cross;
 ghost use Rattle.box_pairs.specs.Contracts as Contracts;
 use binary64::compare::higher;
 use binary64::compare::is_near;
 use binary64::compare::lower;
+use exact::grid::may_share_point;
 use tile::Coord;
 
 // Which side of the line from a to b the point c lies on, by the sign.
@@ -52,9 +56,9 @@ pub fn is_apart(a1: f64, a2: f64, b1: f64, b2: f64) -> bool
     high < low
 }
 
-// Whether the edges from a1 to a2 and from b1 to b2 cross. Where a coordinate is NaN they do not, whatever their boxes.
-pub fn crosses(a1: Coord, a2: Coord, b1: Coord, b2: Coord) -> bool
-    ensures { λ r. ⌜ r ≡ Cross.cross a1 a2 b1 b2 ⌝ }
+// Whether the edges from a1 to a2 and from b1 to b2 cross in floats. Where a coordinate is NaN they do not, whatever their boxes.
+fn crosses_in_floats(a1: Coord, a2: Coord, b1: Coord, b2: Coord) -> bool
+    ensures { λ r. ⌜ r ≡ Cross.crossInFloats a1 a2 b1 b2 ⌝ }
 {
     if is_apart(a1.y, a2.y, b1.y, b2.y) {
         return false;
@@ -67,6 +71,23 @@ pub fn crosses(a1: Coord, a2: Coord, b1: Coord, b2: Coord) -> bool
             return false;
         }
         return !is_degenerate(b1, b2);
+    }
+    false
+}
+
+// Whether the edges from a1 to a2 and from b1 to b2 cross. Few pairs are left to the exact test, which takes longer. It gets copies of the
+// ends: handed on themselves, they would be put in memory for every pair that the test in floats looks at.
+pub fn crosses(a1: Coord, a2: Coord, b1: Coord, b2: Coord) -> bool
+    ensures test { λ r. ⌜ r ≡ Cross.cross a1 a2 b1 b2 ⌝ }
+    ensures meaning { λ r. ⌜ Decides r ((Cross.crossInFloats a1 a2 b1 b2 ≡ true) × MayShare a1 a2 b1 b2) ⌝ }
+{
+    if crosses_in_floats(a1, a2, b1, b2) {
+        return may_share_point(
+            Coord { x: a1.x, y: a1.y },
+            Coord { x: a2.x, y: a2.y },
+            Coord { x: b1.x, y: b1.y },
+            Coord { x: b2.x, y: b2.y },
+        );
     }
     false
 }

@@ -46,7 +46,7 @@ fn may_meet_in_y(ring: &[f64], i: usize, j: usize) -> bool
 }
 
 // Whether the edges i and j cross.
-fn edges_cross(ring: &[f64], i: usize, j: usize) -> bool
+pub fn edges_cross(ring: &[f64], i: usize, j: usize) -> bool
     requires { ⌜ (2 * i + 3 < length (now ring)) × (2 * j + 3 < length (now ring)) ⌝ }
     ensures { λ r. ⌜ r ≡ Contracts.edgesAt (now (ring .entry)) i j ⌝ }
 {

@@ -16,7 +16,10 @@ use Rattle.tile.specs.declared.Coord.{Coord}
 use Rattle.tile.specs.Bounds.{newOf}
 use Rattle.tile.specs.Ring.{same, last, closed, close}
 use Rattle.tile.proofs.WholeNumbers.{num, at}
-use Rattle.box_pairs.specs.Cross.{crossProductSign, aboveBelow, splits, intersectProperly, degenerate, apartOn, apart, cross}
+use Rattle.exact.specs.Grid.{onGrid, gridSteps, fromLowest, pointOf, coordOnGrid, allOnGrid, mayShare}
+use Rattle.exact.specs.Segments as Segments
+use Rattle.box_pairs.specs.Cross.{crossProductSign, aboveBelow, splits, intersectProperly, degenerate, apartOn, apart, crossInFloats}
+use Rattle.box_pairs.specs.Cross.{cross}
 use Rattle.box_pairs.specs.Pairs.{firstInRow, firstFrom, edgesCross, firstPair}
 use Rattle.box_pairs.specs.Issue.{repeatedFrom, issueOf, hasIssue}
 use Rattle.sutherland_hodgman.specs.CuttingLines.{inside, crossing}
@@ -258,6 +261,8 @@ unfolding readFrame readParts readPart readRing readCoords readCount readMany co
     withParts listParts routePart answerBytes partBytes ringBytes each route routeRect routeExterior routeCut overlayOrDropped cutRings
     cutHoles cutHole bridgeUnlessSkipped firstBridge bridgeOf runsAlong withRings withRing withCoord intersectsBounds reaches
     isFullyInside liesBetween anyHugeRing anyHuge hugeCoord issueOf hasIssue repeatedFrom firstPair firstFrom firstInRow edgesCross cross
+    crossInFloats mayShare allOnGrid coordOnGrid onGrid pointOf fromLowest gridSteps Segments.sharesPoint Segments.oneSide
+    Segments.bothLeft Segments.isLeft Segments.apart Segments.apartOn
     apart apartOn degenerate intersectProperly splits aboveBelow crossProductSign clipRing finish passes pass around leaveOff steps inside
     crossing interpolate cutOrigins holesOrigins holeOrigins clipOrigins closeOrigins finishOrigins passesOrigins passOrigins aroundOrigins
     stepsOrigins positionsFrom withOrigins ringsWithOrigins same last closed close at nanX nanY westOf southWestOf num minimum maximum

@@ -14,6 +14,7 @@ use sutherland_hodgman::call::check_ring;
 use sutherland_hodgman::clip_ring;
 use tile::TileBounds;
 
+pub mod crossings;
 pub mod edges;
 pub mod passes;
 pub mod reader;

@@ -27,7 +27,7 @@ crosses-requires c κs = search needs
 
 returns : tie.Need-returns
 returns c =
-    c .crosses .ensures ∙ rw (
+    c .crosses .ensures .0 ∙ rw (
       c .before .before .before .before .coord-at .ensures,
       c .before .before .before .coord-at2 .ensures,
       c .before .before .coord-at3 .ensures,

@@ -1,0 +1,6 @@
+mod Cases
+mod GridLaws
+mod GridRange
+pub mod MayShareLaws
+mod SegmentLaws
+mod WideLaws

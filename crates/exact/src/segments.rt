@@ -1,0 +1,95 @@
+// Whether two closed segments between points of whole numbers share a point, exactly.
+ghost use mathlib.Core.Path.{_≡_};
+ghost use Prim.Native.Nat.{min, max};
+ghost use Rattle.exact.specs.Segments as Segments;
+ghost use Rattle.exact.specs.Contracts.{value, Carried, Bounded};
+use super::wide::Wide;
+use super::wide::is_less;
+use super::wide::product;
+use super::wide::sum;
+
+pub struct Point {
+    pub x: u64,
+    pub y: u64,
+}
+
+// The products of three points' numbers, taken round in this order; two such sums tell the side that c lies on.
+fn shoelace(a: Point, b: Point, c: Point) -> Wide
+    requires { ⌜ Bounded a × Bounded b × Bounded c ⌝ }
+    ensures { λ r. ⌜ (value r ≡ Segments.shoelace a b c) × Carried r ⌝ }
+{
+    let ab = product(a.x, b.y);
+    let bc = product(b.x, c.y);
+    let ca = product(c.x, a.y);
+    sum(ab, bc, ca)
+}
+
+// Whether c lies strictly left of the line from a to b.
+fn is_left(a: Point, b: Point, c: Point) -> bool
+    requires { ⌜ Bounded a × Bounded b × Bounded c ⌝ }
+    ensures { λ r. ⌜ r ≡ Segments.isLeft a b c ⌝ }
+{
+    is_less(shoelace(b, a, c), shoelace(a, b, c))
+}
+
+// Whether both c and d lie strictly left of the line from a to b.
+fn are_left(a: Point, b: Point, c: Point, d: Point) -> bool
+    requires { ⌜ Bounded a × Bounded b × Bounded c × Bounded d ⌝ }
+    ensures { λ r. ⌜ r ≡ Segments.bothLeft a b c d ⌝ }
+{
+    is_left(a, b, c) && is_left(a, b, d)
+}
+
+// Whether both c and d lie strictly on one side of the line through a and b.
+fn are_one_side(a: Point, b: Point, c: Point, d: Point) -> bool
+    requires { ⌜ Bounded a × Bounded b × Bounded c × Bounded d ⌝ }
+    ensures { λ r. ⌜ r ≡ Segments.oneSide a b c d ⌝ }
+{
+    are_left(a, b, c, d) || are_left(b, a, c, d)
+}
+
+fn lower(a: u64, b: u64) -> u64
+    ensures { λ r. ⌜ r ≡ min a b ⌝ }
+{
+    if b < a {
+        return b;
+    }
+    a
+}
+
+fn higher(a: u64, b: u64) -> u64
+    ensures { λ r. ⌜ r ≡ max a b ⌝ }
+{
+    if a < b {
+        return b;
+    }
+    a
+}
+
+// Whether the numbers from a to b and those from c to d are apart.
+fn are_apart_on(a: u64, b: u64, c: u64, d: u64) -> bool
+    ensures { λ r. ⌜ r ≡ Segments.apartOn a b c d ⌝ }
+{
+    higher(a, b) < lower(c, d) || higher(c, d) < lower(a, b)
+}
+
+// Whether the boxes of the two segments are apart.
+fn are_apart(a: Point, b: Point, c: Point, d: Point) -> bool
+    ensures { λ r. ⌜ r ≡ Segments.apart a b c d ⌝ }
+{
+    are_apart_on(a.x, b.x, c.x, d.x) || are_apart_on(a.y, b.y, c.y, d.y)
+}
+
+// Whether the closed segments from a to b and from c to d share a point.
+pub fn shares_point(a: Point, b: Point, c: Point, d: Point) -> bool
+    requires { ⌜ Bounded a × Bounded b × Bounded c × Bounded d ⌝ }
+    ensures { λ r. ⌜ r ≡ Segments.sharesPoint a b c d ⌝ }
+{
+    if are_apart(a, b, c, d) {
+        return false;
+    }
+    if are_one_side(a, b, c, d) {
+        return false;
+    }
+    !are_one_side(c, d, a, b)
+}
