@@ -7,8 +7,9 @@ use Rattle.exact.specs.declared.segments.Point.{Point}
 
 -- ---- what is meant
 
--- "the two closed segments share a point": the weights r of a and s of b make the same point as the weights u of c and t of d. A point of
--- the segment from a to b is made by such weights, all whole numbers, where a, b, c and d are points of whole numbers
+-- "the two closed segments share a point": the weights r of a and s of b make the same point as the weights u of c and t of d, which have
+-- the same sum. Whole numbers are enough: where the ends are points of whole numbers, and any point is shared, one is whose coordinates are
+-- fractions of such
 pub record SharedPoint (a b c d : Point) : Type 0 where
   pub r : ℕ
   pub s : ℕ
