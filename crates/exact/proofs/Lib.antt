@@ -3,4 +3,5 @@ mod GridLaws
 mod GridRange
 pub mod MayShareLaws
 mod SegmentLaws
+mod SideLaws
 mod WideLaws

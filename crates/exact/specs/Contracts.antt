@@ -8,7 +8,10 @@ use Rattle.exact.specs.declared.grid.GridNumber.the-variants.{Off, On}
 use Rattle.exact.specs.declared.grid.GridPoint.{GridPoint}
 use Rattle.exact.specs.declared.grid.GridPoint.the-variants as GridPoints
 use Rattle.exact.specs.declared.segments.Point.{Point}
+use Rattle.exact.specs.declared.segments.Side.{Side}
+use Rattle.exact.specs.declared.segments.Side.the-variants as Sides
 use Rattle.exact.specs.declared.wide.Wide.{Wide}
+use Rattle.exact.specs.Segments.{isLeft}
 use Rattle.exact.specs.Grid.{onGrid, gridSteps, fromLowest, pointOf, coordOnGrid}
 
 -- ---- whole numbers of up to 116 binary digits, in three places of 30
@@ -33,6 +36,10 @@ pub record Carried (w : Wide) : Type 0 where
 pub record Bounded (p : Point) : Type 0 where
   pub x-bound : p .x ≤ 2 ^ 57
   pub y-bound : p .y ≤ 2 ^ 57
+
+-- the side of the line from a to b that c lies on
+unfoldable pub sideOf : Point → Point → Point → Side
+sideOf a b c = cond (isLeft a b c) Sides.Left (cond (isLeft b a c) Sides.Right Sides.On)
 
 -- ---- numbers and coordinates, looked at one by one
 

@@ -2,7 +2,7 @@
 ghost use mathlib.Core.Path.{_≡_};
 ghost use Prim.Native.Nat.{min, max};
 ghost use Rattle.exact.specs.Segments as Segments;
-ghost use Rattle.exact.specs.Contracts.{value, Carried, Bounded};
+ghost use Rattle.exact.specs.Contracts.{value, Carried, Bounded, sideOf};
 use super::wide::Wide;
 use super::wide::is_less;
 use super::wide::product;
@@ -11,6 +11,13 @@ use super::wide::sum;
 pub struct Point {
     pub x: u64,
     pub y: u64,
+}
+
+// Strictly left or right of a line, or on it.
+pub enum Side {
+    Left,
+    On,
+    Right,
 }
 
 // The products of three points' numbers, taken round in this order; two such sums tell the side that c lies on.
@@ -32,12 +39,20 @@ fn is_left(a: Point, b: Point, c: Point) -> bool
     is_less(shoelace(b, a, c), shoelace(a, b, c))
 }
 
-// Whether both c and d lie strictly left of the line from a to b.
-fn are_left(a: Point, b: Point, c: Point, d: Point) -> bool
-    requires { ⌜ Bounded a × Bounded b × Bounded c × Bounded d ⌝ }
-    ensures { λ r. ⌜ r ≡ Segments.bothLeft a b c d ⌝ }
+// The side of the line from a to b that c lies on.
+fn side_of(a: Point, b: Point, c: Point) -> Side
+    requires { ⌜ Bounded a × Bounded b × Bounded c ⌝ }
+    ensures { λ r. ⌜ r ≡ sideOf a b c ⌝ }
 {
-    is_left(a, b, c) && is_left(a, b, d)
+    let there = shoelace(a, b, c);
+    let back = shoelace(b, a, c);
+    if is_less(back, there) {
+        return Side::Left;
+    }
+    if is_less(there, back) {
+        return Side::Right;
+    }
+    Side::On
 }
 
 // Whether both c and d lie strictly on one side of the line through a and b.
@@ -45,7 +60,11 @@ fn are_one_side(a: Point, b: Point, c: Point, d: Point) -> bool
     requires { ⌜ Bounded a × Bounded b × Bounded c × Bounded d ⌝ }
     ensures { λ r. ⌜ r ≡ Segments.oneSide a b c d ⌝ }
 {
-    are_left(a, b, c, d) || are_left(b, a, c, d)
+    match side_of(a, b, c) {
+        Side::Left => is_left(a, b, d),
+        Side::On => false,
+        Side::Right => is_left(b, a, d),
+    }
 }
 
 fn lower(a: u64, b: u64) -> u64
