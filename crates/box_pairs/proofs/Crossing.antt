@@ -6,7 +6,8 @@ use lib.Ieee.{lt}
 use Rattle.binary64.specs.Compare.{minimum, maximum}
 use Rattle.binary64.proofs.Booleans.{both}
 use Rattle.tile.specs.declared.Coord.{Coord}
-use Rattle.exact.specs.Grid.{MayShare, mayShare, Decides}
+use Rattle.exact.specs.Segments.{Decides}
+use Rattle.exact.specs.Grid.{MaySharePoint, maySharePoint}
 use Rattle.exact.proofs.MayShareLaws.{may-other-first, may-decided}
 use Rattle.box_pairs.specs.Cross.{crossInFloats, cross}
 use Rattle.box_pairs.specs.Contracts.{separate}
@@ -14,19 +15,22 @@ use Rattle.box_pairs.proofs.FloatCrossing as floats
 
 -- ---- what it means
 
-pub cross-decided : (a1 a2 b1 b2 : Coord) → Decides (cross a1 a2 b1 b2) ((crossInFloats a1 a2 b1 b2 ≡ true) × MayShare a1 a2 b1 b2)
+pub cross-decided : (a1 a2 b1 b2 : Coord) → Decides (cross a1 a2 b1 b2) ((crossInFloats a1 a2 b1 b2 ≡ true) × MaySharePoint a1 a2 b1 b2)
 unfolding cross
 cross-decided a1 a2 b1 b2 =
     let d = may-decided a1 a2 b1 b2 in (
-      λ h. let k = both (crossInFloats a1 a2 b1 b2) (mayShare a1 a2 b1 b2) h in (k .0, d .0 (k .1)),
+      λ h. let k = both (crossInFloats a1 a2 b1 b2) (maySharePoint a1 a2 b1 b2) h in (k .0, d .0 (k .1)),
       λ p. rw (p .0) (d .1 (p .1)),
     )
 
 -- both promises of `crosses`
 pub answered : (a1 a2 b1 b2 : Coord) (r : Bool) → r ≡ cross a1 a2 b1 b2
-    → (r ≡ cross a1 a2 b1 b2) × Decides r ((crossInFloats a1 a2 b1 b2 ≡ true) × MayShare a1 a2 b1 b2)
-answered a1 a2 b1 b2 r e =
-    (e, subst (λ (v : Bool). Decides v ((crossInFloats a1 a2 b1 b2 ≡ true) × MayShare a1 a2 b1 b2)) (sym e) (cross-decided a1 a2 b1 b2))
+    → (r ≡ cross a1 a2 b1 b2) × Decides r ((crossInFloats a1 a2 b1 b2 ≡ true) × MaySharePoint a1 a2 b1 b2)
+answered a1 a2 b1 b2 r e = (
+  e,
+  subst (λ (v : Bool). Decides v ((crossInFloats a1 a2 b1 b2 ≡ true) × MaySharePoint a1 a2 b1 b2)) (sym e)
+      (cross-decided a1 a2 b1 b2),
+)
 
 -- ---- the test in floats and the exact one
 
@@ -34,7 +38,7 @@ pub not-in-floats : (a1 a2 b1 b2 : Coord) → crossInFloats a1 a2 b1 b2 ≡ fals
 unfolding cross
 not-in-floats a1 a2 b1 b2 e = rw e
 
-pub by-exact : (a1 a2 b1 b2 : Coord) → crossInFloats a1 a2 b1 b2 ≡ true → cross a1 a2 b1 b2 ≡ mayShare a1 a2 b1 b2
+pub by-exact : (a1 a2 b1 b2 : Coord) → crossInFloats a1 a2 b1 b2 ≡ true → cross a1 a2 b1 b2 ≡ maySharePoint a1 a2 b1 b2
 unfolding cross
 by-exact a1 a2 b1 b2 e = rw e
 

@@ -4,7 +4,7 @@ use mathlib.Core.Bool.{Bool, not, _&&_, _||_}
 use lib.Ieee.{Float, binary64, lt, sub, mul, ofBits}
 use Rattle.binary64.specs.Compare.{minimum, maximum, near}
 use Rattle.tile.specs.declared.Coord.{Coord}
-use Rattle.exact.specs.Grid.{mayShare}
+use Rattle.exact.specs.Grid.{maySharePoint}
 
 -- 0.0
 abbrev pub zero64 : Float
@@ -44,6 +44,6 @@ unfoldable pub crossInFloats : Coord → Coord → Coord → Coord → Bool
 crossInFloats a1 a2 b1 b2 = not (apart a1 a2 b1 b2) && (not (degenerate a1 a2 || degenerate b1 b2) && intersectProperly a1 a2 b1 b2)
 
 -- "From now on a pair crosses only if, besides, the two closed segments share a point, reckoned exactly, where each of the eight numbers
--- is .." (document 02)
+-- is .." (document 02); what it decides: `cross-decided` in proofs/Crossing.antt
 unfoldable pub cross : Coord → Coord → Coord → Coord → Bool
-cross a1 a2 b1 b2 = crossInFloats a1 a2 b1 b2 && mayShare a1 a2 b1 b2
+cross a1 a2 b1 b2 = crossInFloats a1 a2 b1 b2 && maySharePoint a1 a2 b1 b2

@@ -2,7 +2,8 @@
 // test.
 ghost use mathlib.Core.Path.{_≡_};
 ghost use mathlib.Core.Bool.{true};
-ghost use Rattle.exact.specs.Grid.{MayShare, Decides};
+ghost use Rattle.exact.specs.Segments.{Decides};
+ghost use Rattle.exact.specs.Grid.{MaySharePoint};
 ghost use Rattle.box_pairs.specs.Cross as Cross;
 ghost use Rattle.box_pairs.specs.Contracts as Contracts;
 use binary64::compare::higher;
@@ -76,10 +77,10 @@ fn crosses_in_floats(a1: Coord, a2: Coord, b1: Coord, b2: Coord) -> bool
 }
 
 // Whether the edges from a1 to a2 and from b1 to b2 cross. Few pairs are left to the exact test, which takes longer. It gets copies of the
-// ends: handed on themselves, they would be put in memory for every pair that the test in floats looks at.
+// ends: were they passed themselves, the compiler would keep them in memory for every pair that the test in floats looks at.
 pub fn crosses(a1: Coord, a2: Coord, b1: Coord, b2: Coord) -> bool
     ensures test { λ r. ⌜ r ≡ Cross.cross a1 a2 b1 b2 ⌝ }
-    ensures meaning { λ r. ⌜ Decides r ((Cross.crossInFloats a1 a2 b1 b2 ≡ true) × MayShare a1 a2 b1 b2) ⌝ }
+    ensures meaning { λ r. ⌜ Decides r ((Cross.crossInFloats a1 a2 b1 b2 ≡ true) × MaySharePoint a1 a2 b1 b2) ⌝ }
 {
     if crosses_in_floats(a1, a2, b1, b2) {
         return may_share_point(

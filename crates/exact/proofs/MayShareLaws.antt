@@ -10,11 +10,11 @@ use Rattle.tile.specs.declared.Coord.{Coord}
 use Rattle.exact.specs.declared.grid.GridNumber.the-variants.{Off, On}
 use Rattle.exact.specs.declared.grid.GridPoint.the-variants as GridPoints
 use Rattle.exact.specs.declared.segments.Point.{Point}
-use Rattle.exact.specs.Segments.{SharedPoint, sharesPoint}
-use Rattle.exact.specs.Grid.{onGrid, gridSteps, fromLowest, pointOf, coordOnGrid, allOnGrid, MayShare, mayShare, Decides}
+use Rattle.exact.specs.Segments.{Decides, sharesPoint}
+use Rattle.exact.specs.Grid.{onGrid, gridSteps, fromLowest, pointOf, coordOnGrid, allOnGrid, MaySharePoint, maySharePoint}
 use Rattle.exact.specs.Contracts.{Bounded, gridNumberOf, gridPointOf}
 use Rattle.exact.proofs.GridLaws.{on-told, off-told, steps-small}
-use Rattle.exact.proofs.SegmentLaws.{shared-where-true, true-where-shared, shares-other-first, shares-other-way}
+use Rattle.exact.proofs.SegmentLaws.{shares-decided, shares-other-first, shares-other-way}
 
 -- ---- the ways out of `grid_point_of`
 
@@ -69,8 +69,8 @@ at-bounded p q e =
 
 -- ---- it is the same whichever segment comes first, and whichever way each is gone
 
-pub may-other-first : (a b c d : Coord) → mayShare a b c d ≡ mayShare c d a b
-unfolding mayShare allOnGrid
+pub may-other-first : (a b c d : Coord) → maySharePoint a b c d ≡ maySharePoint c d a b
+unfolding maySharePoint allOnGrid
 may-other-first a b c d =
     rw (
       and-comm (coordOnGrid a && coordOnGrid b) (coordOnGrid c && coordOnGrid d),
@@ -78,32 +78,32 @@ may-other-first a b c d =
           (pointOf d),
     )
 
-pub may-other-way : (a b c d : Coord) → mayShare a b c d ≡ mayShare b a c d
-unfolding mayShare allOnGrid
+pub may-other-way : (a b c d : Coord) → maySharePoint a b c d ≡ maySharePoint b a c d
+unfolding maySharePoint allOnGrid
 may-other-way a b c d = rw (and-comm (coordOnGrid a) (coordOnGrid b), shares-other-way (pointOf a) (pointOf b) (pointOf c) (pointOf d))
 
 -- ---- the ways out of `may_share_point`
 
-off-grid : (a b c d : Coord) → allOnGrid a b c d ≡ false → true ≡ mayShare a b c d
-unfolding mayShare
+off-grid : (a b c d : Coord) → allOnGrid a b c d ≡ false → true ≡ maySharePoint a b c d
+unfolding maySharePoint
 off-grid a b c d h = rw h
 
-pub first-off : (a b c d : Coord) → gridPointOf a ≡ GridPoints.Off → true ≡ mayShare a b c d
+pub first-off : (a b c d : Coord) → gridPointOf a ≡ GridPoints.Off → true ≡ maySharePoint a b c d
 unfolding allOnGrid
 first-off a b c d e = off-grid a b c d (rw (grid-point-off a e))
 
-pub second-off : (a b c d : Coord) → gridPointOf b ≡ GridPoints.Off → true ≡ mayShare a b c d
+pub second-off : (a b c d : Coord) → gridPointOf b ≡ GridPoints.Off → true ≡ maySharePoint a b c d
 second-off a b c d e = first-off b a c d e ∙ may-other-way b a c d
 
-pub third-off : (a b c d : Coord) → gridPointOf c ≡ GridPoints.Off → true ≡ mayShare a b c d
+pub third-off : (a b c d : Coord) → gridPointOf c ≡ GridPoints.Off → true ≡ maySharePoint a b c d
 third-off a b c d e = first-off c d a b e ∙ may-other-first c d a b
 
-pub fourth-off : (a b c d : Coord) → gridPointOf d ≡ GridPoints.Off → true ≡ mayShare a b c d
+pub fourth-off : (a b c d : Coord) → gridPointOf d ≡ GridPoints.Off → true ≡ maySharePoint a b c d
 fourth-off a b c d e = second-off c d a b e ∙ may-other-first c d a b
 
 pub all-on : (a b c d : Coord) (p q r s : Point) (v : Bool) → v ≡ sharesPoint p q r s → gridPointOf a ≡ GridPoints.At p
-    → gridPointOf b ≡ GridPoints.At q → gridPointOf c ≡ GridPoints.At r → gridPointOf d ≡ GridPoints.At s → v ≡ mayShare a b c d
-unfolding mayShare allOnGrid
+    → gridPointOf b ≡ GridPoints.At q → gridPointOf c ≡ GridPoints.At r → gridPointOf d ≡ GridPoints.At s → v ≡ maySharePoint a b c d
+unfolding maySharePoint allOnGrid
 all-on a b c d p q r s v w e f g h =
     let i = at-told a p e in
     let j = at-told b q f in
@@ -113,18 +113,18 @@ all-on a b c d p q r s v w e f g h =
 
 -- ---- the test says what is meant
 
-pub may-decided : (a b c d : Coord) → Decides (mayShare a b c d) (MayShare a b c d)
-unfolding mayShare
+pub may-decided : (a b c d : Coord) → Decides (maySharePoint a b c d) (MaySharePoint a b c d)
+unfolding maySharePoint
 may-decided a b c d = (
-  λ m h. shared-where-true (pointOf a) (pointOf b) (pointOf c) (pointOf d) (rw h at m),
+  λ m h. shares-decided (pointOf a) (pointOf b) (pointOf c) (pointOf d) .0 (rw h at m),
   λ f. go f (allOnGrid a b c d) refl,
 )
   where
-    go : MayShare a b c d → (t : Bool) → allOnGrid a b c d ≡ t
+    go : MaySharePoint a b c d → (t : Bool) → allOnGrid a b c d ≡ t
         → not (allOnGrid a b c d) || sharesPoint (pointOf a) (pointOf b) (pointOf c) (pointOf d) ≡ true
-    go f true e = rw (e, true-where-shared (pointOf a) (pointOf b) (pointOf c) (pointOf d) (f e))
+    go f true e = rw (e, shares-decided (pointOf a) (pointOf b) (pointOf c) (pointOf d) .1 (f e))
     go f false e = rw e
 
 -- both promises of `may_share_point`
-pub answered : (a b c d : Coord) (r : Bool) → r ≡ mayShare a b c d → (r ≡ mayShare a b c d) × Decides r (MayShare a b c d)
-answered a b c d r e = (e, subst (λ (v : Bool). Decides v (MayShare a b c d)) (sym e) (may-decided a b c d))
+pub answered : (a b c d : Coord) (r : Bool) → r ≡ maySharePoint a b c d → (r ≡ maySharePoint a b c d) × Decides r (MaySharePoint a b c d)
+answered a b c d r e = (e, subst (λ (v : Bool). Decides v (MaySharePoint a b c d)) (sym e) (may-decided a b c d))

@@ -12,7 +12,7 @@ use lib.Dec.{ltb}
 use borrow.Author.Tests.{ltb-true, ltb-false, lt-ltb, not-true}
 use Rattle.binary64.proofs.Booleans.{both, neither, never-both}
 use Rattle.exact.specs.declared.segments.Point.{Point}
-use Rattle.exact.specs.Segments.{SharedPoint, shoelace, isLeft, bothLeft, oneSide, apartOn, apart, sharesPoint}
+use Rattle.exact.specs.Segments.{SharedPoint, Decides, shoelace, isLeft, bothLeft, oneSide, rangesApart, boxesApart, sharesPoint}
 
 -- ---- the same point, said of the segments in another order
 
@@ -424,11 +424,12 @@ meet a b c d h xl xr yl yr = elim (decLt (shoelace b a c) (shoelace a b c)) [
 not-both : (x y x′ y′ : ℕ) → ltb x y && ltb x′ y′ ≡ false → x < y → x′ < y′ → ⊥
 not-both x y x′ y′ e l m = never-both (rw (lt-ltb x y l, lt-ltb x′ y′ m)) e
 
-pub shared-where-true : (a b c d : Point) → sharesPoint a b c d ≡ true → SharedPoint a b c d
-unfolding sharesPoint oneSide bothLeft isLeft apart apartOn
+shared-where-true : (a b c d : Point) → sharesPoint a b c d ≡ true → SharedPoint a b c d
+unfolding sharesPoint oneSide bothLeft isLeft boxesApart rangesApart
 shared-where-true a b c d h =
-    let k = both (not (apart a b c d)) (not (oneSide a b c d || oneSide c d a b)) h in
-    let boxes = neither (apartOn (a .x) (b .x) (c .x) (d .x)) (apartOn (a .y) (b .y) (c .y) (d .y)) (not-true (apart a b c d) (k .0)) in
+    let k = both (not (boxesApart a b c d)) (not (oneSide a b c d || oneSide c d a b)) h in
+    let boxes = neither (rangesApart (a .x) (b .x) (c .x) (d .x)) (rangesApart (a .y) (b .y) (c .y) (d .y))
+    (not-true (boxesApart a b c d) (k .0)) in
     let x = neither (ltb (max (a .x) (b .x)) (min (c .x) (d .x))) (ltb (max (c .x) (d .x)) (min (a .x) (b .x))) (boxes .0) in
     let y = neither (ltb (max (a .y) (b .y)) (min (c .y) (d .y))) (ltb (max (c .y) (d .y)) (min (a .y) (b .y))) (boxes .1) in
     let sides = neither (oneSide a b c d) (oneSide c d a b) (not-true (oneSide a b c d || oneSide c d a b) (k .1)) in
@@ -444,8 +445,8 @@ shared-where-true a b c d h =
     (ltb-false (max (a .x) (b .x)) (min (c .x) (d .x)) (x .0)) (ltb-false (max (c .x) (d .x)) (min (a .x) (b .x)) (x .1))
     (ltb-false (max (a .y) (b .y)) (min (c .y) (d .y)) (y .0)) (ltb-false (max (c .y) (d .y)) (min (a .y) (b .y)) (y .1))
 
-not-apart-on : (a b c d r s u t : ℕ) → 0 < r + s → r + s ≡ u + t → r * a + s * b ≡ u * c + t * d → apartOn a b c d ≡ false
-unfolding apartOn
+not-apart-on : (a b c d r s u t : ℕ) → 0 < r + s → r + s ≡ u + t → r * a + s * b ≡ u * c + t * d → rangesApart a b c d ≡ false
+unfolding rangesApart
 not-apart-on a b c d r s u t k w e =
     rw (one a b c d r s u t k w e, one c d a b u t r s (omega arith) (sym w) (sym e))
   where
@@ -453,8 +454,8 @@ not-apart-on a b c d r s u t k w e =
     one a b c d r s u t k w e = eq-false-of-not-eq-true
         (λ (q : ltb (max a b) (min c d) ≡ true). not-below a b c d r s u t k w e (ltb-true (max a b) (min c d) q))
 
-not-apart : (a b c d : Point) → SharedPoint a b c d → apart a b c d ≡ false
-unfolding apart
+not-apart : (a b c d : Point) → SharedPoint a b c d → boxesApart a b c d ≡ false
+unfolding boxesApart
 not-apart a b c d z =
     rw (not-apart-on (a .x) (b .x) (c .x) (d .x) (z .r) (z .s) (z .u) (z .t) (z .some) (z .same-weight) (z .same-x))
     (not-apart-on (a .y) (b .y) (c .y) (d .y) (z .r) (z .s) (z .u) (z .t) (z .some) (z .same-weight) (z .same-y))
@@ -470,9 +471,12 @@ not-one-side : (a b c d : Point) → SharedPoint a b c d → oneSide a b c d ≡
 unfolding oneSide
 not-one-side a b c d z = rw (not-both-left a b c d z) (not-both-left b a c d (other-way z))
 
-pub true-where-shared : (a b c d : Point) → SharedPoint a b c d → sharesPoint a b c d ≡ true
+true-where-shared : (a b c d : Point) → SharedPoint a b c d → sharesPoint a b c d ≡ true
 unfolding sharesPoint
 true-where-shared a b c d z = rw (not-apart a b c d z, not-one-side a b c d z, not-one-side c d a b (other-first z))
+
+pub shares-decided : (a b c d : Point) → Decides (sharesPoint a b c d) (SharedPoint a b c d)
+shares-decided a b c d = (λ h. shared-where-true a b c d h, λ z. true-where-shared a b c d z)
 
 -- ---- so it is the same whichever segment comes first, and whichever way each is gone
 

@@ -14,16 +14,16 @@ use Rattle.exact.specs.declared.wide.Wide.{Wide}
 use Rattle.exact.specs.Segments.{isLeft}
 use Rattle.exact.specs.Grid.{onGrid, gridSteps, fromLowest, pointOf, coordOnGrid}
 
--- ---- whole numbers of up to 116 binary digits, in three places of 30
+-- ---- whole numbers of up to 116 binary digits, in three places to the base 2^30
 
 abbrev pub value : Wide → ℕ
 value w = w .high * 2 ^ 60 + w .middle * 2 ^ 30 + w .low
 
--- the places are small enough that four such numbers can be added
-pub record Small (w : Wide) : Type 0 where
-  pub high-small : w .high ≤ 2 ^ 54
-  pub middle-small : w .middle ≤ 2 ^ 58
-  pub low-small : w .low ≤ 2 ^ 60
+-- the places are small enough that three such numbers can be added
+pub record Addable (w : Wide) : Type 0 where
+  pub high-addable : w .high ≤ 2 ^ 54
+  pub middle-addable : w .middle ≤ 2 ^ 58
+  pub low-addable : w .low ≤ 2 ^ 60
 
 -- each place but the highest is one digit to the base 2 ^ 30
 pub record Carried (w : Wide) : Type 0 where

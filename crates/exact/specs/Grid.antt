@@ -1,4 +1,5 @@
--- Doubles on the grid of 1/2^48, pairs of segments between such, and what is asked of a pair (document 02, Point 5). Definitions only.
+-- Doubles on the grid of 1/2^48, and what is asked of a pair of segments whose numbers are all on it (document 02, Point 5). Definitions
+-- only.
 use mathlib.Core.Path.{_≡_}
 use mathlib.Core.Bool.{Bool, true, false, cond, not, _&&_, _||_}
 use Prim.Native.Nat.{ℕ, _+_, _-_, _*_, _/_, _%_, _^_}
@@ -11,7 +12,7 @@ use Rattle.exact.specs.Segments.{SharedPoint, sharesPoint}
 
 -- ---- the grid
 
--- "a whole multiple of 1/2^48 and at most 256 in magnitude"
+-- "a whole multiple of 1/2^48 and at most 256 in magnitude"; "(every double from 16 to 256 is)": `from-16-on` in proofs/GridRange.antt
 unfoldable pub onGrid : Float → Bool
 onGrid nan = false
 onGrid (inf s) = false
@@ -23,7 +24,8 @@ gridSteps nan = 0
 gridSteps (inf s) = 0
 gridSteps (fin s m e) = m * up e * 2 ^ 48 / down e
 
--- the number in steps from -256 on, so that it is never negative: (x + 256) times 2^48
+-- the number in steps from -256 on, so that it is never negative: (x + 256) times 2^48, as `grid-value` in proofs/GridLaws.antt says. That
+-- all points are moved alike changes nothing of `SharedPoint`, as both sums of weights are the same
 unfoldable pub fromLowest : Float → ℕ
 fromLowest x = cond (sign x) (2 ^ 56 - gridSteps x) (2 ^ 56 + gridSteps x)
 
@@ -40,13 +42,9 @@ allOnGrid a1 a2 b1 b2 = (coordOnGrid a1 && coordOnGrid a2) && (coordOnGrid b1 &&
 -- ---- what is asked of the segments from a1 to a2 and from b1 to b2
 
 -- "the two closed segments share a point, reckoned exactly, where each of the eight numbers is .."; "Others keep the old rule."
-abbrev pub MayShare : Coord → Coord → Coord → Coord → Type 0
-MayShare a1 a2 b1 b2 = allOnGrid a1 a2 b1 b2 ≡ true → SharedPoint (pointOf a1) (pointOf a2) (pointOf b1) (pointOf b2)
+abbrev pub MaySharePoint : Coord → Coord → Coord → Coord → Type 0
+MaySharePoint a1 a2 b1 b2 = allOnGrid a1 a2 b1 b2 ≡ true → SharedPoint (pointOf a1) (pointOf a2) (pointOf b1) (pointOf b2)
 
--- the same by the test by sides
-unfoldable pub mayShare : Coord → Coord → Coord → Coord → Bool
-mayShare a1 a2 b1 b2 = not (allOnGrid a1 a2 b1 b2) || sharesPoint (pointOf a1) (pointOf a2) (pointOf b1) (pointOf b2)
-
--- an answer is true exactly where a fact holds
-abbrev pub Decides : Bool → Type 0 → Type 0
-Decides r P = (r ≡ true → P) × (P → r ≡ true)
+-- the same by the test by sides: `may-decided` in proofs/MayShareLaws.antt
+unfoldable pub maySharePoint : Coord → Coord → Coord → Coord → Bool
+maySharePoint a1 a2 b1 b2 = not (allOnGrid a1 a2 b1 b2) || sharesPoint (pointOf a1) (pointOf a2) (pointOf b1) (pointOf b2)

@@ -1,15 +1,14 @@
 -- Whether two closed segments between points of whole numbers share a point, exactly (document 02, Point 5). Definitions only.
 use mathlib.Core.Path.{_≡_}
-use mathlib.Core.Bool.{Bool, not, _&&_, _||_}
+use mathlib.Core.Bool.{Bool, true, not, _&&_, _||_}
 use Prim.Native.Nat.{ℕ, _+_, _*_, _<_, min, max}
 use lib.Dec.{ltb}
 use Rattle.exact.specs.declared.segments.Point.{Point}
 
 -- ---- what is meant
 
--- "the two closed segments share a point": the weights r of a and s of b make the same point as the weights u of c and t of d, which have
--- the same sum. Whole numbers are enough: where the ends are points of whole numbers, and any point is shared, one is whose coordinates are
--- fractions of such
+-- "the two closed segments share a point": (r·a + s·b) / (r + s) is (u·c + t·d) / (u + t). Whole numbers for weights are enough: segments
+-- between points of whole numbers that share any point share an end, or cross at a point that divides each in a ratio of whole numbers
 pub record SharedPoint (a b c d : Point) : Type 0 where
   pub r : ℕ
   pub s : ℕ
@@ -20,7 +19,11 @@ pub record SharedPoint (a b c d : Point) : Type 0 where
   pub same-x : r * a .x + s * b .x ≡ u * c .x + t * d .x
   pub same-y : r * a .y + s * b .y ≡ u * c .y + t * d .y
 
--- ---- the test by sides, which is proved to say the same: `shared-where-true` and `true-where-shared` in proofs/SegmentLaws.antt
+-- an answer is true exactly where a fact holds
+abbrev pub Decides : Bool → Type 0 → Type 0
+Decides r P = (r ≡ true → P) × (P → r ≡ true)
+
+-- ---- the test by sides, which is proved to say the same: `shares-decided` in proofs/SegmentLaws.antt
 
 -- `shoelace a b c` less `shoelace b a c` is twice the area of the triangle, counted as positive where c lies left of the line from a to b
 abbrev pub shoelace : Point → Point → Point → ℕ
@@ -33,17 +36,17 @@ isLeft a b c = ltb (shoelace b a c) (shoelace a b c)
 unfoldable pub bothLeft : Point → Point → Point → Point → Bool
 bothLeft a b c d = isLeft a b c && isLeft a b d
 
--- both c and d lie strictly on one side of the line through a and b
+-- both c and d lie strictly on one side of the line through a and b; where these are one point there is no line, and it is false
 unfoldable pub oneSide : Point → Point → Point → Point → Bool
 oneSide a b c d = bothLeft a b c d || bothLeft b a c d
 
 -- all numbers from a to b are below all from c to d, or the other way round
-unfoldable pub apartOn : ℕ → ℕ → ℕ → ℕ → Bool
-apartOn a b c d = ltb (max a b) (min c d) || ltb (max c d) (min a b)
+unfoldable pub rangesApart : ℕ → ℕ → ℕ → ℕ → Bool
+rangesApart a b c d = ltb (max a b) (min c d) || ltb (max c d) (min a b)
 
 -- the boxes of the two segments are apart
-unfoldable pub apart : Point → Point → Point → Point → Bool
-apart a b c d = apartOn (a .x) (b .x) (c .x) (d .x) || apartOn (a .y) (b .y) (c .y) (d .y)
+unfoldable pub boxesApart : Point → Point → Point → Point → Bool
+boxesApart a b c d = rangesApart (a .x) (b .x) (c .x) (d .x) || rangesApart (a .y) (b .y) (c .y) (d .y)
 
 unfoldable pub sharesPoint : Point → Point → Point → Point → Bool
-sharesPoint a b c d = not (apart a b c d) && not (oneSide a b c d || oneSide c d a b)
+sharesPoint a b c d = not (boxesApart a b c d) && not (oneSide a b c d || oneSide c d a b)

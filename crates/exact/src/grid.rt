@@ -3,23 +3,27 @@ ghost use mathlib.Core.Path.{_≡_};
 ghost use lib.Dec.{T};
 ghost use lib.Ieee.{lt};
 ghost use Rattle.binary64.specs.Slices.{plusZero};
-ghost use Rattle.exact.specs.Grid.{MayShare, mayShare, Decides};
+ghost use Rattle.exact.specs.Segments.{Decides};
+ghost use Rattle.exact.specs.Grid.{MaySharePoint, maySharePoint};
 ghost use Rattle.exact.specs.Contracts.{stepsOf, gridNumberOf, gridPointOf};
 use super::segments::Point;
 use super::segments::shares_point;
 use tile::Coord;
 
-// 256 in steps of 1/2^48.
-const HIGHEST: u64 = 72_057_594_037_927_936;
+// How many steps of 1/2^48 a 1 has.
+const STEPS: f64 = 281_474_976_710_656.0;
 
-// Not on the grid, or so many steps of 1/2^48.
-pub enum GridNumber {
+// 0 in steps from -256.
+const ZERO: u64 = 72_057_594_037_927_936;
+
+// Not on the grid, or so many steps of 1/2^48, counted from 0 or from -256.
+enum GridNumber {
     Off,
     On(u64),
 }
 
 // Not on the grid, or a point of it, in steps from -256.
-pub enum GridPoint {
+enum GridPoint {
     Off,
     At(Point),
 }
@@ -30,7 +34,7 @@ fn steps_of(x: f64) -> GridNumber
     ensures { λ r. ⌜ r ≡ stepsOf x ⌝ }
 {
     if x <= 256.0 {
-        let scaled = x * 281_474_976_710_656.0;
+        let scaled = x * STEPS;
         let n = std::num::truncating_f64_to_u64(scaled);
         if std::num::nearest_u64_to_f64(n) == scaled {
             return GridNumber::On(n);
@@ -48,16 +52,16 @@ fn grid_number_of(x: f64) -> GridNumber
         let GridNumber::On(n) = steps_of(x) else {
             return GridNumber::Off;
         };
-        return GridNumber::On(HIGHEST + n);
+        return GridNumber::On(ZERO + n);
     }
     if x < 0.0 {
         let GridNumber::On(n) = steps_of(-x) else {
             return GridNumber::Off;
         };
-        return GridNumber::On(HIGHEST - n);
+        return GridNumber::On(ZERO - n);
     }
     if x == 0.0 {
-        return GridNumber::On(HIGHEST);
+        return GridNumber::On(ZERO);
     }
     GridNumber::Off
 }
@@ -75,10 +79,10 @@ fn grid_point_of(p: Coord) -> GridPoint
 }
 
 // Whether the closed segments from a1 to a2 and from b1 to b2 share a point, exactly, where all eight numbers are on the grid; true where
-// one is not, as nothing is then known.
+// one is not: such a pair keeps the old rule.
 pub fn may_share_point(a1: Coord, a2: Coord, b1: Coord, b2: Coord) -> bool
-    ensures test { λ r. ⌜ r ≡ mayShare a1 a2 b1 b2 ⌝ }
-    ensures meaning { λ r. ⌜ Decides r (MayShare a1 a2 b1 b2) ⌝ }
+    ensures test { λ r. ⌜ r ≡ maySharePoint a1 a2 b1 b2 ⌝ }
+    ensures meaning { λ r. ⌜ Decides r (MaySharePoint a1 a2 b1 b2) ⌝ }
 {
     let GridPoint::At(a) = grid_point_of(a1) else {
         return true;

@@ -14,13 +14,13 @@ pub struct Point {
 }
 
 // Strictly left or right of a line, or on it.
-pub enum Side {
+enum Side {
     Left,
     On,
     Right,
 }
 
-// The products of three points' numbers, taken round in this order; two such sums tell the side that c lies on.
+// The sum of the products of three points' numbers, taken round in this order; two such sums tell the side that c lies on.
 fn shoelace(a: Point, b: Point, c: Point) -> Wide
     requires { ⌜ Bounded a × Bounded b × Bounded c ⌝ }
     ensures { λ r. ⌜ (value r ≡ Segments.shoelace a b c) × Carried r ⌝ }
@@ -67,7 +67,7 @@ fn are_one_side(a: Point, b: Point, c: Point, d: Point) -> bool
     }
 }
 
-fn lower(a: u64, b: u64) -> u64
+fn smaller(a: u64, b: u64) -> u64
     ensures { λ r. ⌜ r ≡ min a b ⌝ }
 {
     if b < a {
@@ -76,7 +76,7 @@ fn lower(a: u64, b: u64) -> u64
     a
 }
 
-fn higher(a: u64, b: u64) -> u64
+fn larger(a: u64, b: u64) -> u64
     ensures { λ r. ⌜ r ≡ max a b ⌝ }
 {
     if a < b {
@@ -86,17 +86,17 @@ fn higher(a: u64, b: u64) -> u64
 }
 
 // Whether the numbers from a to b and those from c to d are apart.
-fn are_apart_on(a: u64, b: u64, c: u64, d: u64) -> bool
-    ensures { λ r. ⌜ r ≡ Segments.apartOn a b c d ⌝ }
+fn are_ranges_apart(a: u64, b: u64, c: u64, d: u64) -> bool
+    ensures { λ r. ⌜ r ≡ Segments.rangesApart a b c d ⌝ }
 {
-    higher(a, b) < lower(c, d) || higher(c, d) < lower(a, b)
+    larger(a, b) < smaller(c, d) || larger(c, d) < smaller(a, b)
 }
 
 // Whether the boxes of the two segments are apart.
-fn are_apart(a: Point, b: Point, c: Point, d: Point) -> bool
-    ensures { λ r. ⌜ r ≡ Segments.apart a b c d ⌝ }
+fn are_boxes_apart(a: Point, b: Point, c: Point, d: Point) -> bool
+    ensures { λ r. ⌜ r ≡ Segments.boxesApart a b c d ⌝ }
 {
-    are_apart_on(a.x, b.x, c.x, d.x) || are_apart_on(a.y, b.y, c.y, d.y)
+    are_ranges_apart(a.x, b.x, c.x, d.x) || are_ranges_apart(a.y, b.y, c.y, d.y)
 }
 
 // Whether the closed segments from a to b and from c to d share a point.
@@ -104,7 +104,7 @@ pub fn shares_point(a: Point, b: Point, c: Point, d: Point) -> bool
     requires { ⌜ Bounded a × Bounded b × Bounded c × Bounded d ⌝ }
     ensures { λ r. ⌜ r ≡ Segments.sharesPoint a b c d ⌝ }
 {
-    if are_apart(a, b, c, d) {
+    if are_boxes_apart(a, b, c, d) {
         return false;
     }
     if are_one_side(a, b, c, d) {

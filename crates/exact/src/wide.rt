@@ -1,4 +1,4 @@
-// Sums of products of whole numbers of 57 binary digits, in places of 64-bit numbers, and their order.
+// Sums of products of whole numbers up to 2^57, each in three u64 places to the base 2^30, and their order.
 ghost use mathlib.Core.Path.{_≡_};
 ghost use Prim.Native.Nat.{_+_, _*_, _^_, _≤_};
 ghost use lib.Dec.{ltb};
@@ -15,7 +15,7 @@ pub struct Wide {
 
 pub fn product(a: u64, b: u64) -> Wide
     requires { ⌜ (a ≤ 2 ^ 57) × (b ≤ 2 ^ 57) ⌝ }
-    ensures { λ r. ⌜ (Contracts.value r ≡ a * b) × Contracts.Small r ⌝ }
+    ensures { λ r. ⌜ (Contracts.value r ≡ a * b) × Contracts.Addable r ⌝ }
 {
     let a1 = a / BASE;
     let a0 = a % BASE;
@@ -34,7 +34,7 @@ pub fn product(a: u64, b: u64) -> Wide
 
 // The sum, carried.
 pub fn sum(p: Wide, q: Wide, r: Wide) -> Wide
-    requires { ⌜ Contracts.Small p × Contracts.Small q × Contracts.Small r ⌝ }
+    requires { ⌜ Contracts.Addable p × Contracts.Addable q × Contracts.Addable r ⌝ }
     ensures { λ s. ⌜ (Contracts.value s ≡ Contracts.value p + Contracts.value q + Contracts.value r) × Contracts.Carried s ⌝ }
 {
     let low = p.low + q.low + r.low;

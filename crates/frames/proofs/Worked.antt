@@ -16,7 +16,7 @@ use Rattle.tile.specs.declared.Coord.{Coord}
 use Rattle.tile.specs.Bounds.{newOf}
 use Rattle.tile.specs.Ring.{same, last, closed, close}
 use Rattle.tile.proofs.WholeNumbers.{num, at}
-use Rattle.exact.specs.Grid.{onGrid, gridSteps, fromLowest, pointOf, coordOnGrid, allOnGrid, mayShare}
+use Rattle.exact.specs.Grid.{onGrid, gridSteps, fromLowest, pointOf, coordOnGrid, allOnGrid, maySharePoint}
 use Rattle.exact.specs.Segments as Segments
 use Rattle.box_pairs.specs.Cross.{crossProductSign, aboveBelow, splits, intersectProperly, degenerate, apartOn, apart, crossInFloats}
 use Rattle.box_pairs.specs.Cross.{cross}
@@ -261,8 +261,8 @@ unfolding readFrame readParts readPart readRing readCoords readCount readMany co
     withParts listParts routePart answerBytes partBytes ringBytes each route routeRect routeExterior routeCut overlayOrDropped cutRings
     cutHoles cutHole bridgeUnlessSkipped firstBridge bridgeOf runsAlong withRings withRing withCoord intersectsBounds reaches
     isFullyInside liesBetween anyHugeRing anyHuge hugeCoord issueOf hasIssue repeatedFrom firstPair firstFrom firstInRow edgesCross cross
-    crossInFloats mayShare allOnGrid coordOnGrid onGrid pointOf fromLowest gridSteps Segments.sharesPoint Segments.oneSide
-    Segments.bothLeft Segments.isLeft Segments.apart Segments.apartOn
+    crossInFloats maySharePoint allOnGrid coordOnGrid onGrid pointOf fromLowest gridSteps Segments.sharesPoint Segments.oneSide
+    Segments.bothLeft Segments.isLeft Segments.boxesApart Segments.rangesApart
     apart apartOn degenerate intersectProperly splits aboveBelow crossProductSign clipRing finish passes pass around leaveOff steps inside
     crossing interpolate cutOrigins holesOrigins holeOrigins clipOrigins closeOrigins finishOrigins passesOrigins passOrigins aroundOrigins
     stepsOrigins positionsFrom withOrigins ringsWithOrigins same last closed close at nanX nanY westOf southWestOf num minimum maximum

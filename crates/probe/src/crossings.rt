@@ -6,7 +6,7 @@ ghost use Prim.Native.Nat.{_<_};
 ghost use lib.Dec.{ltb};
 ghost use lib.ListN.{length};
 ghost use Rattle.tile.specs.Contracts.{coordAt};
-ghost use Rattle.exact.specs.Grid.{mayShare};
+ghost use Rattle.exact.specs.Grid.{maySharePoint};
 ghost use Rattle.box_pairs.specs.Contracts.{edgesAt};
 use super::number_at;
 use tile::Coord;
@@ -36,7 +36,7 @@ pub extern "C" fn probe_crosses(pair: &[f64]) -> bool
 // A number that is missing is a NaN.
 #[no_mangle]
 pub extern "C" fn probe_may_share_point(pair: &[f64]) -> bool
-    ensures { λ r. ⌜ r ≡ mayShare (coordAt (now (pair .entry)) 0) (coordAt (now (pair .entry)) 1) (coordAt (now (pair .entry)) 2)
+    ensures { λ r. ⌜ r ≡ maySharePoint (coordAt (now (pair .entry)) 0) (coordAt (now (pair .entry)) 1) (coordAt (now (pair .entry)) 2)
         (coordAt (now (pair .entry)) 3) ⌝ }
 {
     exact::grid::may_share_point(

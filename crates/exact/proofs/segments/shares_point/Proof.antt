@@ -4,12 +4,12 @@ use Rattle.exact.specs.Segments.{sharesPoint}
 use Rattle.exact.proofs.segments.shares_point.Statement.{statement}
 use Rattle.exact.proofs.segments.shares_point.Tie as tie
 
-are-apart-requires : tie.Need-are-apart-requires
-are-apart-requires c κs = search needs
+are-boxes-apart-requires : tie.Need-are-boxes-apart-requires
+are-boxes-apart-requires c κs = search needs
 
 returns : tie.Need-returns
 unfolding sharesPoint
-returns c = rw (← c .before .are-apart .ensures, c .if1 .taken)
+returns c = rw (← c .before .are-boxes-apart .ensures, c .if1 .taken)
 
 are-one-side-requires : tie.Need-are-one-side-requires
 are-one-side-requires c κs = search needs
@@ -17,7 +17,7 @@ are-one-side-requires c κs = search needs
 returns-2 : tie.Need-returns-2
 unfolding sharesPoint
 returns-2 c = rw (
-  ← c .before .before .before .are-apart .ensures,
+  ← c .before .before .before .are-boxes-apart .ensures,
   c .before .before .if1 .left,
   ← c .before .are-one-side .ensures,
   c .if2 .taken,
@@ -30,7 +30,7 @@ returns-3 : tie.Need-returns-3
 unfolding sharesPoint
 returns-3 c =
     rw (
-      ← c .before .before .before .before .are-apart .ensures,
+      ← c .before .before .before .before .are-boxes-apart .ensures,
       c .before .before .before .if1 .left,
       ← c .before .before .are-one-side .ensures,
       c .before .if2 .left,
@@ -38,4 +38,4 @@ returns-3 c =
     )
 
 pub shares-point-spec : {M : Type 1} → statement M
-shares-point-spec = tie.close (tie.spec are-apart-requires returns are-one-side-requires returns-2 are-one-side-requires-2 returns-3)
+shares-point-spec = tie.close (tie.spec are-boxes-apart-requires returns are-one-side-requires returns-2 are-one-side-requires-2 returns-3)

@@ -19,7 +19,8 @@ returns c =
     let s = c .before .before .before in
     let a = s .before .args in
     on-left (a .a) (a .b) (a .c)
-    (sym (by-sums (a .a) (a .b) (a .c) _ _ _ (c .before .is-less .ensures) (c .before .before .shoelace2 .ensures .0) (s .shoelace .ensures .0))
+    (sym (by-sums (a .a) (a .b) (a .c) _ _ _ (c .before .is-less .ensures) (c .before .before .shoelace2 .ensures .0)
+    (s .shoelace .ensures .0))
     ∙ c .if1 .taken)
 
 is-less-requires-2 : tie.Need-is-less-requires-2

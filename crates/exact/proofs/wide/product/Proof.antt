@@ -42,18 +42,18 @@ returns c =
     let b = c .args .b in (
       halves a b,
       record {
-        high-small = omega (
+        high-addable = omega (
           arith,
           bounded (a / 2 ^ 30) (b / 2 ^ 30) (2 ^ 27) (2 ^ 27) (omega (arith, c .pre .0))
               (omega (arith, c .pre .1)),
         );
-        middle-small = omega (
+        middle-addable = omega (
           arith,
           bounded (a / 2 ^ 30) (b % 2 ^ 30) (2 ^ 27) (2 ^ 30) (omega (arith, c .pre .0)) (omega arith),
           bounded
               (a % 2 ^ 30) (b / 2 ^ 30) (2 ^ 30) (2 ^ 27) (omega arith) (omega (arith, c .pre .1)),
         );
-        low-small = omega (arith, bounded (a % 2 ^ 30) (b % 2 ^ 30) (2 ^ 30) (2 ^ 30) (omega arith) (omega arith));
+        low-addable = omega (arith, bounded (a % 2 ^ 30) (b % 2 ^ 30) (2 ^ 30) (2 ^ 30) (omega arith) (omega arith));
       },
     )
 
