@@ -8,6 +8,7 @@ pub mod lines;
 pub mod mistakes;
 pub mod origins;
 pub mod passes;
+pub mod shallow;
 pub mod shrink;
 pub mod vectors;
 pub mod worked;

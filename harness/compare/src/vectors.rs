@@ -9,12 +9,14 @@ use formats::vectors::{
     encode_rings, encode_slices, marks, origin_marks, whole_marks, RingVector, SliceVector, MARK, MOST_LENT,
     ORIGIN_MARK, WHOLE_MARK,
 };
+use formats::{Bounds, Ring};
 use generator::Style;
 
 use crate::calls::{ring_label, slice_label_with_reason, styles};
 use crate::frames::{self, kinds};
 use crate::hex;
-use crate::worked::{self, Beside};
+use crate::shallow::shallow_exteriors;
+use crate::worked::{self, Beside, BOUNDS};
 
 /// Specimens of a kind that are looked at.
 const TRIED: u64 = 4_000;
@@ -47,8 +49,8 @@ impl Kept {
     }
 }
 
-/// Input of the program: frames of each kind, up to `count` for each answer, worked ones of each reason and one that closes twice, and
-/// lines that are right and wrong. The last one has no newline.
+/// Input of the program: frames of each kind, up to `count` for each answer, worked ones of each reason, one that closes twice and some
+/// with shallow pairs, and lines that are right and wrong. The last one has no newline.
 pub fn lines(seed: u64, count: u64) -> Vec<u8> {
     let mut input = Vec::new();
     for (_, kind) in kinds() {
@@ -61,10 +63,8 @@ pub fn lines(seed: u64, count: u64) -> Vec<u8> {
             }
         }
     }
-    let of_each_reason = worked::exterior_of_each_reason().into_iter().map(|(_, flags, ring)| (flags[0], ring));
-    for (flags, ring) in of_each_reason.chain([(3, worked::OVERFLOWING.to_vec())]) {
-        let parts = vec![vec![ring]];
-        let frame = Frame { kind: POLYGON, flags, bounds: worked::BOUNDS, buffer: 0.0, parts };
+    for (flags, bounds, ring) in worked_exteriors() {
+        let frame = Frame { kind: POLYGON, flags, bounds, buffer: 0.0, parts: vec![vec![ring]] };
         push_line(&mut input, hex(&frame.encode()).as_bytes());
     }
     let mut kept = Kept::new(10 * count);
@@ -78,6 +78,13 @@ pub fn lines(seed: u64, count: u64) -> Vec<u8> {
     }
     input.extend(b"03");
     input
+}
+
+/// Worked exteriors with the flags and the bounds that they are replayed with: every reason, one that closes twice, shallow pairs.
+fn worked_exteriors() -> Vec<(u8, Bounds, Ring)> {
+    let of_each_reason = worked::exterior_of_each_reason().into_iter().map(|(_, flags, ring)| (flags[0], BOUNDS, ring));
+    let shallow = shallow_exteriors().into_iter().map(|(bounds, ring)| (0, bounds, ring));
+    of_each_reason.chain([(3, BOUNDS, worked::OVERFLOWING.to_vec())]).chain(shallow).collect()
 }
 
 fn push_line(input: &mut Vec<u8>, line: &[u8]) {
@@ -157,16 +164,15 @@ fn worked_rings() -> Vec<RingCall> {
     calls
 }
 
-/// The same, and every reason with its positions.
+/// The same, and exteriors of every reason, one that closes twice and such with shallow pairs.
 fn worked_slices() -> Vec<SliceCall> {
     let mut calls = vec![worked::lone_nan()];
     for (_, flags, part) in worked::polygon_of_each_answer() {
         let exact = worked::slice_call(flags, &part, Beside::default());
         calls.extend(spare(exact.out_origins.len()).map(|beside| worked::slice_call(flags, &part, beside)));
     }
-    calls.push(worked::slice_call(3, &[worked::OVERFLOWING.to_vec()], Beside::default()));
-    for (_, flags, ring) in worked::exterior_of_each_reason() {
-        calls.push(worked::slice_call(flags[0], &[ring], Beside::default()));
+    for (flags, bounds, ring) in worked_exteriors() {
+        calls.push(SliceCall { bounds, ..worked::slice_call(flags, &[ring], Beside::default()) });
     }
     calls
 }

@@ -69,8 +69,8 @@ fn edges_whose_boxes_are_apart_do_not_cross() {
     assert_answers(&ring, Mistake::CrossesWithoutBoxes, UNCHANGED, &crossing(0, 3));
 }
 
-/// Likewise, but the boxes touch in x. The edges miss each other by some last bits there: geo's own test, which document 01
-/// leaves out, would turn the pair down.
+/// Likewise, but the boxes touch in x. The edges miss each other by some last bits there; as their numbers are off the grid of
+/// document 02's point 5, that is not asked.
 #[test]
 fn edges_whose_boxes_touch_may_cross() {
     let middle = 2.2999999999999985;

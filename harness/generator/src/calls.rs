@@ -5,7 +5,7 @@ use formats::room::most_cut;
 use formats::{closed_length, flat, Bounds, Part, Ring};
 
 use crate::corners::with_corner_holes;
-use crate::frames::is_vouched_for;
+use crate::frames::{is_looked_at, is_vouched_for};
 use crate::holes::{beyond_a_corner, with_holes};
 use crate::numbers::any_bits;
 use crate::rng::Rng;
@@ -70,9 +70,10 @@ pub fn slice_call(style: Style, seed: u64, index: u64) -> SliceCall {
         if long && has_little_room(rng) { (LITTLE, LITTLE) } else { (rooms.clone().max().unwrap_or(0), rooms.sum()) };
     let (coords, lengths) = slices(&part, rng);
     let vouched_for = is_vouched_for(style, rng);
+    let looked_at = is_looked_at(style, rng);
     SliceCall {
         // The second reading looks at every pair of edges, which is too much for a long ring.
-        assume_simple: long || vouched_for || rng.once_in(2),
+        assume_simple: long || vouched_for || (rng.once_in(2) && !looked_at),
         skip_boundary_fallback: vouched_for || rng.once_in(2),
         bounds: scene.bounds,
         buffer: scene.buffer,

@@ -60,7 +60,7 @@ fn decimals(rng: &mut Rng) -> (Vec<Coord>, Vec<Coord>) {
 }
 
 /// Vertices on the way between two others, bent away to the left of it.
-fn arc(from: Coord, to: Coord, bulge: f64, vertices: usize) -> Vec<Coord> {
+pub fn arc(from: Coord, to: Coord, bulge: f64, vertices: usize) -> Vec<Coord> {
     let (dx, dy) = (to.0 - from.0, to.1 - from.1);
     (1..=vertices)
         .map(|k| {

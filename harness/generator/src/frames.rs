@@ -21,7 +21,7 @@ pub enum Kind {
 }
 
 impl Kind {
-    pub const ALL: [Kind; 13] = [
+    pub const ALL: [Kind; 14] = [
         Kind::Drawn(Style::Grid),
         Kind::Drawn(Style::Outlines),
         Kind::Drawn(Style::Near),
@@ -35,6 +35,7 @@ impl Kind {
         Kind::Limits,
         Kind::Drawn(Style::Tangled),
         Kind::Drawn(Style::Corners),
+        Kind::Drawn(Style::Shallow),
     ];
 
     pub fn name(self) -> &'static str {
@@ -49,6 +50,7 @@ impl Kind {
             Kind::Drawn(Style::Collinear) => "collinear",
             Kind::Drawn(Style::Tangled) => "tangled",
             Kind::Drawn(Style::Corners) => "corners",
+            Kind::Drawn(Style::Shallow) => "shallow",
             Kind::Parts => "parts",
             Kind::Damaged => "damaged",
             Kind::Limits => "limits",
@@ -89,13 +91,21 @@ pub fn drawn(style: Style, rng: &mut Rng) -> Frame {
     let most = if style == Style::Long { 2 } else { 4 };
     let parts = if kind == POLYGON { 1 } else { rng.below(most + 1) };
     let parts = within_a_frame((0..parts).map(|_| scene.part(rng)));
-    let flags = if is_vouched_for(style, rng) { 3 } else { rng.below(4) as u8 };
+    let mut flags = if is_vouched_for(style, rng) { 3 } else { rng.below(4) as u8 };
+    if is_looked_at(style, rng) {
+        flags &= 2;
+    }
     Frame { kind, flags, bounds: scene.bounds, buffer: scene.buffer, parts }
 }
 
 /// Whether a specimen has both flags whatever else is drawn: of rings about the corners few others are cut.
 pub fn is_vouched_for(style: Style, rng: &mut Rng) -> bool {
     style == Style::Corners && rng.once_in(2)
+}
+
+/// Whether edges are looked at for crossings whatever else is drawn: of rings with shallow pairs that is the point.
+pub fn is_looked_at(style: Style, rng: &mut Rng) -> bool {
+    style == Style::Shallow && !rng.once_in(3)
 }
 
 fn many_parts(rng: &mut Rng) -> Frame {

@@ -1,5 +1,5 @@
-//! The seeded generator: frames, program input, ring calls, slice calls, passes and bounds. The same seed, kind and index give the
-//! same specimen always, so a difference is found again from three numbers.
+//! The seeded generator: frames, program input, ring calls, slice calls, passes, pairs of edges and bounds. The same seed, kind and
+//! index give the same specimen always, so a difference is found again from three numbers.
 
 mod bounds;
 mod calls;
@@ -11,11 +11,14 @@ mod frames;
 mod holes;
 mod limits;
 mod lines;
+mod meetings;
 mod numbers;
 mod outlines;
+mod pairs;
 mod passes;
 mod rng;
 mod scene;
+mod shallow;
 mod tangles;
 
 pub use bounds::bounds;
@@ -23,5 +26,7 @@ pub use calls::{ring_call, slice_call};
 pub use exteriors::exterior;
 pub use frames::{frame, Kind, Specimen};
 pub use lines::lines;
+pub use meetings::Pair;
+pub use pairs::{pair, PairKind};
 pub use passes::pass;
 pub use scene::Style;

@@ -10,6 +10,7 @@ use crate::corners::{corner_ring, with_corner_holes};
 use crate::numbers::{any_bits, any_bounds, finite_bits, grid, huge, near, near_offset, order, seldom_huge};
 use crate::outlines::{crossed_last_segment, outline, star, teeth};
 use crate::rng::Rng;
+use crate::shallow::shallow;
 use crate::tangles::tangle;
 
 #[derive(Clone, Copy, Debug, PartialEq, Eq)]
@@ -34,10 +35,12 @@ pub enum Style {
     Tangled,
     /// Vertices on the lines and in the corners of the bounds, edges along and through them.
     Corners,
+    /// Edges nearly or exactly of one line that the rounded test takes for crossing, on the grid of document 02's point 5 and off it.
+    Shallow,
 }
 
 impl Style {
-    pub const ALL: [Style; 10] = [
+    pub const ALL: [Style; 11] = [
         Style::Grid,
         Style::Outlines,
         Style::Near,
@@ -48,6 +51,7 @@ impl Style {
         Style::Collinear,
         Style::Tangled,
         Style::Corners,
+        Style::Shallow,
     ];
 }
 
@@ -70,6 +74,10 @@ impl Scene {
             Style::Corners => {
                 let low = rng.pick(&[0.0, 0.0, -0.0, -4.0]);
                 ([low, low, 8.0, rng.pick(&[4.0, 8.0])], rng.pick(&[0.0, 0.0, 0.0, 0.0, 1.0, -1.0]))
+            }
+            Style::Shallow => {
+                let reach = rng.pick(&[1_500.0, 1_500.0, 1_500.0, 300.0, 256.0, 100.0, 60.0]);
+                ([-reach, -reach, reach, reach], rng.pick(&[0.0, 0.0, 0.0, 1.0]))
             }
             Style::Near => ([0.0, 0.0, 4.0, 4.0], rng.pick(&[0.0, 0.0, 1.0, 1e-10, 5e-11])),
             Style::Huge => ([0.0, 0.0, 10.0, 10.0], rng.pick(&[0.0, 0.0, 0.0, 1.0, 1e150, 1e308])),
@@ -133,6 +141,7 @@ impl Scene {
             Style::Collinear => collinear(rng),
             Style::Tangled => tangle(LONGEST_RING, rng),
             Style::Corners => corner_ring(self.buffered_bounds(), rng),
+            Style::Shallow => shallow(self.buffered_bounds(), rng),
         };
         if ring.len() < LONGEST_RING && rng.once_in(6) {
             repeat_a_vertex(&mut ring, rng);

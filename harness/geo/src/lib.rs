@@ -5,14 +5,7 @@ pub use geo_types::{
 };
 
 pub mod algorithm {
-    pub mod line_intersection {
-        use crate::{Coord, Line};
-
-        /// Always finds a point: document 01's base leaves this test out.
-        pub fn line_intersection(a: Line<f64>, _b: Line<f64>) -> Option<Coord<f64>> {
-            Some(a.start)
-        }
-    }
+    pub mod line_intersection;
 }
 
 /// The source asks for a bounding rectangle only of points, lines and repairs, which the port leaves out.

@@ -105,8 +105,9 @@ fn first_of_visited(ring: &[Coord<f64>]) -> Option<(usize, usize)> {
 }
 
 /// Asked of a ring of the first edge, the way from its end to the second, and the second: an edge that begins where another ends
-/// lies on neither side of it there, so that the way between crosses neither.
-fn cross(a: Line<f64>, b: Line<f64>) -> bool {
+/// lies on neither side of it there, so that the way between crosses neither. Whatever else the Rust asks of edges that cross it asks
+/// of the two alone.
+pub fn cross(a: Line<f64>, b: Line<f64>) -> bool {
     clip::has_self_intersecting_edges(&[a.start, a.end, b.start, b.end])
 }
 

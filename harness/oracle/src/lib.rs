@@ -17,7 +17,8 @@ use formats::calls::{RingCall, SliceAnswer, SliceCall};
 use formats::frame::{Frame, POLYGON};
 use formats::origins::CutRing;
 use formats::{pairs, Coord, Refusal};
-use geo::{Geometry, MultiPolygon};
+use geo::algorithm::line_intersection::line_intersection;
+use geo::{Geometry, Line, MultiPolygon};
 use tylertoo::clip::opened as clip;
 
 use convert::{bounds_of, coords_of, polygon_of};
@@ -74,6 +75,23 @@ pub fn slice_call(call: &SliceCall) -> Result<SliceAnswer, Refusal> {
 /// The first pair of edges of the ring that cross, as it is lent.
 pub fn first_crossing(ring: &[Coord]) -> Option<(usize, usize)> {
     issue::first_crossing(&coords_of(ring))
+}
+
+/// Whether the edges from the first end to the second and from the third to the fourth cross.
+pub fn edges_cross(ends: [Coord; 4]) -> bool {
+    let [a, b] = lines_between(ends);
+    issue::cross(a, b)
+}
+
+/// Whether `line_intersection`, which the Rust asks of edges that cross, finds a point of both: the answer of the stand-in.
+pub fn finds_intersection(ends: [Coord; 4]) -> bool {
+    let [a, b] = lines_between(ends);
+    line_intersection(a, b).is_some()
+}
+
+fn lines_between(ends: [Coord; 4]) -> [Line<f64>; 2] {
+    let [a, b, c, d] = ends.map(|(x, y)| geo::Coord { x, y });
+    [Line::new(a, b), Line::new(c, d)]
 }
 
 /// The first issue of a polygon with this exterior, closed.

@@ -5,6 +5,7 @@ pub mod calls;
 pub mod frames;
 pub mod issues;
 pub mod lines;
+pub mod pairs;
 pub mod passes;
 pub mod probe;
 pub mod promise;

@@ -7,7 +7,7 @@ use std::process::exit;
 use compare::command::Command;
 use port::replay::{self, Replay};
 
-const USAGE: &str = "usage: port bounds|frames|issues|lines|passes|reader|rings|slices [--seed S] [--count N]
+const USAGE: &str = "usage: port bounds|frames|issues|lines|pairs|passes|reader|rings|slices [--seed S] [--count N]
        port replay-rings|replay-slices <vectors";
 
 fn main() {
@@ -17,6 +17,7 @@ fn main() {
         "frames" => port::frames::compare(seed, count),
         "issues" => port::issues::compare(seed, count),
         "lines" => port::lines::compare(seed, count),
+        "pairs" => port::pairs::compare(seed, count),
         "passes" => port::passes::compare(seed, count),
         "reader" => port::reader::compare(seed, count),
         "rings" => port::rings::compare(seed, count),

@@ -52,6 +52,8 @@ mod exported {
             order: *mut u32,
             order_len: usize,
         ) -> u64;
+        pub fn probe_crosses(pair: *const f64, pair_len: usize) -> bool;
+        pub fn probe_may_share_point(pair: *const f64, pair_len: usize) -> bool;
         pub fn probe_check_call(frame: *const u8, frame_len: usize, out_len: usize) -> u8;
         pub fn probe_frame_room(frame: *const u8, frame_len: usize) -> usize;
         pub fn probe_scan_pairs(ring: *const f64, ring_len: usize) -> u64;
@@ -207,6 +209,18 @@ pub fn sweep_pairs(ring: &[f64], work: &mut [f64], order: &mut [u32]) -> u64 {
             order.len(),
         )
     }
+}
+
+/// Whether two edges cross, by the eight numbers of their ends; one that is missing is a NaN.
+pub fn crosses(pair: &[f64]) -> bool {
+    // SAFETY: as in `empty`.
+    unsafe { exported::probe_crosses(pair.as_ptr(), pair.len()) }
+}
+
+/// Whether two edges share a point, exactly, or a number of theirs is off the grid; one that is missing is.
+pub fn may_share_point(pair: &[f64]) -> bool {
+    // SAFETY: as in `empty`.
+    unsafe { exported::probe_may_share_point(pair.as_ptr(), pair.len()) }
 }
 
 /// The refusal that a frame call meets with an output of so many bytes; 0 for none.

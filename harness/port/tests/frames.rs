@@ -1,6 +1,7 @@
 //! The frame entry of the port against the Rust, the share that every test run takes: random and damaged frames, and rings of
 //! every length that a frame can hold, as its length picks the working arrays.
 
+use compare::shallow::{shallow_when_cut, SHALLOW, WIDE};
 use compare::worked::{exterior_of_each_reason, overflowing_cut, BOUNDS, OVERFLOWING};
 use formats::answer::{Answer, Listed, ListedPart};
 use formats::frame::{Frame, MULTIPOLYGON, POLYGON};
@@ -13,7 +14,7 @@ const MOST: usize = 317;
 
 #[test]
 fn frames_agree() {
-    frames::compare(1, 15_000).assert_agreed(13 * 15_000);
+    frames::compare(1, 15_000).assert_agreed(14 * 15_000);
 }
 
 /// In and out at every vertex, over all four bounds; not closed.
@@ -61,6 +62,35 @@ fn every_reason_tells_its_positions() {
             let Specimen { frame, room } = specimen(POLYGON, flags, ring.clone());
             assert_eq!(frames::check_in(&frame, room, &answer), Ok(()), "flags {flags}, {ring:?}");
         }
+    }
+}
+
+/// Of document 02's point 5: the input's check, and that of the cut.
+#[test]
+fn shallow_pairs_cross_only_where_they_share_a_point() {
+    let specimen = |flags, bounds, ring| {
+        let frame = Frame { kind: POLYGON, flags, bounds, buffer: 0.0, parts: vec![vec![ring]] };
+        Specimen { frame: frame.encode(), room: frame.room() }
+    };
+    for shallow in SHALLOW {
+        for vertices in [0, 1, 14, 15, 30] {
+            let answer = match shallow.reason(vertices) {
+                None => Answer::Unchanged,
+                Some(reason) => {
+                    let parts = vec![ListedPart { index: 0, listed: Listed::Overlay(reason) }];
+                    Answer::Listed { guard_count: 0, parts }
+                }
+            };
+            for flags in [0, 2] {
+                let Specimen { frame, room } = specimen(flags, WIDE, shallow.ring(vertices));
+                assert_eq!(frames::check_in(&frame, room, &Ok(answer.encode())), Ok(()), "{}", shallow.name);
+            }
+            assert_eq!(frames::check(&specimen(1, WIDE, shallow.ring(vertices))), Ok("unchanged"), "{}", shallow.name);
+        }
+    }
+    let (bounds, ring) = shallow_when_cut();
+    for flags in 0..4 {
+        assert_eq!(frames::check(&specimen(flags, bounds, ring.clone())), Ok("cut"), "flags {flags}");
     }
 }
 

@@ -1,11 +1,12 @@
 //! The issue finder, scan and sweep of the port against the Rust, the share that every test run takes.
 
+use compare::shallow::{shallow_before_crossing, shallow_by_number, SHALLOW};
 use port::probe::NOT_LOOKED_FOR;
 use port::{issues, probe};
 
 #[test]
 fn issues_agree() {
-    issues::compare(1, 8_000).assert_agreed(10 * 8_000);
+    issues::compare(1, 8_000).assert_agreed(11 * 8_000);
 }
 
 /// A regular polygon of so many edges, closed; simple, so that every pair is looked at.
@@ -83,6 +84,28 @@ fn one_crossing_is_told_whatever_its_lower_edge() {
         assert_eq!(oracle::first_crossing(&ring), Some((lower, lower + 2)));
         assert_eq!(issues::check(&ring), Ok("crossing"), "edge {lower}");
     }
+}
+
+/// Of document 02's point 5. Finder, scan and sweep ask for a shared point, whatever the length.
+#[test]
+fn shallow_pairs_cross_only_where_they_share_a_point() {
+    for shallow in SHALLOW {
+        for vertices in [0, 1, 5, 14, 15, 30, 500] {
+            let ring = shallow.ring(vertices);
+            let pair = shallow.share_a_point.then_some((0, 2 + vertices));
+            let case = format!("{}, {vertices} vertices", shallow.name);
+            assert_eq!(oracle::first_crossing(&[&ring[..], &ring[..1]].concat()), pair, "{case}");
+            let label = if shallow.share_a_point { "crossing" } else { "sound" };
+            assert_eq!(issues::check(&ring), Ok(label), "{case}");
+        }
+    }
+    for (ring, on_grid) in shallow_by_number() {
+        assert_eq!(issues::check(&ring), Ok(if on_grid { "sound" } else { "crossing" }), "{ring:?}");
+    }
+    let (reason, ring) = shallow_before_crossing();
+    let pair = Some((reason.first as usize, reason.second as usize));
+    assert_eq!(oracle::first_crossing(&[&ring[..], &ring[..1]].concat()), pair);
+    assert_eq!(issues::check(&ring), Ok("crossing"));
 }
 
 #[test]

@@ -8,7 +8,7 @@ use port::probe::{self, PassBuffers};
 
 #[test]
 fn passes_agree() {
-    passes::compare(1, 10_000).assert_agreed(10 * 10_000);
+    passes::compare(1, 10_000).assert_agreed(11 * 10_000);
 }
 
 #[test]

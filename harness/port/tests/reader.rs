@@ -2,5 +2,5 @@
 
 #[test]
 fn refusals_and_room_agree() {
-    port::reader::compare(1, 20_000).assert_agreed(13 * 20_000);
+    port::reader::compare(1, 20_000).assert_agreed(14 * 20_000);
 }

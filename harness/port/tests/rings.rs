@@ -11,7 +11,7 @@ use port::{probe, rings};
 
 #[test]
 fn ring_calls_agree() {
-    rings::compare(1, 15_000).assert_agreed(10 * 15_000);
+    rings::compare(1, 15_000).assert_agreed(11 * 15_000);
 }
 
 /// A call on a zigzag of so many numbers, its slices so much longer or shorter than they have to be.

@@ -68,7 +68,7 @@ fn safe_frame_calls_agree() {
     let campaign = campaign::run("safe frame calls", SEED, COUNT, &kinds(), |kind, index| {
         check_frame(&generator::frame(kind, SEED, index))
     });
-    campaign.assert_agreed(13 * COUNT);
+    campaign.assert_agreed(14 * COUNT);
 }
 
 #[test]
@@ -76,7 +76,7 @@ fn safe_ring_calls_agree() {
     let campaign = campaign::run("safe ring calls", SEED, COUNT, &styles(), |style, index| {
         check_ring(&generator::ring_call(style, SEED, index))
     });
-    campaign.assert_agreed(10 * COUNT);
+    campaign.assert_agreed(11 * COUNT);
 }
 
 #[test]
@@ -84,5 +84,5 @@ fn safe_slice_calls_agree() {
     let campaign = campaign::run("safe slice calls", SEED, COUNT, &styles(), |style, index| {
         check_slice(&generator::slice_call(style, SEED, index))
     });
-    campaign.assert_agreed(10 * COUNT);
+    campaign.assert_agreed(11 * COUNT);
 }

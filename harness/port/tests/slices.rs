@@ -2,6 +2,7 @@
 //! sides, lent slices exact, one short and longer, flags set by every number, long rings with the sweep, and document 01's
 //! worked polygons.
 
+use compare::shallow::{shallow_before_crossing, shallow_by_number, shallow_when_cut, SHALLOW, WIDE};
 use compare::worked::{
     self, exterior_of_each_reason, late_crossing, late_repeat, overflowing_cut, polygon_of_each_answer, regular,
     slice_call as lent, unclosed, unwritten, unwritten_origin, Beside, ACROSS_EAST, APART, BOW_TIE, EVERY_FLAG, INSIDE,
@@ -11,7 +12,7 @@ use formats::calls::{SliceAfter, SliceAnswer, SliceCall, MOST_COORDINATES};
 use formats::frame::MOST_RINGS;
 use formats::origins::CutRing;
 use formats::reason::Reason;
-use formats::{Coord, Part, Ring};
+use formats::{Bounds, Coord, Part, Ring};
 use port::calls;
 use port::slices::{self, check_against};
 
@@ -42,7 +43,7 @@ fn cut_across_east() -> CutRing {
 
 #[test]
 fn slice_calls_agree() {
-    slices::compare(1, 15_000).assert_agreed(10 * 15_000);
+    slices::compare(1, 15_000).assert_agreed(11 * 15_000);
 }
 
 #[test]
@@ -566,8 +567,8 @@ fn exact_side(scale: f64, [a, b, c]: [Coord; 3]) -> i128 {
     ((bx - ax) * (cy - ay) - (by - ay) * (cx - ax)).signum()
 }
 
-/// The rounded test takes the first and the third edge for crossing, though the third lies on one side of the first: only
-/// geo's `line_intersection`, which document 01 leaves out, would turn the pair down.
+/// The rounded test takes the first and the third edge for crossing, though the third lies on one side of the first. The decimals are
+/// off the grid of document 02's point 5 and keep the rounded test; the degrees are on it, and share no point.
 #[test]
 fn a_pair_of_edges_crosses_by_rounding_alone() {
     let decimals = [(0.1, 0.3), (0.6, 0.8), (0.4, 0.6), (0.3, 0.5), (0.1, 0.3)];
@@ -579,7 +580,7 @@ fn a_pair_of_edges_crosses_by_rounding_alone() {
         (-31.568978182155334, -73.81603924119962),
     ];
     let crossing = overlay(8, 0, 2).code();
-    for (ring, scale) in [(decimals, 2f64.powi(56)), (degrees, 2f64.powi(50))] {
+    for (ring, scale, code) in [(decimals, 2f64.powi(56), crossing), (degrees, 2f64.powi(50), 2)] {
         let [a, b, c, d, _] = ring;
         let side = |point: Coord| exact_side(scale, [a, b, point]);
         assert_eq!(side(c), side(d), "the third edge is on one side of the first");
@@ -588,6 +589,36 @@ fn a_pair_of_edges_crosses_by_rounding_alone() {
             let call = SliceCall { bounds: [-100.0, -100.0, 100.0, 100.0], ..call(flags, &[ring.to_vec()]) };
             answered(&call)
         });
-        assert_eq!(answers, [crossing, 2, crossing, 2], "{ring:?}");
+        assert_eq!(answers, [code, 2, code, 2], "{ring:?}");
     }
+}
+
+/// What a call on the ring alone in these bounds is answered with flags 0 to 3, held to the Rust each time.
+fn answers_in(bounds: Bounds, ring: &Ring) -> [i64; 4] {
+    [0, 1, 2, 3].map(|flags| answered(&SliceCall { bounds, ..call(flags, std::slice::from_ref(ring)) }))
+}
+
+#[test]
+fn shallow_pairs_cross_only_where_they_share_a_point() {
+    let code = |reason: Option<Reason>| reason.map_or(SliceAnswer::Unchanged, SliceAnswer::Overlay).code();
+    for shallow in SHALLOW {
+        for vertices in [0, 1, 14, 15, 30, 2_000] {
+            let told = code(shallow.reason(vertices));
+            let answers = answers_in(WIDE, &shallow.ring(vertices));
+            assert_eq!(answers, [told, 2, told, 2], "{}, {vertices} vertices", shallow.name);
+        }
+    }
+    for (ring, on_grid) in shallow_by_number() {
+        let told = if on_grid { 2 } else { overlay(8, 0, 2).code() };
+        assert_eq!(answers_in(WIDE, &ring), [told, 2, told, 2], "{ring:?}");
+    }
+    let (reason, ring) = shallow_before_crossing();
+    assert_eq!(answers_in(WIDE, &ring), [code(Some(reason)), 2, code(Some(reason)), 2]);
+}
+
+/// By the rounded test alone it had reason 10 where edges are looked at.
+#[test]
+fn a_cut_with_a_shallow_pair_is_cut() {
+    let (bounds, ring) = shallow_when_cut();
+    assert_eq!(answers_in(bounds, &ring), [4 + 65_536; 4]);
 }

@@ -1,5 +1,5 @@
-//! Section "Unchanged": issues of a ring and crossings of its edges, every pair looked at; and where they are: document 02,
-//! point 1.
+//! Section "Unchanged": issues of a ring and crossings of its edges, every pair looked at; where they are: document 02, point 1;
+//! and that edges which cross share a point: point 5.
 
 use crate::{Mistake, Reading, Vertex};
 
@@ -87,6 +87,13 @@ impl Reading {
 
     /// The first by lower and then by higher number of the pairs of edges that cross.
     pub fn crossing_pair(&self, ring: &[Vertex]) -> Option<(usize, usize)> {
+        let is_on_grid = |vertex: &Vertex| self.is_on_grid(vertex.x) && self.is_on_grid(vertex.y);
+        if self.makes(Mistake::GridOfWholeRing) && !ring.iter().all(is_on_grid) {
+            return Reading::ROUNDED.crossing_pair(ring);
+        }
+        if self.makes(Mistake::RoundedPairTold) {
+            return Reading::RIGHT.crossing_pair(ring).and_then(|_| Reading::ROUNDED.crossing_pair(ring));
+        }
         let edges: Vec<Edge> = ring.windows(2).map(|ends| Edge::new(ends[0], ends[1])).collect();
         if self.makes(Mistake::FirstHitOfSweep) && edges.len() > SCANNED {
             return self.swept_pairs(&edges).next();
@@ -130,7 +137,25 @@ impl Reading {
         pairs.filter(|&(lower, higher)| self.cross(&edges[lower], &edges[higher]))
     }
 
+    /// Whether the edges from `a[0]` to `a[1]` and from `b[0]` to `b[1]` cross.
+    pub fn edges_cross(&self, a: [Vertex; 2], b: [Vertex; 2]) -> bool {
+        self.cross(&Edge::new(a[0], a[1]), &Edge::new(b[0], b[1]))
+    }
+
+    /// By the rounded test, and where all their numbers are on the grid only if they share a point as well.
     fn cross(&self, a: &Edge, b: &Edge) -> bool {
+        let (ends_of_a, ends_of_b) = ([a.start, a.end], [b.start, b.end]);
+        if self.makes(Mistake::RoundedTestAlone) {
+            return self.cross_rounded(a, b);
+        }
+        if self.makes(Mistake::ExactTestAlone) {
+            return self.shares_point(ends_of_a, ends_of_b).unwrap_or_else(|| self.cross_rounded(a, b));
+        }
+        self.cross_rounded(a, b) && self.may_share_point(ends_of_a, ends_of_b)
+    }
+
+    /// Document 01's test.
+    fn cross_rounded(&self, a: &Edge, b: &Edge) -> bool {
         let short = |edge: &Edge| !self.makes(Mistake::ShortEdgesCross) && self.near_vertices(edge.start, edge.end);
         !self.boxes_apart(a, b)
             && !short(a)

@@ -1,5 +1,5 @@
-//! A second reading of document 01 and of document 02's points 1, 3, 4 and 12, written from their text alone: it shares no code
-//! with the oracle. It can make one deliberate mistake, so that the generator can be shown to find it.
+//! A second reading of document 01 and of document 02's points 1, 3, 4, 5 and 12, written from their text alone: it shares no
+//! code with the oracle. It can make one deliberate mistake, so that the generator can be shown to find it.
 
 mod calls;
 mod cut;
@@ -12,6 +12,7 @@ mod polygon;
 mod program;
 mod reason;
 mod ring;
+mod shared_point;
 
 pub use calls::{Lent, PassCounts, PassInput, Slices};
 pub use cut::Side;
@@ -29,6 +30,9 @@ pub struct Reading {
 
 impl Reading {
     pub const RIGHT: Reading = Reading { mistake: None };
+
+    /// Lets the rounded test alone tell which edges cross.
+    pub const ROUNDED: Reading = Reading { mistake: Some(Mistake::RoundedTestAlone) };
 
     pub fn with(mistake: Mistake) -> Reading {
         Reading { mistake: Some(mistake) }

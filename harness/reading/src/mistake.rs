@@ -272,6 +272,40 @@ mistakes! {
         BridgeHasPosition,
     }
 
+    [Frames, SliceCalls] {
+        // Whether two edges that cross by the rounded test share a point.
+        /// Doesn't ask for a shared point, as before.
+        RoundedTestAlone,
+        /// Asks for a shared point alone on the grid, and not what the rounded test says.
+        ExactTestAlone,
+        /// Takes a touch and an overlap for no shared point.
+        ProperCrossingsOnly,
+        /// Takes a stretch that two edges of one line have in common for no shared point.
+        ParallelShareNone,
+        /// Takes an end on the other edge's line for a shared point, wherever on the line it is.
+        EndOnLineIsShared,
+        /// Asks for a shared point in the check of the input only.
+        ExactOfInputOnly,
+        /// Asks for a shared point in the check of the cut only.
+        ExactOfCutOnly,
+        /// Tells the first pair by the rounded test where any pair crosses.
+        RoundedPairTold,
+
+        // Which numbers are on the grid.
+        /// Asks it of all numbers of the ring.
+        GridOfWholeRing,
+        /// Reckons exactly off the grid too, as far as the numbers have room.
+        ExactOffGrid,
+        /// Takes 256 for off the grid.
+        GridWithout256,
+        /// Takes zeros for off the grid.
+        GridWithoutZero,
+        /// Takes an odd multiple of 1/2^48 for off the grid.
+        CoarserGrid,
+        /// Takes an odd multiple of 1/2^49 for on the grid.
+        FinerGrid,
+    }
+
     [Frames, RingCalls, SliceCalls] {
         /// Gives 22 only when the answer needs the room.
         RoomByAnswer,

@@ -121,7 +121,8 @@ impl Reading {
             return Routed::Unchanged;
         }
         let checked = if self.makes(Mistake::ChecksHoles) { rings } else { &rings[..1] };
-        let found = checked.iter().find_map(|ring| Some((ring, self.issue(ring, flags.assume_simple)?)));
+        let reader = if self.makes(Mistake::ExactOfCutOnly) { &Reading::ROUNDED } else { self };
+        let found = checked.iter().find_map(|ring| Some((ring, reader.issue(ring, flags.assume_simple)?)));
         if let Some((ring, issue)) = found {
             return self.overlay(rings, self.input_reason(ring, issue));
         }
@@ -165,7 +166,8 @@ impl Reading {
 
     /// Why the cut of a polygon with this exterior won't do.
     fn reason(&self, input: &[Vertex], cut: &[Vec<Vertex>], bounds: &Bounds, flags: Flags) -> Option<Reason> {
-        let issue = self.issue(&cut[0], flags.assume_simple);
+        let reader = if self.makes(Mistake::ExactOfInputOnly) { &Reading::ROUNDED } else { self };
+        let issue = reader.issue(&cut[0], flags.assume_simple);
         if let Some(issue) = issue.filter(|_| !self.makes(Mistake::CutIssuesUnseen)) {
             return Some(self.cut_reason(input, &cut[0], issue));
         }
