@@ -10,8 +10,8 @@ use lib.Ieee.{Float}
 use lib.ListN.{length, take, replicate, length-replicate}
 use lib.Seq.{length-take-le}
 use Rattle.binary64.proofs.Booleans.{both}
-use Rattle.replay.specs.declared.ring_calls.RingVector.{RingVector}
-use Rattle.replay.specs.declared.slice_calls.SliceVector.{SliceVector}
+use Rattle.replay.specs.declared.ring_vectors.RingVector.{RingVector}
+use Rattle.replay.specs.declared.slice_vectors.SliceVector.{SliceVector}
 use Rattle.replay.specs.Lent.{marks, wholeMarks, originMarks, mostLent}
 use Rattle.replay.specs.Calls.{ringFits, sliceFits}
 

@@ -11,8 +11,8 @@ use Rattle.clip.specs.declared.polygon.Flags.{Flags}
 use Rattle.slices.specs.SliceCall.{PolygonSlices, polygonSlices, sliceCallAnswer, sliceCallCode, sliceCallSlices}
 use Rattle.replay.specs.declared.code.Outcome.{Outcome}
 use Rattle.replay.specs.declared.code.Outcome.the-variants.{Same, Differs, Broken}
-use Rattle.replay.specs.declared.ring_calls.RingVector.{RingVector}
-use Rattle.replay.specs.declared.slice_calls.SliceVector.{SliceVector}
+use Rattle.replay.specs.declared.ring_vectors.RingVector.{RingVector}
+use Rattle.replay.specs.declared.slice_vectors.SliceVector.{SliceVector}
 use Rattle.replay.specs.Code.{bitsOf, isRefusal}
 use Rattle.replay.specs.Lent.{mark, wholeMark, originMark, marks, wholeMarks, originMarks, mostLent}
 use Rattle.replay.specs.Lent.{bits, areAll, holds, clearedUnless}

@@ -3,8 +3,8 @@
 // often each answer was given and how many calls were answered otherwise.
 mod code;
 mod lent;
-mod ring_calls;
-mod slice_calls;
+mod ring_vectors;
+mod slice_vectors;
 mod stream;
 
 ghost use mathlib.Core.Path.{_≡_};
@@ -12,8 +12,8 @@ ghost use lib.ListN.{length};
 use code::Outcome;
 use code::is_refusal;
 use libc::STDOUT_FILENO;
-use ring_calls::replay_ring;
-use slice_calls::replay_slice;
+use ring_vectors::replay_ring;
+use slice_vectors::replay_slice;
 use stream::Count;
 use stream::is_at_end;
 use stream::read_count;
