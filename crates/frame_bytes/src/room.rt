@@ -17,7 +17,7 @@ use super::ring::COORD;
 use super::ring::COUNT;
 use super::ring::closed_count;
 use super::ring::count_at;
-use sutherland_hodgman::call::room_for;
+use sutherland_hodgman::growth::room_for;
 
 // The bytes of an answer that lists nothing.
 pub const LEAST_ROOM: usize = 5;

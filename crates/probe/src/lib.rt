@@ -6,11 +6,11 @@ ghost use lib.ListN.{getD, set, take};
 ghost use Rattle.tile.specs.Ring.{coords};
 ghost use Rattle.tile.specs.Bounds.{empty, isValid, expand, intersect, width, height, buffered};
 ghost use Rattle.sutherland_hodgman.specs.Origins.{clipOrigins};
-ghost use Rattle.sutherland_hodgman.specs.RingCall.{ringSlices, ringCallCheck};
 ghost use Rattle.sutherland_hodgman.specs.Contracts.{RingCut};
+ghost use Rattle.ring_calls.specs.RingCall.{ringSlices, ringCallCheck};
 ghost use Rattle.probe.specs.Numbers.{boundsAt, stored};
-use sutherland_hodgman::call::Check;
-use sutherland_hodgman::call::check_ring;
+use ring_calls::Check;
+use ring_calls::check_ring;
 use sutherland_hodgman::clip_ring;
 use tile::TileBounds;
 

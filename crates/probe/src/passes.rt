@@ -4,9 +4,9 @@ ghost use lib.ListN.{set};
 ghost use Rattle.probe.specs.Numbers.{boundsAt};
 ghost use Rattle.probe.specs.Passes as Passes;
 use super::bounds_at;
-use sutherland_hodgman::call::MOST_COORDINATES;
-use sutherland_hodgman::call::half_growth;
 use sutherland_hodgman::clip_ring_against_edge;
+use sutherland_hodgman::growth::MOST_COORDINATES;
+use sutherland_hodgman::growth::half_growth;
 use tile::Edge;
 
 fn edge_at(number: u8) -> Edge

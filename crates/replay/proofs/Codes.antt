@@ -6,7 +6,7 @@ use native.Mathlib.Omega.{arith}
 use lib.Dec.{lit<}
 use lib.Ieee.{Float}
 use Rattle.tile.specs.declared.TileBounds.{TileBounds}
-use Rattle.sutherland_hodgman.specs.declared.call.Refusal.the-variants.{Lengths, Coordinates, Scratch, Output}
+use Rattle.ring_calls.specs.declared.Refusal.the-variants.{Lengths, Coordinates, Scratch, Output}
 use Rattle.clip.specs.declared.polygon.Flags.{Flags}
 use Rattle.slices.specs.declared.call.SliceAnswer.{SliceAnswer}
 use Rattle.slices.specs.declared.call.SliceAnswer.the-variants.{Refused, Answered}

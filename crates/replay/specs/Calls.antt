@@ -6,7 +6,7 @@ use Prim.Native.Nat.{ℕ}
 use lib.Dec.{eqb, leb}
 use lib.Ieee.{Float}
 use Rattle.tile.specs.declared.TileBounds.{TileBounds}
-use Rattle.sutherland_hodgman.specs.RingCall.{RingSlices, ringSlices, ringCallAnswer, ringCallCode, ringCallSlices}
+use Rattle.ring_calls.specs.RingCall.{RingSlices, ringSlices, ringCallAnswer, ringCallCode, ringCallSlices}
 use Rattle.clip.specs.declared.polygon.Flags.{Flags}
 use Rattle.slices.specs.SliceCall.{PolygonSlices, polygonSlices, sliceCallAnswer, sliceCallCode, sliceCallSlices}
 use Rattle.replay.specs.declared.code.Outcome.{Outcome}

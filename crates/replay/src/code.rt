@@ -1,14 +1,14 @@
 // Answers as they cross in the exported calls: an i64, here by its bits, so that minus a refusal's number is a number from the top.
 ghost use mathlib.Core.Path.{_≡_};
 ghost use Prim.Native.Nat.{_^_, _<_};
-ghost use Rattle.sutherland_hodgman.specs.RingCall.{ringCallCode};
+ghost use Rattle.ring_calls.specs.RingCall.{ringCallCode};
 ghost use Rattle.slices.specs.SliceCall.{sliceCallCode};
 ghost use Rattle.replay.specs.Code.{bitsOf, isRefusal, ringNumbers, ringsWritten};
+use ring_calls::Refusal;
+use ring_calls::RingAnswer;
 use slices::call::FIRST_PLACE;
 use slices::call::SliceAnswer;
 use slices::call::answer_code;
-use sutherland_hodgman::call::Refusal;
-use sutherland_hodgman::call::RingAnswer;
 
 // What becomes of a vector: its answer is given, another one is, or the vector is not whole.
 pub enum Outcome {

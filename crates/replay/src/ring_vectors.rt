@@ -2,7 +2,7 @@
 ghost use mathlib.Core.Path.{_≡_};
 ghost use mathlib.Core.Bool.{_&&_};
 ghost use lib.ListN.{length};
-ghost use Rattle.sutherland_hodgman.specs.RingCall.{ringSlices};
+ghost use Rattle.ring_calls.specs.RingCall.{ringSlices};
 ghost use Rattle.replay.specs.Code.{isRefusal};
 ghost use Rattle.replay.specs.Lent.{originMark};
 ghost use Rattle.replay.specs.Calls.{answerAgrees, slicesAgree, ringAgrees, ringFits, ringOutcome};
@@ -26,7 +26,7 @@ use super::stream::read_count;
 use super::stream::read_numbers;
 use super::stream::read_origins;
 use binary64::bytes::read_f64;
-use sutherland_hodgman::call::ring;
+use ring_calls::ring;
 use tile::TileBounds;
 
 // The bytes before the numbers of a ring: four lengths, the bounds, and two counts.

@@ -9,11 +9,11 @@ use lib.ListN.{length}
 use mir.Syntax.{w64}
 use mir.Val.{SFits, toZ, ofZ}
 use borrow.Author.Needs.{sfits-of}
-use Rattle.sutherland_hodgman.specs.declared.call.Refusal.{Refusal}
-use Rattle.sutherland_hodgman.specs.declared.call.Refusal.the-variants.{Lengths, Coordinates, Scratch, Output}
-use Rattle.sutherland_hodgman.specs.declared.call.RingAnswer.the-variants.{Refused}
 use Rattle.sutherland_hodgman.specs.Growth.{mostCoordinates}
-use Rattle.sutherland_hodgman.specs.RingCall.{ringCallCode}
+use Rattle.ring_calls.specs.declared.Refusal.{Refusal}
+use Rattle.ring_calls.specs.declared.Refusal.the-variants.{Lengths, Coordinates, Scratch, Output}
+use Rattle.ring_calls.specs.declared.RingAnswer.the-variants.{Refused}
+use Rattle.ring_calls.specs.RingCall.{ringCallCode}
 use Rattle.frame_bytes.specs.declared.reader.FrameRefusal.{FrameRefusal}
 use Rattle.frame_bytes.specs.declared.reader.FrameRefusal.the-variants as Frames
 use Rattle.frame_bytes.specs.Frame.{frameRefusalNumber}

@@ -2,7 +2,7 @@
 // says what they must be; a refusal is answered as minus its number.
 ghost use mathlib.Core.Path.{_≡_};
 ghost use Rattle.tile.specs.Bounds.{newOf};
-ghost use Rattle.sutherland_hodgman.specs.RingCall.{ringSlices, ringCallAnswer, ringCallCode, ringCallSlices, RingCallPromise};
+ghost use Rattle.ring_calls.specs.RingCall.{ringSlices, ringCallAnswer, ringCallCode, ringCallSlices, RingCallPromise};
 ghost use Rattle.slices.specs.SliceCall.{polygonSlices, sliceCallAnswer, sliceCallSlices, sliceCallCode, sliceCallGuards, guardsIn};
 ghost use Rattle.frames.specs.Output.{frameCallOutput};
 ghost use Rattle.frames.specs.FrameCall.{frameCallAnswer, frameCallCode};
@@ -10,10 +10,10 @@ ghost use Rattle.ringcut_calls.specs.Flags.{isSet, flagsOf};
 use clip::polygon::Flags;
 use frame_bytes::reader::refusal_number;
 use frames::entry::FrameAnswer;
+use ring_calls::Refusal;
+use ring_calls::RingAnswer;
 use slices::call::SliceAnswer;
 use slices::call::answer_code;
-use sutherland_hodgman::call::Refusal;
-use sutherland_hodgman::call::RingAnswer;
 use tile::TileBounds;
 
 // Minus the number of a refusal.
@@ -53,7 +53,7 @@ pub extern "C" fn ringcut_ring(
         (now (out .exit)) ⌝ }
 {
     let bounds = TileBounds::new(west, south, east, north);
-    match sutherland_hodgman::call::ring(ring, bounds, scratch, origin_scratch, out, out_origins) {
+    match ring_calls::ring(ring, bounds, scratch, origin_scratch, out, out_origins) {
         RingAnswer::Refused(r) => refusal_code(r),
         RingAnswer::Clipped(n) => n as i64,
     }

@@ -10,7 +10,7 @@ ghost use Rattle.rings.specs.Contracts as Contracts;
 use super::rectangle::Rect;
 use super::rectangle::with_ring;
 use super::representable::has_huge;
-use sutherland_hodgman::call::room_for;
+use sutherland_hodgman::growth::room_for;
 use tile::ring::closed_count;
 
 // The most rings that a polygon may have.

@@ -17,12 +17,12 @@ use Rattle.tile.specs.declared.Edge.the-variants.{Left, Right, Bottom, Top}
 use Rattle.tile.specs.Bounds.{buffered}
 use Rattle.box_pairs.specs.declared.Issue.{Issue}
 use Rattle.box_pairs.specs.declared.Issue.the-variants.{Sound, Short, Repeated, Crossing}
-use Rattle.sutherland_hodgman.specs.declared.call.Refusal.{Refusal}
-use Rattle.sutherland_hodgman.specs.declared.call.Refusal.the-variants as Refusals
-use Rattle.sutherland_hodgman.specs.declared.call.Check.{Check}
-use Rattle.sutherland_hodgman.specs.declared.call.Check.the-variants.{Fails, Passes}
 use Rattle.sutherland_hodgman.specs.Growth.{B, mostCoordinates}
 use Rattle.sutherland_hodgman.proofs.Offered.{B-le}
+use Rattle.ring_calls.specs.declared.Refusal.{Refusal}
+use Rattle.ring_calls.specs.declared.Refusal.the-variants as Refusals
+use Rattle.ring_calls.specs.declared.Check.{Check}
+use Rattle.ring_calls.specs.declared.Check.the-variants.{Fails, Passes}
 use Rattle.rings.specs.declared.rectangle.Rect.{Rect}
 use Rattle.rings.specs.declared.rectangle.Rect.the-variants as Rects
 use Rattle.rings.specs.Rectangle.{rectangle}

@@ -14,13 +14,13 @@ use Rattle.binary64.proofs.Fill.{padded-part}
 use Rattle.binary64.proofs.Booleans.{neither, both}
 use Rattle.tile.specs.declared.Coord.{Coord}
 use Rattle.tile.specs.declared.TileBounds.{TileBounds}
-use Rattle.sutherland_hodgman.specs.declared.call.Refusal.{Refusal}
-use Rattle.sutherland_hodgman.specs.declared.call.Refusal.the-variants.{Lengths, Coordinates, Scratch, Output}
-use Rattle.sutherland_hodgman.specs.declared.call.Check.{Check}
-use Rattle.sutherland_hodgman.specs.declared.call.Check.the-variants.{Fails, Passes}
 use Rattle.sutherland_hodgman.specs.Growth.{mostCoordinates}
-use Rattle.sutherland_hodgman.specs.RingCall.{failsIf}
-use Rattle.sutherland_hodgman.proofs.Offered.{not-refused}
+use Rattle.ring_calls.specs.declared.Refusal.{Refusal}
+use Rattle.ring_calls.specs.declared.Refusal.the-variants.{Lengths, Coordinates, Scratch, Output}
+use Rattle.ring_calls.specs.declared.Check.{Check}
+use Rattle.ring_calls.specs.declared.Check.the-variants.{Fails, Passes}
+use Rattle.ring_calls.specs.RingCall.{failsIf}
+use Rattle.ring_calls.proofs.Offered.{not-refused}
 use Rattle.rings.specs.Representable.{anyHugeRing}
 use Rattle.rings.specs.LentRings.{mostRings, sum, closedRings, total, largest, ringRoom}
 use Rattle.rings.specs.Contracts.{allClosed, Lent, Measurable}

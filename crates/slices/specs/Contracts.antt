@@ -12,8 +12,8 @@ use Rattle.tile.specs.declared.Coord.{Coord}
 use Rattle.tile.specs.declared.TileBounds.{TileBounds}
 use Rattle.tile.specs.Ring.{flat}
 use Rattle.tile.specs.Contracts.{Stands}
-use Rattle.sutherland_hodgman.specs.declared.call.Check.{Check}
-use Rattle.sutherland_hodgman.specs.declared.call.Check.the-variants.{Fails, Passes}
+use Rattle.ring_calls.specs.declared.Check.{Check}
+use Rattle.ring_calls.specs.declared.Check.the-variants.{Fails, Passes}
 use Rattle.rings.specs.LentRings.{closedRings, total, largest, ringRoom, exterior}
 use Rattle.rings.specs.Contracts.{allClosed, Measurable}
 use Rattle.clip.specs.declared.polygon.Route.{Route}

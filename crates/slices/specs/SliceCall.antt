@@ -12,11 +12,11 @@ use Rattle.tile.specs.declared.Coord.{Coord}
 use Rattle.tile.specs.declared.TileBounds.{TileBounds}
 use Rattle.tile.specs.Bounds.{buffered}
 use Rattle.tile.specs.Ring.{flat}
-use Rattle.sutherland_hodgman.specs.declared.call.Refusal.the-variants.{Lengths, Coordinates, Scratch, Output}
-use Rattle.sutherland_hodgman.specs.declared.call.Check.{Check}
-use Rattle.sutherland_hodgman.specs.declared.call.Check.the-variants.{Fails, Passes}
 use Rattle.sutherland_hodgman.specs.Growth.{mostCoordinates}
-use Rattle.sutherland_hodgman.specs.RingCall.{refusalNumber, failsIf}
+use Rattle.ring_calls.specs.declared.Refusal.the-variants.{Lengths, Coordinates, Scratch, Output}
+use Rattle.ring_calls.specs.declared.Check.{Check}
+use Rattle.ring_calls.specs.declared.Check.the-variants.{Fails, Passes}
+use Rattle.ring_calls.specs.RingCall.{refusalNumber, failsIf}
 use Rattle.rings.specs.LentRings.{mostRings, sum, closedRings, total, largest, ringRoom}
 use Rattle.clip.specs.declared.polygon.Flags.{Flags}
 use Rattle.clip.specs.declared.polygon.PolygonAnswer.{PolygonAnswer}

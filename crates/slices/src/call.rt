@@ -26,6 +26,7 @@ use clip::polygon::clip_hole;
 use clip::polygon::guard_count;
 use clip::polygon::reason_detail;
 use clip::polygon::route_exterior;
+use ring_calls::Refusal;
 use rings::lent::MOST_RINGS;
 use rings::lent::closed_sum;
 use rings::lent::has_huge_ring;
@@ -33,8 +34,7 @@ use rings::lent::lent_count;
 use rings::lent::polygon_rect_all_rings;
 use rings::lent::room_of;
 use rings::rectangle::Rect;
-use sutherland_hodgman::call::MOST_COORDINATES;
-use sutherland_hodgman::call::Refusal;
+use sutherland_hodgman::growth::MOST_COORDINATES;
 use sutherland_hodgman::origins::clear_origins;
 use tile::TileBounds;
 

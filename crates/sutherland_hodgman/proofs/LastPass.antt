@@ -15,7 +15,7 @@ use Rattle.tile.proofs.Rings.{stands-front}
 use Rattle.sutherland_hodgman.specs.Clip.{pass, passes, finish, clipRing}
 use Rattle.sutherland_hodgman.specs.Contracts.{threePasses, RingCut}
 use Rattle.sutherland_hodgman.specs.Growth.{halfGrowth}
-use Rattle.sutherland_hodgman.proofs.Growth.{pass-grows}
+use Rattle.sutherland_hodgman.proofs.GrowthLaws.{pass-grows}
 use Rattle.sutherland_hodgman.proofs.Promises.{FittingBounds, FittingCoord, promise}
 
 some-grown : (n k : ℕ) → k ≤ halfGrowth n → 3 ≤ k → 0 < n

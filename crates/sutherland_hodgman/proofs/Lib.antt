@@ -1,6 +1,5 @@
-mod Calls
 mod Cases
-mod Growth
+mod GrowthLaws
 mod LastPass
 mod LeavingOff
 pub mod Offered

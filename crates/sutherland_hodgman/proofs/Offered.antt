@@ -1,31 +1,33 @@
 -- Laws that this crate offers to those above it beside its contracts. By these they know the cut of a ring, and the room that it takes;
 -- they unfold neither. Assumes nothing.
 use mathlib.Core.Path.{_≡_, refl}
-use mathlib.Core.Bool.{Bool, true, false}
+use mathlib.Core.Bool.{true}
 use mathlib.Core.List.{List, [], _∷_}
-use Prim.Native.Nat.{ℕ, zero, suc, _+_, _*_, _/_, _<_, _≤_}
+use Prim.Native.Nat.{ℕ, zero, suc, _+_, _*_, _<_, _≤_}
 use native.Mathlib.Omega.{arith}
-use lib.Ieee.{Float}
-use lib.ListN.{length, getD, take, replicate}
+use lib.Dec.{T}
+use lib.Ieee.{Float, nan, binary64, fits}
+use lib.ListN.{length, getD, take}
 use Rattle.binary64.specs.Lists.{Every}
 use Rattle.tile.specs.declared.Coord.{Coord}
 use Rattle.tile.specs.declared.TileBounds.{TileBounds}
 use Rattle.tile.specs.declared.Edge.{Edge}
+use Rattle.tile.specs.declared.Edge.the-variants.{Top}
 use Rattle.tile.specs.Ring.{coords, closed, close}
-use Rattle.sutherland_hodgman.specs.declared.call.Refusal.{Refusal}
-use Rattle.sutherland_hodgman.specs.declared.call.Check.{Check}
-use Rattle.sutherland_hodgman.specs.declared.call.Check.the-variants.{Passes}
-use Rattle.sutherland_hodgman.specs.declared.call.RingAnswer.the-variants.{Clipped}
+use Rattle.tile.specs.Contracts.{Stands}
+use Rattle.tile.proofs.Rings.{length-front}
 use Rattle.sutherland_hodgman.specs.CuttingLines.{fixed, bound}
 use Rattle.sutherland_hodgman.specs.Clip.{leaveOff, around, pass, passes, finish, clipRing}
 use Rattle.sutherland_hodgman.specs.Growth.{halfGrowth, fourHalfGrowths, B, mostCoordinates}
 use Rattle.sutherland_hodgman.specs.Origins.{lineOrigin, IsPosition, closeOrigins, clipOrigins, Traced, Rises}
-use Rattle.sutherland_hodgman.specs.RingCall.{failsIf, RingSlices, ringCallCheck, ringCallAnswer}
-use Rattle.sutherland_hodgman.specs.Contracts.{Fits16, CutterRoom, OriginRoom}
-use Rattle.sutherland_hodgman.proofs.Calls as calls
-use Rattle.sutherland_hodgman.proofs.Growth as growth
+use Rattle.sutherland_hodgman.specs.Contracts.{Fits16, CutterRoom, OriginRoom, threePasses, threePassesOrigins, topOrigins, RingCut}
+use Rattle.sutherland_hodgman.proofs.GrowthLaws as growth
 use Rattle.sutherland_hodgman.proofs.LeavingOff.{leaveOff-close}
+use Rattle.sutherland_hodgman.proofs.LastPass.{last-pass-cut}
 use Rattle.sutherland_hodgman.proofs.OriginLaws as laws
+use Rattle.sutherland_hodgman.proofs.OriginStages.{origins-last, origins-cut}
+use Rattle.sutherland_hodgman.proofs.Promises.{FittingBounds, fitting-front}
+use Rattle.sutherland_hodgman.proofs.Stages.{stage-three, stage-last}
 
 -- ---- the room of a ring
 
@@ -96,6 +98,12 @@ B-318 = refl
 
 -- ---- a cut ring
 
+-- a cut ring has room
+pub clip-room : (b : TileBounds) (r : List Coord) → length (clipRing b r) ≤ B (length r)
+unfolding clipRing passes pass around leaveOff finish B
+clip-room b [] = omega arith
+clip-room b (p ∷ r) = omega (arith, growth.clipRing-grows b (p ∷ r))
+
 -- a cut ring with vertices can be closed once more in its room
 pub clip-fits : (b : TileBounds) (r : List Coord) → 0 < length (clipRing b r) → suc (length (clipRing b r)) ≤ B (length r)
 unfolding clipRing passes pass around leaveOff finish B
@@ -157,31 +165,23 @@ origins-fit = laws.origins-fit
 pub close-fits : (r : List Coord) (os : List ℕ) → Every Fits16 os → Every Fits16 (closeOrigins r os)
 close-fits = laws.close-fits
 
--- ---- the ring call, whose refusals and clearing the slice call shares
+-- ---- the passes in two: the first three, and the last with the closing
 
--- where the row of tests passes, its first test says no and the others pass
-pub not-refused : (t : Bool) (r : Refusal) (c : Check) → failsIf t r c ≡ Passes → (t ≡ false) × (c ≡ Passes)
-not-refused = calls.not-refused
+module _ (b : TileBounds) (s : List Float) (n k : ℕ) (d : List Float) (three : Stands (threePasses b (coords (take (2 * n) s))) k d) where
+  -- where there is room for the cutter, the last pass has room for what the first three leave of the n vertices at the front of a slice
+  pub last-room : {scratch out : ℕ} → CutterRoom n (length s) scratch out
+      → (2 * k ≤ scratch) × (2 * halfGrowth k ≤ out) × (0 < k → 2 * halfGrowth k + 2 ≤ out)
+  last-room h = stage-last _ _ (h .scratch-room) (h .output-room) (stage-three b _ n d k (length-front s n (h .vertices)) three)
 
--- a scratch slice that is filled with zeros has kept its length
-pub cleared : {A : Type 0} (zero : A) (m n : ℕ) (l : List A) → l ≡ replicate m zero → m ≡ n → l ≡ replicate n zero
-cleared = calls.cleared
+  pub last-origin-room : {scratch out : ℕ} → 2 * n ≤ length s → OriginRoom n scratch out
+      → (k ≤ scratch) × (halfGrowth k ≤ out) × (0 < k → halfGrowth k + 1 ≤ out)
+  last-origin-room l h = origins-last _ _ (h .scratch-room) (h .output-room) (stage-three b _ n d k (length-front s n l) three)
 
--- a ring that a ring call does not refuse has room for the cutter, and is all of what is lent
-pub lent-room : (ring : List Float) (lent : RingSlices) → ringCallCheck ring lent ≡ Passes
-    → CutterRoom (length ring / 2) (length ring) (length (lent .scratch)) (length (lent .output))
-    × OriginRoom (length ring / 2) (length (lent .originScratch)) (length (lent .outOrigins))
-lent-room ring lent e =
-    let p = calls.passes-cuttable (length ring) _ _ _ _ e in (
-      record { vertices = omega (arith, p .even); scratch-room = p .scratch-room; output-room = p .output-room },
-      record { positions = p .few; scratch-room = p .origin-scratch-room; output-room = p .origin-output-room },
-    )
+  -- what the last leaves is the cut; demand 3 holds of it, since the numbers of the bounds and of the ring are doubles
+  pub last-cut : FittingBounds b → ((i : ℕ) → T (fits binary64 (getD s i nan))) → (r : ℕ) (d′ : List Float)
+      → Stands (finish (pass Top b (coords (take (2 * k) d)))) r d′ → RingCut b (coords (take (2 * n) s)) r d′
+  last-cut hb hs r d′ top = last-pass-cut b _ k d d′ r hb (fitting-front s n hs) three top
 
-pub lent-whole : (ring : List Float) (lent : RingSlices) → ringCallCheck ring lent ≡ Passes
-    → coords (take (2 * (length ring / 2)) ring) ≡ coords ring
-lent-whole ring lent e = calls.whole-ring ring (calls.passes-cuttable (length ring) _ _ _ _ e .even)
-
--- a ring call answers fewer than 2^19 coordinates, so that the count fits an i64
-pub answer-few : (ring : List Float) (bounds : TileBounds) (lent : RingSlices) (n : ℕ) → ringCallAnswer ring bounds lent ≡ Clipped n
-    → n ≤ 8 * mostCoordinates
-answer-few = calls.answer-few
+  pub last-origins : (origins top : List ℕ) → origins ≡ threePassesOrigins b (coords (take (2 * n) s))
+      → top ≡ topOrigins b (coords (take (2 * k) d)) origins → top ≡ clipOrigins b (coords (take (2 * n) s))
+  last-origins origins top = origins-cut b _ k d origins top three

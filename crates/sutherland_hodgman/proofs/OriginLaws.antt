@@ -36,7 +36,7 @@ use Rattle.sutherland_hodgman.specs.Origins.{
 }
 use Rattle.sutherland_hodgman.specs.Growth.{mostCoordinates}
 use Rattle.sutherland_hodgman.specs.Contracts.{Fits16}
-use Rattle.sutherland_hodgman.proofs.Growth.{leaveOff-length}
+use Rattle.sutherland_hodgman.proofs.GrowthLaws.{leaveOff-length}
 use Rattle.sutherland_hodgman.proofs.LeavingOff.{leaveOff-close}
 use Rattle.sutherland_hodgman.proofs.OriginWalking.{step-many, pass-many, pass-enough, length-positions}
 

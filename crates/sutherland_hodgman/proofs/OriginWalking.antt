@@ -21,7 +21,7 @@ use Rattle.sutherland_hodgman.specs.Clip.{step, steps, leaveOff, around,
 use Rattle.sutherland_hodgman.specs.Contracts.{noVertex}
 use Rattle.sutherland_hodgman.specs.Origins.{lineOrigin, positionsFrom, stepOrigins, stepsOrigins, aroundOrigins, passOrigins}
 use Rattle.sutherland_hodgman.specs.Contracts.{originsLeft, SameOrigins, CopiedOrigins}
-use Rattle.sutherland_hodgman.proofs.Growth.{leaveOff-length}
+use Rattle.sutherland_hodgman.proofs.GrowthLaws.{leaveOff-length}
 
 -- ---- a pass gives as many origins as vertices
 

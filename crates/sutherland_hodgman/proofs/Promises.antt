@@ -28,7 +28,7 @@ use Rattle.tile.proofs.Rings.{coords-take, length-close}
 use Rattle.sutherland_hodgman.specs.CuttingLines.{fixed, free, place, bound, isLow, inside, crossing}
 use Rattle.sutherland_hodgman.specs.Clip.{pass, passes, finish, clipRing}
 use Rattle.sutherland_hodgman.specs.Promise.{LatitudeInBounds, atMost256, CoordAtMost256, LongitudeNearBounds, Promise}
-use Rattle.sutherland_hodgman.proofs.Growth.{clipRing-grows}
+use Rattle.sutherland_hodgman.proofs.GrowthLaws.{clipRing-grows}
 use Rattle.sutherland_hodgman.proofs.Turns.{Turns, every-take, every-finish, every-map, every-both, every-of-all, passed}
 
 -- ---- latitudes

@@ -16,7 +16,7 @@ use Rattle.tile.proofs.Rings.{length-front, flat-front, stands-front, written-s
 use Rattle.sutherland_hodgman.specs.Clip.{pass}
 use Rattle.sutherland_hodgman.specs.Contracts.{threePasses}
 use Rattle.sutherland_hodgman.specs.Growth.{halfGrowth, B}
-use Rattle.sutherland_hodgman.proofs.Growth.{pass-grows, halfGrowth-mono, grown, grown-four, room-pass, room-more, grown-some}
+use Rattle.sutherland_hodgman.proofs.GrowthLaws.{pass-grows, halfGrowth-mono, grown, grown-four, room-pass, room-more, grown-some}
 
 -- after j passes over n vertices: the ring r, k vertices long, at the front of d
 pub record Stage (j n : ℕ) (r : List Coord) (d : List Float) (k : ℕ) : Type 0 where

@@ -20,7 +20,7 @@ use Rattle.sutherland_hodgman.specs.CuttingLines.{inside, crossing}
 use Rattle.sutherland_hodgman.specs.Clip.{step, steps, leaveOff, around, pass}
 use Rattle.sutherland_hodgman.specs.Contracts.{noVertex, vertexBefore, stepsLeft, SameRest}
 use Rattle.sutherland_hodgman.specs.Growth.{halfGrowth}
-use Rattle.sutherland_hodgman.proofs.Growth.{pass-grows}
+use Rattle.sutherland_hodgman.proofs.GrowthLaws.{pass-grows}
 
 module _ (l : Edge) (b : TileBounds) (ring : List Coord) where
   pub rest-here : (v : Bool) (i k : ℕ) (d : List Float) → SameRest l b ring v i k d v i k d

@@ -5,9 +5,8 @@ use mathlib.Core.Bool.{Bool, true, false}
 use mathlib.Core.List.{List, _++_}
 use Prim.Native.Nat.{_-_, ℕ, zero, suc, _+_, _≤_, _<_, _*_, _^_}
 use lib.Ieee.{Float, nan}
-use lib.ListN.{length, take, getD, drop, replicate}
+use lib.ListN.{length, take, getD, drop}
 use lib.Seq.{sets}
-use Rattle.binary64.specs.Slices.{zeros}
 use Rattle.tile.specs.declared.Coord.{Coord}
 use Rattle.tile.specs.declared.TileBounds.{TileBounds}
 use Rattle.tile.specs.declared.Edge.{Edge}
@@ -17,7 +16,7 @@ use Rattle.tile.specs.Contracts.{Stands}
 use Rattle.sutherland_hodgman.specs.declared.Walk.{Walk}
 use Rattle.sutherland_hodgman.specs.Clip.{steps, pass, clipRing}
 use Rattle.sutherland_hodgman.specs.Growth.{halfGrowth, B, mostCoordinates}
-use Rattle.sutherland_hodgman.specs.Origins.{stepsOrigins, passOrigins, finishOrigins, positionsFrom, clipOrigins}
+use Rattle.sutherland_hodgman.specs.Origins.{stepsOrigins, passOrigins, finishOrigins, positionsFrom}
 use Rattle.sutherland_hodgman.specs.Promise.{Promise}
 
 -- ---- a pass
@@ -130,13 +129,3 @@ topOrigins b r os = finishOrigins (pass Top b r) (passOrigins Top b r os)
 pub record RingCut (bounds : TileBounds) (ring : List Coord) (r : ℕ) (after : List Float) : Type 0 where
   pub stands : Stands (clipRing bounds ring) r after
   pub promise : Promise bounds ring (coords (take (2 * r) after))
-
--- the cut ring stands at the front of the output, r vertices long, and zeros past it; demand 3 holds of what stands there
-pub record PaddedCut (bounds : TileBounds) (ring : List Coord) (out r : ℕ) (after : List Float) : Type 0 where
-  pub count : r ≡ length (clipRing bounds ring)
-  pub numbers : after ≡ flat (clipRing bounds ring) ++ zeros (out - 2 * r)
-  pub promise : Promise bounds ring (coords (take (2 * r) after))
-
--- the origins of the cut ring, r vertices long, stand at the front of their output, `out` long, and zeros past them
-abbrev pub PaddedOrigins : TileBounds → List Coord → ℕ → ℕ → List ℕ → Type 0
-PaddedOrigins bounds ring out r after = after ≡ clipOrigins bounds ring ++ replicate (out - r) 0

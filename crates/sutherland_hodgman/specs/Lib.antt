@@ -4,5 +4,4 @@ pub mod Verdicts
 pub mod Growth
 pub mod Origins
 pub mod Promise
-pub mod RingCall
 pub mod Contracts

@@ -1,5 +1,5 @@
-// Sutherland-Hodgman cutting of a ring at the four edges of the bounds: one pass, the ring cutter, and the ring call. Beside each vertex
-// that is cut or kept stands its origin.
+// Sutherland-Hodgman cutting of a ring at the four edges of the bounds: one pass, and the ring cutter. Beside each vertex that is cut or
+// kept stands its origin.
 ghost use mathlib.Core.Path.{_≡_};
 ghost use mathlib.Core.Bool.{true, false, not};
 ghost use mathlib.Core.List.{_++_};
@@ -28,7 +28,7 @@ use tile::ring::is_closed;
 use tile::ring::put;
 use verdict::judge;
 
-pub mod call;
+pub mod growth;
 pub mod origins;
 mod verdict;
 
@@ -342,7 +342,7 @@ fn finish(ring: &mut [f64], origins: &mut [u16], n: usize) -> usize
 // The passes but the last: from the ring to the scratch slice, to the output, and to the scratch slice, at whose front stands what they
 // leave; the answer is its length. Three are a function of their own because that is small enough to be compiled into the
 // ring call; four were not. The origins start as positions in the slice for the output's, and go the same way.
-fn clip_three_edges(
+pub fn clip_three_edges(
     ring: &[f64],
     n: usize,
     bounds: TileBounds,
@@ -389,7 +389,7 @@ fn clip_three_edges(
 }
 
 // The last pass, to the output, and the closing there.
-fn clip_top(
+pub fn clip_top(
     scratch: &[f64],
     origin_scratch: &[u16],
     n: usize,

@@ -4,9 +4,9 @@ use Prim.Native.Nat.{ℕ}
 use native.Mathlib.Omega.{arith}
 use denote.Ref.{now}
 use borrow.Author.Needs.{needs}
-use Rattle.sutherland_hodgman.specs.declared.call.Check.the-variants.{Passes}
-use Rattle.sutherland_hodgman.specs.RingCall.{ringSlices}
-use Rattle.sutherland_hodgman.proofs.Offered.{lent-room, lent-whole}
+use Rattle.ring_calls.specs.declared.Check.the-variants.{Passes}
+use Rattle.ring_calls.specs.RingCall.{ringSlices}
+use Rattle.ring_calls.proofs.Offered.{lent-room, lent-whole}
 use Rattle.probe.proofs.probe_clip_ring.Statement.{statement}
 use Rattle.probe.proofs.probe_clip_ring.Tie as tie
 

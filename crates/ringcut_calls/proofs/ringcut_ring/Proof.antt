@@ -4,8 +4,8 @@ use mir.Syntax.{w64}
 use mir.Val.{SFits}
 use mir.Facts.{toZ-ofZ}
 use borrow.Author.Needs.{needs}
-use Rattle.sutherland_hodgman.specs.RingCall.{ringCallCode}
-use Rattle.sutherland_hodgman.proofs.Offered.{answer-few}
+use Rattle.ring_calls.specs.RingCall.{ringCallCode}
+use Rattle.ring_calls.proofs.Offered.{answer-few}
 use Rattle.ringcut_calls.proofs.Codes.{count-fits, refusal-fits}
 use Rattle.ringcut_calls.proofs.ringcut_ring.Statement.{statement}
 use Rattle.ringcut_calls.proofs.ringcut_ring.Tie as tie

@@ -3,7 +3,7 @@ use mathlib.Core.Path.{_≡_, sym, _∙_}
 use mathlib.Core.Bool.{true}
 use borrow.Author.Tests.{not-true, not-false}
 use lib.ListN.{take}
-use Rattle.sutherland_hodgman.specs.RingCall.{ringSlices}
+use Rattle.ring_calls.specs.RingCall.{ringSlices}
 use Rattle.replay.specs.declared.ring_vectors.RingVector.{RingVector}
 use Rattle.replay.specs.Lent as Lent
 use Rattle.replay.specs.Calls as Calls

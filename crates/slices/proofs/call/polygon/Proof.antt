@@ -7,7 +7,7 @@ use denote.Ref.{now}
 use lib.Seq.{length-take-le}
 use borrow.Author.Needs.{needs}
 use Rattle.binary64.specs.Slices.{plusZero}
-use Rattle.sutherland_hodgman.proofs.Offered.{cleared}
+use Rattle.ring_calls.proofs.Offered.{cleared}
 use Rattle.rings.specs.LentRings.{closedRings}
 use Rattle.clip.specs.Polygon.{route}
 use Rattle.clip.specs.Origins.{routedOrigins}

@@ -8,13 +8,13 @@ use lib.ListN.{length, take}
 use lib.Seq.{length-take-le}
 use borrow.Author.Needs.{needs}
 use Rattle.binary64.specs.Slices.{plusZero}
-use Rattle.sutherland_hodgman.specs.declared.call.RingAnswer.the-variants.{Clipped}
-use Rattle.sutherland_hodgman.specs.RingCall.{ringSlices, ringCallRoom, ringCallOriginRoom, ringCallAnswer}
-use Rattle.sutherland_hodgman.proofs.Growth.{B-le}
-use Rattle.sutherland_hodgman.proofs.Calls.{Cuttable, passes-cuttable, lent-padded, lent-origins, padded-front, refused-slices}
-use Rattle.sutherland_hodgman.proofs.Calls.{clipped-slices, cleared}
-use Rattle.sutherland_hodgman.proofs.call.ring.Statement.{statement}
-use Rattle.sutherland_hodgman.proofs.call.ring.Tie as tie
+use Rattle.sutherland_hodgman.proofs.Offered.{B-le}
+use Rattle.ring_calls.specs.declared.RingAnswer.the-variants.{Clipped}
+use Rattle.ring_calls.specs.RingCall.{ringSlices, ringCallRoom, ringCallOriginRoom, ringCallAnswer}
+use Rattle.ring_calls.proofs.Calls.{Cuttable, passes-cuttable, lent-padded, lent-origins, padded-front, refused-slices}
+use Rattle.ring_calls.proofs.Calls.{clipped-slices, cleared}
+use Rattle.ring_calls.proofs.ring.Statement.{statement}
+use Rattle.ring_calls.proofs.ring.Tie as tie
 
 -- where no check fails, the ring can be cut in the lent slices
 cuttable : (c : tie.After-enum-told) → Cuttable (length (now (c .before .before .before .before .before .before .before .before .args

@@ -2,8 +2,8 @@
 use mathlib.Core.Path.{refl}
 use borrow.Author.Needs.{needs}
 use Rattle.sutherland_hodgman.specs.Growth.{halfGrowth}
-use Rattle.sutherland_hodgman.proofs.call.half_growth.Statement.{statement}
-use Rattle.sutherland_hodgman.proofs.call.half_growth.Tie as tie
+use Rattle.sutherland_hodgman.proofs.growth.half_growth.Statement.{statement}
+use Rattle.sutherland_hodgman.proofs.growth.half_growth.Tie as tie
 
 add-result : tie.Need-add-result
 add-result c = search needs

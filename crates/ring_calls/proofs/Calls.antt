@@ -1,9 +1,8 @@
 -- The ring call: what the checks leave, and what cutting and clearing make of the lent slices. Assumes nothing.
 use mathlib.Core.Path.{_≡_, refl, sym, _∙_, ap}
-use mathlib.Core.Logic.{_⊎_, inl, inr}
 use mathlib.Core.Bool.{Bool, true, false, _||_}
-use mathlib.Core.List.{List, [], _∷_, _++_, append-nil, append-assoc}
-use Prim.Native.Nat.{ℕ, suc, _*_, _-_, _/_, _%_, _≤_}
+use mathlib.Core.List.{List, [], _++_, append-nil, append-assoc}
+use Prim.Native.Nat.{ℕ, _*_, _-_, _/_, _%_, _≤_}
 use native.Mathlib.Omega.{arith}
 use lib.Dec.{ltb, eqb}
 use lib.Ieee.{Float}
@@ -16,21 +15,21 @@ use Rattle.binary64.proofs.Fill.{tail-part}
 use Rattle.tile.specs.declared.Coord.{Coord}
 use Rattle.tile.specs.declared.TileBounds.{TileBounds}
 use Rattle.tile.specs.Ring.{coords, flat}
-use Rattle.tile.proofs.Rings.{length-flat, length-coords, stands-front}
-use Rattle.sutherland_hodgman.specs.declared.call.Refusal.{Refusal}
-use Rattle.sutherland_hodgman.specs.declared.call.Refusal.the-variants.{Lengths, Coordinates, Scratch, Output}
-use Rattle.sutherland_hodgman.specs.declared.call.Check.{Check}
-use Rattle.sutherland_hodgman.specs.declared.call.Check.the-variants.{Fails, Passes}
-use Rattle.sutherland_hodgman.specs.declared.call.RingAnswer.the-variants.{Clipped}
-use Rattle.sutherland_hodgman.specs.Growth.{halfGrowth, fourHalfGrowths, B, mostCoordinates}
+use Rattle.tile.proofs.Rings.{length-flat, length-coords}
+use Rattle.sutherland_hodgman.specs.Growth.{B, mostCoordinates}
 use Rattle.sutherland_hodgman.specs.Clip.{clipRing}
 use Rattle.sutherland_hodgman.specs.Promise.{Promise}
-use Rattle.sutherland_hodgman.specs.Contracts.{RingCut, PaddedCut, PaddedOrigins}
-use Rattle.sutherland_hodgman.specs.RingCall.{failsIf, ringCallRoom, ringCallOriginRoom, checkRing, RingSlices, ringSlices}
-use Rattle.sutherland_hodgman.specs.RingCall.{ringCallCheck, ringAnswered, ringCallAnswer, ringCallSlices}
+use Rattle.sutherland_hodgman.specs.Contracts.{RingCut}
 use Rattle.sutherland_hodgman.specs.Origins.{clipOrigins}
-use Rattle.sutherland_hodgman.proofs.Growth.{clipRing-grows}
-use Rattle.sutherland_hodgman.proofs.OriginLaws.{as-many}
+use Rattle.sutherland_hodgman.proofs.Offered.{B-le, clip-room, as-many}
+use Rattle.ring_calls.specs.declared.Refusal.{Refusal}
+use Rattle.ring_calls.specs.declared.Refusal.the-variants.{Lengths, Coordinates, Scratch, Output}
+use Rattle.ring_calls.specs.declared.Check.{Check}
+use Rattle.ring_calls.specs.declared.Check.the-variants.{Fails, Passes}
+use Rattle.ring_calls.specs.declared.RingAnswer.the-variants.{Clipped}
+use Rattle.ring_calls.specs.Contracts.{PaddedCut, PaddedOrigins}
+use Rattle.ring_calls.specs.RingCall.{failsIf, ringCallRoom, ringCallOriginRoom, checkRing, RingSlices, ringSlices}
+use Rattle.ring_calls.specs.RingCall.{ringCallCheck, ringAnswered, ringCallAnswer, ringCallSlices}
 
 -- ---- what passes the checks has room
 
@@ -69,17 +68,6 @@ passes-cuttable numbers scratch originScratch out outOrigins e =
       origin-output-room = ltb-false outOrigins origins (t4 .1);
     }
 
--- ---- a cut ring has room in the output
-
-pub promise-room : (b : TileBounds) (r q : List Coord) → Promise b r q → length q ≤ B (length r)
-unfolding B fourHalfGrowths halfGrowth
-promise-room b [] q p = go (length q) (p .vertices) (p .growth)
-  where
-    go : (n : ℕ) → (n ≡ 0) ⊎ (3 ≤ n) → n ≤ suc (fourHalfGrowths 0) → n ≤ 0
-    go n (inl e) g = omega arith
-    go n (inr l) g = absurd (omega arith)
-promise-room b (p ∷ r) q h = let g = h .growth in omega arith
-
 -- ---- cut, and the rest cleared
 
 module _ (ring : List Float) (numbers : 2 * (length ring / 2) ≡ length ring) where
@@ -114,8 +102,7 @@ module _ (bounds : TileBounds) (ring : List Coord) (n : ℕ) (vertices : length 
     (cut : RingCut bounds ring r part) where
   pub cut-room : r ≤ B n
   cut-room =
-      let p : Promise bounds ring (clipRing bounds ring) = rw (stands-front (cut .stands)) at (cut .promise) in
-      let g : length (clipRing bounds ring) ≤ B n = rw vertices at (promise-room bounds ring (clipRing bounds ring) p) in
+      let g : length (clipRing bounds ring) ≤ B n = rw vertices at (clip-room bounds ring) in
       omega (arith, cut .stands .count)
 
   pub cut-padded : (fill : List Float) → fill ≡ zeros (length (take (length part - 2 * r) (drop (2 * r) part)))
@@ -166,7 +153,7 @@ module _ (ring : List Float) (bounds : TileBounds) (lent : RingSlices) where
 
   -- a ring call answers few coordinates
   pub answer-few : (n : ℕ) → ringCallAnswer ring bounds lent ≡ Clipped n → n ≤ 8 * mostCoordinates
-  unfolding ringCallAnswer fourHalfGrowths halfGrowth
+  unfolding ringCallAnswer
   answer-few n e = go (ringCallCheck ring lent) (passes-cuttable (length ring) _ _ _ _) e
     where
       go : (c : Check) → (c ≡ Passes → Cuttable (length ring) (length (lent .scratch)) (length (lent .originScratch))
@@ -176,4 +163,5 @@ module _ (ring : List Float) (bounds : TileBounds) (lent : RingSlices) where
       go Passes h q =
           let k = h refl in
           let m : length (clipRing bounds (coords ring)) ≡ n = cc in
-          omega (arith, k .few, length-coords (length ring / 2) ring (sym (k .even)), clipRing-grows bounds (coords ring))
+          let l : length (coords ring) ≡ length ring / 2 = length-coords (length ring / 2) ring (sym (k .even)) in
+          omega (arith, B-le (length (coords ring)) (omega (arith, k .few)), clip-room bounds (coords ring))

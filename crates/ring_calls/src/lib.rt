@@ -1,20 +1,19 @@
 // The ring call: a lent ring, four bounds used as given, a scratch slice and an output, and beside each of these two one for origins. It is
 // open to callers and refuses what it can't cut.
 ghost use mathlib.Core.Path.{_≡_};
-ghost use Prim.Native.Nat.{_*_, _≤_};
+ghost use Prim.Native.Nat.{_*_};
 ghost use lib.ListN.{length, take};
 ghost use Rattle.tile.specs.Ring.{coords};
-ghost use Rattle.sutherland_hodgman.specs.Growth.{halfGrowth, B, mostCoordinates};
-ghost use Rattle.sutherland_hodgman.specs.RingCall.{checkRing, ringSlices, ringCallAnswer, ringCallSlices};
-ghost use Rattle.sutherland_hodgman.specs.RingCall.{RingCallPromise};
-ghost use Rattle.sutherland_hodgman.specs.Contracts.{CutterRoom, OriginRoom, PaddedCut, PaddedOrigins};
-use super::clip_three_edges;
-use super::clip_top;
-use super::origins::clear_origins;
+ghost use Rattle.sutherland_hodgman.specs.Contracts.{CutterRoom, OriginRoom};
+ghost use Rattle.ring_calls.specs.RingCall.{checkRing, ringSlices, ringCallAnswer, ringCallSlices, RingCallPromise};
+ghost use Rattle.ring_calls.specs.Contracts.{PaddedCut, PaddedOrigins};
 use binary64::slices::clear;
+use sutherland_hodgman::clip_three_edges;
+use sutherland_hodgman::clip_top;
+use sutherland_hodgman::growth::MOST_COORDINATES;
+use sutherland_hodgman::growth::room_for;
+use sutherland_hodgman::origins::clear_origins;
 use tile::TileBounds;
-
-pub const MOST_COORDINATES: usize = 65532;
 
 // Why a call is refused: document 01's 19, 20, 21 and 22.
 pub enum Refusal {
@@ -34,25 +33,6 @@ pub enum RingAnswer {
 pub enum Check {
     Fails(Refusal),
     Passes,
-}
-
-// Half as many again, rounded down: the most vertices that a pass makes of n.
-pub fn half_growth(n: usize) -> usize
-    requires { ⌜ n ≤ 8 * mostCoordinates ⌝ }
-    ensures { λ r. ⌜ r ≡ halfGrowth n ⌝ }
-{
-    n + n / 2
-}
-
-// The room, in vertices, for cutting a ring of n: B(n).
-pub fn room_for(n: usize) -> usize
-    requires { ⌜ n ≤ mostCoordinates ⌝ }
-    ensures { λ r. ⌜ r ≡ B n ⌝ }
-{
-    if n == 0 {
-        return 0;
-    }
-    half_growth(half_growth(half_growth(half_growth(n)))) + 2
 }
 
 // The refusals of a ring call, in their order, by the count of numbers and the lengths of the other slices.

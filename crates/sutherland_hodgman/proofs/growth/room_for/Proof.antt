@@ -4,9 +4,9 @@ use native.Mathlib.Omega.{arith}
 use Prim.Native.Nat.{ℕ, _+_}
 use borrow.Author.Needs.{needs}
 use Rattle.sutherland_hodgman.specs.Growth.{halfGrowth, fourHalfGrowths, B}
-use Rattle.sutherland_hodgman.proofs.Growth.{halfGrowth-le, B-positive}
-use Rattle.sutherland_hodgman.proofs.call.room_for.Statement.{statement}
-use Rattle.sutherland_hodgman.proofs.call.room_for.Tie as tie
+use Rattle.sutherland_hodgman.proofs.GrowthLaws.{halfGrowth-le, B-positive}
+use Rattle.sutherland_hodgman.proofs.growth.room_for.Statement.{statement}
+use Rattle.sutherland_hodgman.proofs.growth.room_for.Tie as tie
 
 returns : tie.Need-returns
 unfolding B

@@ -3,10 +3,10 @@ use Prim.Native.Nat.{_/_}
 use native.Mathlib.Omega.{arith}
 use borrow.Author.Tests.{lt-ltb, le-ltb, eq-eqb, ne-eqb}
 use borrow.Author.Needs.{needs}
-use Rattle.sutherland_hodgman.specs.RingCall.{ringCallRoom, ringCallOriginRoom, checkRing}
-use Rattle.sutherland_hodgman.proofs.Growth.{B-le}
-use Rattle.sutherland_hodgman.proofs.call.check_ring.Statement.{statement}
-use Rattle.sutherland_hodgman.proofs.call.check_ring.Tie as tie
+use Rattle.sutherland_hodgman.proofs.Offered.{B-le}
+use Rattle.ring_calls.specs.RingCall.{ringCallRoom, ringCallOriginRoom, checkRing}
+use Rattle.ring_calls.proofs.check_ring.Statement.{statement}
+use Rattle.ring_calls.proofs.check_ring.Tie as tie
 
 returns : tie.Need-returns
 unfolding checkRing

@@ -11,16 +11,16 @@ use Rattle.binary64.specs.Slices.{zeros, plusZero, padded}
 use Rattle.tile.specs.declared.Coord.{Coord}
 use Rattle.tile.specs.declared.TileBounds.{TileBounds}
 use Rattle.tile.specs.Ring.{coords, flat}
-use Rattle.sutherland_hodgman.specs.declared.call.Refusal.{Refusal}
-use Rattle.sutherland_hodgman.specs.declared.call.Refusal.the-variants.{Lengths, Coordinates, Scratch, Output}
-use Rattle.sutherland_hodgman.specs.declared.call.Check.{Check}
-use Rattle.sutherland_hodgman.specs.declared.call.Check.the-variants.{Fails, Passes}
-use Rattle.sutherland_hodgman.specs.declared.call.RingAnswer.{RingAnswer}
-use Rattle.sutherland_hodgman.specs.declared.call.RingAnswer.the-variants.{Refused, Clipped}
 use Rattle.sutherland_hodgman.specs.Clip.{clipRing}
 use Rattle.sutherland_hodgman.specs.Growth.{B, mostCoordinates}
 use Rattle.sutherland_hodgman.specs.Origins.{clipOrigins}
 use Rattle.sutherland_hodgman.specs.Promise.{Promise}
+use Rattle.ring_calls.specs.declared.Refusal.{Refusal}
+use Rattle.ring_calls.specs.declared.Refusal.the-variants.{Lengths, Coordinates, Scratch, Output}
+use Rattle.ring_calls.specs.declared.Check.{Check}
+use Rattle.ring_calls.specs.declared.Check.the-variants.{Fails, Passes}
+use Rattle.ring_calls.specs.declared.RingAnswer.{RingAnswer}
+use Rattle.ring_calls.specs.declared.RingAnswer.the-variants.{Refused, Clipped}
 
 -- ---- refusals
 

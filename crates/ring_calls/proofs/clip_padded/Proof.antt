@@ -7,17 +7,13 @@ use lib.ListN.{length, take}
 use borrow.Author.Needs.{needs}
 use Rattle.tile.specs.Ring.{coords}
 use Rattle.tile.proofs.Rings.{length-front}
 use Rattle.sutherland_hodgman.specs.Growth.{B, mostCoordinates}
 use Rattle.sutherland_hodgman.specs.Contracts.{RingCut}
 use Rattle.sutherland_hodgman.specs.Origins.{clipOrigins}
-use Rattle.sutherland_hodgman.proofs.Growth.{B-le}
-use Rattle.sutherland_hodgman.proofs.Promises.{FittingBounds, fitting-front}
-use Rattle.sutherland_hodgman.proofs.Stages.{stage-three, stage-last}
-use Rattle.sutherland_hodgman.proofs.OriginStages.{origins-last, origins-cut}
-use Rattle.sutherland_hodgman.proofs.LastPass.{last-pass-cut}
-use Rattle.sutherland_hodgman.proofs.Calls.{cut-room, cut-padded, rest-cleared}
-use Rattle.sutherland_hodgman.proofs.call.clip_padded.Statement.{statement}
-use Rattle.sutherland_hodgman.proofs.call.clip_padded.Tie as tie
+use Rattle.sutherland_hodgman.proofs.Offered.{B-le, last-room, last-origin-room, last-cut, last-origins}
+use Rattle.ring_calls.proofs.Calls.{cut-room, cut-padded, rest-cleared}
+use Rattle.ring_calls.proofs.clip_padded.Statement.{statement}
+use Rattle.ring_calls.proofs.clip_padded.Tie as tie
 
 clip-three-edges-requires : tie.Need-clip-three-edges-requires
 clip-three-edges-requires c κs = search needs
@@ -28,13 +24,19 @@ clip-top-requires c κs =
     .before .before .before .before .before .before .before in
     let p = a .pre .0 in
     let q = a .pre .1 in
-    let s = now (a .args .ring) in
     let k = c .before .before .before .before .before .before .before .before .before .before .before .before .clip-three-edges .kept in
-    let t = stage-three (a .args .bounds) (coords (take (2 * a .args .n) s)) (a .args .n) _ _
-    (length-front s (a .args .n) (p .vertices)) (c .before .before .before .before .before .before .before .before .before .before .before
-    .before .clip-three-edges .ensures .0) in (
-      stage-last _ _ (omega (arith, p .scratch-room, k)) (omega (arith, p .output-room, k)) t,
-      origins-last _ _ (omega (arith, q .scratch-room, k)) (omega (arith, q .output-room, k)) t,
+    let t = c .before .before .before .before .before .before .before .before .before .before .before .before .clip-three-edges .ensures .0
+    in (
+      last-room (a .args .bounds) (now (a .args .ring)) (a .args .n) _ _ t (record {
+        vertices = p .vertices;
+        scratch-room = omega (arith, p .scratch-room, k);
+        output-room = omega (arith, p .output-room, k);
+      }),
+      last-origin-room (a .args .bounds) (now (a .args .ring)) (a .args .n) _ _ t (p .vertices) (record {
+        positions = q .positions;
+        scratch-room = omega (arith, q .scratch-room, k);
+        output-room = omega (arith, q .output-room, k);
+      }),
     )
 
 -- what the two leave in the outputs is the cut with its origins, and the outputs are as long as they were
@@ -70,17 +72,16 @@ done c =
     let a = c .before .before .before .before .before .before .before .before .before .before .before .before .before .before .before
     .before .before .before .before .before .before .before .before .before .before .before .before in
     let s = now (a .args .ring) in
-    let r = coords (take (2 * a .args .n) s) in
-    let h : FittingBounds (a .args .bounds) = (search needs, search needs, search needs, search needs) in
     let e = c .before .before .before .before .before .before .before .before .before .before .before .before .before .before .before
     .before .before .clip-three-edges .ensures in
     let t = c .before .before .before .before .clip-top .ensures in
-    let cut = last-pass-cut (a .args .bounds) r _ _ _ _ h (fitting-front s (a .args .n)
-    (c .before .before .before .before .before .before .before .before .before .before .before .before .before .before .before .before
-    .before .before .before .before .before .before .before .before .before .before .shared-slice-known .given)) (e .0) (t .0) in
+    let doubles = c .before .before .before .before .before .before .before .before .before .before .before .before .before .before
+    .before .before .before .before .before .before .before .before .before .before .before .before .shared-slice-known .given in
+    let cut = last-cut (a .args .bounds) s (a .args .n) _ _ (e .0) (search needs, search needs, search needs, search needs) doubles _ _
+    (t .0) in
     record {
       cut = cut;
-      origins = origins-cut (a .args .bounds) r _ _ _ _ (e .0) (e .1) (t .1);
+      origins = last-origins (a .args .bounds) s (a .args .n) _ _ (e .0) _ _ (e .1) (t .1);
       same = c .before .before .before .before .clip-top .kept .1 .1 .1 .1 .0 ∙ c .before .before .before .before .before .before .before
           .before .before .before .before .before .before .before .before .before .before .clip-three-edges .kept .1 .1 .1 .1 .1 .0;
       origins-same = c .before .before .before .before .clip-top .kept .1 .1 .1 .1 .1 .0 ∙ c .before .before .before .before .before

@@ -1,0 +1,2 @@
+pub mod RingCall
+pub mod Contracts
