@@ -38,6 +38,7 @@ use Rattle.clip.specs.declared.polygon.PolygonAnswer.{PolygonAnswer}
 use Rattle.clip.specs.Polygon.{cutHole, unlessNone, cutHoles, cutRings, overlayOrDropped, routed, routeExterior, routeRect, route, Routed}
 use Rattle.clip.specs.Polygon.{nothing, dropped, unchanged, cut, overlay, detail, issueDetail, reasonDetail, answerOf, told}
 use Rattle.clip.proofs.Positions.{RouteWithin, exterior-within}
+use Rattle.polygon_rings.specs.WrittenRings.{writtenRings, numbersOf, lengthsOf, originsOf}
 use Rattle.slices.specs.declared.call.SliceAnswer.{SliceAnswer}
 use Rattle.slices.specs.declared.call.SliceAnswer.the-variants.{Refused, Answered}
 use Rattle.slices.specs.declared.call.RoomCheck.{RoomCheck}
@@ -46,10 +47,6 @@ use Rattle.slices.specs.SliceCall.{PolygonSlices, polygonSlices, sliceCa
 use Rattle.slices.specs.SliceCall.{
   sliceCallRoom,
   sliceCallOriginRoom,
-  writtenRings,
-  numbersOf,
-  lengthsOf,
-  originsOf,
   polygonSlicesAfter,
   answerCode,
   sliceCallCode,

@@ -1,6 +1,6 @@
 -- What the checks of a slice call leave: a polygon that passes them has room everywhere. Assumes nothing.
 use mathlib.Core.Path.{_≡_, refl, sym, ap}
-use mathlib.Core.Bool.{Bool, true, false, not, cond, _&&_, _||_}
+use mathlib.Core.Bool.{Bool, true, false, not, _&&_, _||_}
 use mathlib.Core.List.{List, [], _++_, append-nil, append-assoc}
 use Prim.Native.Nat.{ℕ, _*_, _-_, _<_, _≤_}
 use native.Mathlib.Omega.{arith}
@@ -12,8 +12,6 @@ use borrow.Author.Tests.{ltb-true, ltb-false, leb-true, eqb-true, not-false}
 use Rattle.binary64.specs.Slices.{plusZero, zeros, padded}
 use Rattle.binary64.proofs.Fill.{padded-part}
 use Rattle.binary64.proofs.Booleans.{neither, both}
-use Rattle.tile.specs.declared.Coord.{Coord}
-use Rattle.tile.specs.declared.TileBounds.{TileBounds}
 use Rattle.sutherland_hodgman.specs.Growth.{mostCoordinates}
 use Rattle.ring_calls.specs.declared.Refusal.{Refusal}
 use Rattle.ring_calls.specs.declared.Refusal.the-variants.{Lengths, Coordinates, Scratch, Output}
@@ -21,19 +19,16 @@ use Rattle.ring_calls.specs.declared.Check.{Check}
 use Rattle.ring_calls.specs.declared.Check.the-variants.{Fails, Passes}
 use Rattle.ring_calls.specs.RingCall.{failsIf}
 use Rattle.ring_calls.proofs.Offered.{not-refused}
-use Rattle.rings.specs.Representable.{anyHugeRing}
 use Rattle.rings.specs.LentRings.{mostRings, sum, closedRings, total, largest, ringRoom}
-use Rattle.rings.specs.Contracts.{allClosed, Lent, Measurable}
+use Rattle.rings.specs.Contracts.{Lent, Measurable}
 use Rattle.rings.proofs.LentRings.{length-closed, largest-total, rooms-below}
-use Rattle.clip.specs.declared.polygon.Reason.{Reason}
-use Rattle.clip.specs.Polygon.{Routed, dropped, overlay, overlayOrDropped}
-use Rattle.clip.specs.Origins.{routedOrigins}
+use Rattle.clip.specs.Polygon.{Routed}
+use Rattle.polygon_rings.specs.WrittenRings.{writtenRings, numbersOf, originsOf}
+use Rattle.polygon_rings.specs.Contracts.{nonePlaced, LentOriginsRoom, PolygonRoom, Filled, FilledOrigins}
 use Rattle.slices.specs.declared.call.RoomCheck.{RoomCheck}
 use Rattle.slices.specs.declared.call.RoomCheck.the-variants as Rooms
-use Rattle.slices.specs.SliceCall.{lengthsFit, sliceCallRoom, sliceCallOriginRoom, checkRoom, checkPolygon, writtenRings}
-use Rattle.slices.specs.SliceCall.{numbersOf, lengthsOf, originsOf}
-use Rattle.slices.specs.Contracts.{withRoom, Filled, FilledOrigins, FilledWhole, LentRingsRoom, LentOriginsRoom, PolygonRoom}
-use Rattle.slices.specs.Contracts.{nonePlaced}
+use Rattle.slices.specs.SliceCall.{lengthsFit, sliceCallRoom, sliceCallOriginRoom, checkRoom, checkPolygon}
+use Rattle.slices.specs.Contracts.{withRoom, FilledWhole}
 
 -- the rooms of a few rings are numbers of the machine
 pub few-rooms : (ns : List ℕ) (s : List Float) → Measurable ns s → (largest ringRoom (closedRings ns s) ≤ mostRings * (8 * mostCoordinates))
@@ -117,28 +112,6 @@ part-room ns s scratch order out lens part h p = record {
 pub part-origin-room : (ns : List ℕ) (s : List Float) (originScratch outOrigins part : ℕ) → total ringRoom (closedRings ns s) ≤ part
     → LentOriginsRoom ns s originScratch outOrigins nonePlaced → LentOriginsRoom ns s originScratch part nonePlaced
 part-origin-room ns s originScratch outOrigins part h o = record { scratch-room = o .scratch-room; output-room = omega arith }
-
--- where closing closes every ring, all can be cut
-pub cuttable : (ns : List ℕ) (s : List Float) (scratch order out lens : ℕ) → PolygonRoom ns s scratch order out lens
-    → allClosed (closedRings ns s) ≡ true → LentRingsRoom ns s scratch out lens nonePlaced
-cuttable ns s scratch order out lens p closes = record {
-  measurable = p .measurable;
-  closes = closes;
-  scratch-room = p .scratch-room;
-  output-room = omega (arith, p .output-room);
-  lengths-room = omega (arith, p .lengths-room);
-}
-
--- an overlay, dropped or not, writes nothing
-pub overlay-filled : (b : TileBounds) (rings : List (List Coord)) (reason : Reason) (out : List Float) (lens os : List ℕ)
-    → Filled (overlayOrDropped rings reason) 0 lens out lens × FilledOrigins (routedOrigins (overlayOrDropped rings reason) b rings) 0 os
-unfolding overlayOrDropped numbersOf lengthsOf originsOf
-overlay-filled b rings reason out lens os = go (anyHugeRing rings)
-  where
-    go : (t : Bool) → Filled (cond t dropped (overlay reason)) 0 lens out lens
-        × FilledOrigins (routedOrigins (cond t dropped (overlay reason)) b rings) 0 os
-    go true = (record { count = refl; output = refl; lengths = refl }, record { count = refl; output = refl })
-    go false = (record { count = refl; output = refl; lengths = refl }, record { count = refl; output = refl })
 
 -- ---- what was written, and the rest cleared
 

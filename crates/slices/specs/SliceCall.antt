@@ -1,7 +1,7 @@
 -- The slice call (document 01, "Frames", amended by document 02, Points 4, 1 and 12): what it answers, and what each lent slice holds
 -- afterwards. Definitions only.
 use mathlib.Core.Bool.{Bool, not, cond, _&&_, _||_}
-use mathlib.Core.List.{List, [], _∷_, _++_}
+use mathlib.Core.List.{List}
 use Prim.Native.Nat.{ℕ, _+_, _*_, _^_}
 use lib.Dec.{ltb, leb, eqb}
 use lib.Ieee.{Float}
@@ -11,7 +11,6 @@ use Rattle.binary64.specs.Slices.{zeros, over, plusZero, padded}
 use Rattle.tile.specs.declared.Coord.{Coord}
 use Rattle.tile.specs.declared.TileBounds.{TileBounds}
 use Rattle.tile.specs.Bounds.{buffered}
-use Rattle.tile.specs.Ring.{flat}
 use Rattle.sutherland_hodgman.specs.Growth.{mostCoordinates}
 use Rattle.ring_calls.specs.declared.Refusal.the-variants.{Lengths, Coordinates, Scratch, Output}
 use Rattle.ring_calls.specs.declared.Check.{Check}
@@ -20,8 +19,9 @@ use Rattle.ring_calls.specs.RingCall.{refusalNumber, failsIf}
 use Rattle.rings.specs.LentRings.{mostRings, sum, closedRings, total, largest, ringRoom}
 use Rattle.clip.specs.declared.polygon.Flags.{Flags}
 use Rattle.clip.specs.declared.polygon.PolygonAnswer.{PolygonAnswer}
-use Rattle.clip.specs.Polygon.{Routed, nothing, dropped, unchanged, cut, overlay, route, answerOf, told}
+use Rattle.clip.specs.Polygon.{Routed, route, answerOf, told}
 use Rattle.clip.specs.Origins.{routedOrigins}
+use Rattle.polygon_rings.specs.WrittenRings.{writtenRings, numbersOf, lengthsOf, originsOf}
 use Rattle.slices.specs.declared.call.SliceAnswer.{SliceAnswer}
 use Rattle.slices.specs.declared.call.SliceAnswer.the-variants.{Refused, Answered}
 
@@ -106,28 +106,6 @@ sliceCallAnswer flags bounds buffer coords lengths lent =
     sliceAnswered (sliceCallCheck coords lengths lent) (routeLent flags bounds buffer coords lengths)
 
 -- ---- the lent slices afterwards
-
--- "A cut's rings stand from the front of the output, exterior first, their lengths in a second u32 slice": other answers have no rings to
--- write, and no lengths
-abbrev pub writtenRings : Routed → List (List Coord)
-writtenRings nothing = []
-writtenRings dropped = []
-writtenRings unchanged = []
-writtenRings (cut rings) = rings
-writtenRings (overlay reason) = []
-
-unfoldable pub numbersOf : List (List Coord) → List Float
-numbersOf [] = []
-numbersOf (r ∷ rs) = flat r ++ numbersOf rs
-
-unfoldable pub lengthsOf : List (List Coord) → List ℕ
-lengthsOf [] = []
-lengthsOf (r ∷ rs) = length r ∷ lengthsOf rs
-
--- the origins of rings, one ring's behind the other's
-unfoldable pub originsOf : List (List ℕ) → List ℕ
-originsOf [] = []
-originsOf (os ∷ others) = os ++ originsOf others
 
 -- "A refusal changes no lent buffer. A success fills scratch and order with zeros and leaves .. the second length slice past the answer
 -- unchanged"; "the output past the answer, up to what 22 asks, then holds zeros on every success, overlay and nothing included"; the u16

@@ -1,17 +1,17 @@
 // The slice call: one polygon as lent slices. It is open to callers and refuses what it can't cut.
 ghost use mathlib.Core.Path.{_≡_};
-ghost use mathlib.Core.List.{_++_};
 ghost use Prim.Native.Nat.{_*_, _^_, _<_};
-ghost use lib.ListN.{length, take, replicate};
+ghost use lib.ListN.{length, replicate};
 ghost use Rattle.binary64.specs.Slices.{padded};
-ghost use Rattle.tile.specs.Ring as Ring;
 ghost use Rattle.rings.specs.LentRings.{closedRings};
-ghost use Rattle.rings.specs.Contracts.{Lent, Measurable};
+ghost use Rattle.rings.specs.Contracts.{Measurable};
 ghost use Rattle.clip.specs.Polygon as Polygon;
 ghost use Rattle.clip.specs.Origins as Origins;
+ghost use Rattle.polygon_rings.specs.WrittenRings.{originsOf};
+ghost use Rattle.polygon_rings.specs.Contracts.{nonePlaced, LentOriginsRoom, PolygonRoom};
 ghost use Rattle.slices.specs.SliceCall.{lengthsFit, checkRoom, checkPolygon, sliceCallOriginRoom, polygonSlices};
-ghost use Rattle.slices.specs.SliceCall.{originsOf, sliceCallAnswer, sliceCallSlices, answerCode};
-ghost use Rattle.slices.specs.Contracts as Contracts;
+ghost use Rattle.slices.specs.SliceCall.{sliceCallAnswer, sliceCallSlices, answerCode};
+ghost use Rattle.slices.specs.Contracts.{withRoom, FilledWhole};
 use binary64::slices::clear;
 use clip::polygon::CUT;
 use clip::polygon::DROPPED;
@@ -20,20 +20,15 @@ use clip::polygon::NOTHING;
 use clip::polygon::OVERLAY;
 use clip::polygon::PolygonAnswer;
 use clip::polygon::Reason;
-use clip::polygon::Route;
 use clip::polygon::UNCHANGED;
-use clip::polygon::clip_hole;
 use clip::polygon::guard_count;
 use clip::polygon::reason_detail;
-use clip::polygon::route_exterior;
+use polygon_rings::clip_polygon;
 use ring_calls::Refusal;
 use rings::lent::MOST_RINGS;
 use rings::lent::closed_sum;
-use rings::lent::has_huge_ring;
 use rings::lent::lent_count;
-use rings::lent::polygon_rect_all_rings;
 use rings::lent::room_of;
-use rings::rectangle::Rect;
 use sutherland_hodgman::growth::MOST_COORDINATES;
 use sutherland_hodgman::origins::clear_origins;
 use tile::TileBounds;
@@ -55,18 +50,6 @@ pub enum SliceAnswer {
 enum RoomCheck {
     Fails(Refusal),
     Passes(usize),
-}
-
-// How much of the outputs is the answer's so far: rings, and their coordinates.
-struct Placed {
-    rings: usize,
-    coordinates: usize,
-}
-
-// What becomes of a polygon, and how many coordinates of the outputs belong to the answer.
-struct Clipped {
-    answer: PolygonAnswer,
-    coordinates: usize,
 }
 
 // Refusal 19: no ring, too many, or lengths that don't fit the numbers lent.
@@ -95,7 +78,7 @@ fn check_room(
     out_origins: usize,
 ) -> RoomCheck
     requires { ⌜ Measurable (now lengths) (now coords) ⌝ }
-    ensures { λ r. ⌜ r ≡ Contracts.withRoom
+    ensures { λ r. ⌜ r ≡ withRoom
         (checkRoom (closedRings (now (lengths .entry)) (now (coords .entry))) scratch «origin_scratch» order out «out_lengths»
         «out_origins») (sliceCallOriginRoom (closedRings (now (lengths .entry)) (now (coords .entry)))) ⌝ }
 {
@@ -133,7 +116,7 @@ fn check_polygon(
     out_lengths: usize,
     out_origins: usize,
 ) -> RoomCheck
-    ensures { λ r. ⌜ r ≡ Contracts.withRoom
+    ensures { λ r. ⌜ r ≡ withRoom
         (checkPolygon (now (coords .entry)) (now (lengths .entry)) scratch «origin_scratch» order out «out_lengths» «out_origins»)
         (sliceCallOriginRoom (closedRings (now (lengths .entry)) (now (coords .entry)))) ⌝ }
 {
@@ -155,283 +138,7 @@ fn check_polygon(
     )
 }
 
-// Counts the ring of n coordinates that stands behind the rings counted so far, and writes its length; a ring without coordinates is left
-// out.
-fn count_ring(n: usize, out_lengths: &mut [u32], at: Placed) -> Placed
-    requires { ⌜ Contracts.CountRoom n (length (now «out_lengths»)) at ⌝ }
-    ensures { λ r. ⌜ Contracts.Counted n at (now («out_lengths» .entry)) r (now («out_lengths» .exit)) ⌝ }
-{
-    if n == 0 {
-        return at;
-    }
-    let rings = at.rings;
-    out_lengths[rings] = n as u32;
-    Placed {
-        rings: rings + 1,
-        coordinates: at.coordinates + n,
-    }
-}
-
-// Cuts as a hole the ring of n coordinates at the front of a slice. It is cut in the output behind the rings counted so far, where it is to
-// stand, and so are its origins in theirs.
-fn put_hole(
-    ring: &[f64],
-    n: usize,
-    bounds: TileBounds,
-    scratch: &mut [f64],
-    origin_scratch: &mut [u16],
-    out: &mut [f64],
-    out_lengths: &mut [u32],
-    out_origins: &mut [u16],
-    at: Placed,
-) -> Placed
-    requires { ⌜ Contracts.HoleRoom n (now ring) (length (now scratch)) (length (now out)) (length (now «out_lengths»)) at ⌝ }
-    requires { ⌜ Contracts.HoleOriginRoom n (now ring) (length (now «origin_scratch»)) (length (now «out_origins»)) at ⌝ }
-    ensures ring { λ r. ⌜ Contracts.Put (Polygon.cutHole bounds (Ring.close (Ring.coords (take (2 * n) (now (ring .entry)))))) at
-        (now (out .entry)) (now («out_lengths» .entry)) r (now (out .exit)) (now («out_lengths» .exit)) ⌝ }
-    ensures origins { λ r. ⌜ take (r .coordinates) (now («out_origins» .exit)) ≡ take (at .coordinates) (now («out_origins» .entry))
-        ++ Origins.holeOrigins bounds (Ring.close (Ring.coords (take (2 * n) (now (ring .entry))))) ⌝ }
-{
-    let placed = at.coordinates;
-    let numbers = 2 * placed;
-    let m = clip_hole(
-        ring,
-        n,
-        bounds,
-        scratch,
-        origin_scratch,
-        &mut out[numbers..],
-        &mut out_origins[placed..],
-    );
-    count_ring(m, out_lengths, at)
-}
-
-// Cuts lent rings as holes, each in the output behind the rings counted so far, and their origins in theirs.
-fn put_holes(
-    coords: &[f64],
-    lengths: &[u32],
-    bounds: TileBounds,
-    scratch: &mut [f64],
-    origin_scratch: &mut [u16],
-    out: &mut [f64],
-    out_lengths: &mut [u32],
-    out_origins: &mut [u16],
-    exterior: Placed,
-) -> Placed
-    requires { ⌜ Contracts.LentRingsRoom (now lengths) (now coords) (length (now scratch)) (length (now out))
-        (length (now «out_lengths»)) exterior ⌝ }
-    requires { ⌜ Contracts.LentOriginsRoom (now lengths) (now coords) (length (now «origin_scratch»)) (length (now «out_origins»))
-        exterior ⌝ }
-    ensures rings { λ r. ⌜ Contracts.PutHoles (Polygon.cutHoles bounds (closedRings (now (lengths .entry)) (now (coords .entry))))
-        exterior (now (out .entry)) (now («out_lengths» .entry)) r (now (out .exit)) (now («out_lengths» .exit)) ⌝ }
-    ensures origins { λ r. ⌜ take (r .coordinates) (now («out_origins» .exit)) ≡ take (exterior .coordinates)
-        (now («out_origins» .entry))
-        ++ originsOf (Origins.holesOrigins bounds (closedRings (now (lengths .entry)) (now (coords .entry)))) ⌝ }
-{
-    let mut placed = exterior;
-    let mut at = 0usize;
-    let mut k = 0usize;
-    while k < lengths.len() {
-        let n = lengths[k] as usize;
-        placed = put_hole(
-            &coords[at..],
-            n,
-            bounds,
-            scratch,
-            origin_scratch,
-            out,
-            out_lengths,
-            out_origins,
-            placed,
-        );
-        at += 2 * n;
-        k += 1;
-    }
-    placed
-}
-
-// Puts the holes behind the cut exterior of m coordinates, which stands at the front of the output with its origins at the front of
-// theirs, and answers how much is counted.
-fn put_cut(
-    coords: &[f64],
-    lengths: &[u32],
-    m: usize,
-    bounds: TileBounds,
-    scratch: &mut [f64],
-    origin_scratch: &mut [u16],
-    out: &mut [f64],
-    out_lengths: &mut [u32],
-    out_origins: &mut [u16],
-) -> Placed
-    requires { ⌜ Contracts.LentCutRoom bounds (now lengths) (now coords) m (length (now scratch)) (now out)
-        (length (now «out_lengths»)) ⌝ }
-    requires { ⌜ Contracts.LentRouteOriginRoom (Route.Cut m) bounds (now lengths) (now coords) (length (now «origin_scratch»))
-        (now «out_origins») ⌝ }
-    ensures count { λ r. ⌜ r .rings ≡ length (Polygon.cutRings bounds (closedRings (now (lengths .entry)) (now (coords .entry)))) ⌝ }
-    ensures written { λ r. ⌜ Contracts.Filled
-        (Polygon.cut (Polygon.cutRings bounds (closedRings (now (lengths .entry)) (now (coords .entry)))))
-        (r .coordinates) (now («out_lengths» .entry)) (now (out .exit)) (now («out_lengths» .exit)) ⌝ }
-    ensures origins { λ r. ⌜ Contracts.FilledOrigins (Origins.cutOrigins bounds (closedRings (now (lengths .entry)) (now (coords .entry))))
-        (r .coordinates) (now («out_origins» .exit)) ⌝ }
-{
-    let none = Placed {
-        rings: 0,
-        coordinates: 0,
-    };
-    let exterior = count_ring(m, out_lengths, none);
-    let start = 2 * lengths[0] as usize;
-    put_holes(
-        &coords[start..],
-        &lengths[1..],
-        bounds,
-        scratch,
-        origin_scratch,
-        out,
-        out_lengths,
-        out_origins,
-        exterior,
-    )
-}
-
-// An overlay is wanted, unless a coordinate is too large for it.
-fn overlay_or_dropped(coords: &[f64], lengths: &[u32], reason: Reason) -> PolygonAnswer
-    requires { ⌜ Lent (now lengths) (now coords) ⌝ }
-    ensures { λ r. ⌜ r ≡ Polygon.answerOf (Polygon.overlayOrDropped (closedRings (now (lengths .entry)) (now (coords .entry))) reason) ⌝ }
-{
-    if has_huge_ring(coords, lengths) {
-        return PolygonAnswer::Dropped;
-    }
-    PolygonAnswer::Overlay(reason)
-}
-
-// What becomes of a polygon whose exterior has this route; a cut exterior stands at the front of the output, and its origins at the front
-// of theirs.
-fn answer_route(
-    route: Route,
-    bounds: TileBounds,
-    coords: &[f64],
-    lengths: &[u32],
-    scratch: &mut [f64],
-    origin_scratch: &mut [u16],
-    out: &mut [f64],
-    out_lengths: &mut [u32],
-    out_origins: &mut [u16],
-) -> Clipped
-    requires { ⌜ Contracts.LentRouteRoom route bounds (now lengths) (now coords) (length (now scratch)) (now out)
-        (length (now «out_lengths»)) ⌝ }
-    requires { ⌜ Contracts.LentRouteOriginRoom route bounds (now lengths) (now coords) (length (now «origin_scratch»))
-        (now «out_origins») ⌝ }
-    ensures answer { λ r. ⌜ r .answer ≡ Polygon.answerOf
-        (Polygon.routed route bounds (closedRings (now (lengths .entry)) (now (coords .entry)))) ⌝ }
-    ensures written { λ r. ⌜ Contracts.Filled (Polygon.routed route bounds (closedRings (now (lengths .entry)) (now (coords .entry))))
-        (r .coordinates) (now («out_lengths» .entry)) (now (out .exit)) (now («out_lengths» .exit)) ⌝ }
-    ensures origins { λ r. ⌜ Contracts.FilledOrigins (Origins.routedOrigins
-        (Polygon.routed route bounds (closedRings (now (lengths .entry)) (now (coords .entry)))) bounds
-        (closedRings (now (lengths .entry)) (now (coords .entry)))) (r .coordinates) (now («out_origins» .exit)) ⌝ }
-{
-    match route {
-        Route::Nothing => Clipped {
-            answer: PolygonAnswer::Nothing,
-            coordinates: 0,
-        },
-        Route::Unchanged => Clipped {
-            answer: PolygonAnswer::Unchanged,
-            coordinates: 0,
-        },
-        Route::Overlay(reason) => {
-            let answer = overlay_or_dropped(coords, lengths, reason);
-            Clipped {
-                answer,
-                coordinates: 0,
-            }
-        }
-        Route::Cut(m) => {
-            let all = put_cut(
-                coords,
-                lengths,
-                m,
-                bounds,
-                scratch,
-                origin_scratch,
-                out,
-                out_lengths,
-                out_origins,
-            );
-            Clipped {
-                answer: PolygonAnswer::Cut(all.rings),
-                coordinates: all.coordinates,
-            }
-        }
-    }
-}
-
-// What becomes of a polygon that has room everywhere; the bounds are buffered. The outputs serve for every second pass: but for a cut's
-// rings and their origins at the fronts, what they hold is left open, as are the scratch and order slices.
-fn clip_polygon(
-    flags: Flags,
-    bounds: TileBounds,
-    coords: &[f64],
-    lengths: &[u32],
-    scratch: &mut [f64],
-    origin_scratch: &mut [u16],
-    order: &mut [u32],
-    out: &mut [f64],
-    out_lengths: &mut [u32],
-    out_origins: &mut [u16],
-) -> Clipped
-    requires { ⌜ Contracts.PolygonRoom (now lengths) (now coords) (length (now scratch)) (length (now order)) (length (now out))
-        (length (now «out_lengths»)) ⌝ }
-    requires { ⌜ Contracts.LentOriginsRoom (now lengths) (now coords) (length (now «origin_scratch»)) (length (now «out_origins»))
-        Contracts.nonePlaced ⌝ }
-    ensures answer { λ r. ⌜ r .answer ≡ Polygon.answerOf
-        (Polygon.route flags bounds (closedRings (now (lengths .entry)) (now (coords .entry)))) ⌝ }
-    ensures written { λ r. ⌜ Contracts.Filled (Polygon.route flags bounds (closedRings (now (lengths .entry)) (now (coords .entry))))
-        (r .coordinates) (now («out_lengths» .entry)) (now (out .exit)) (now («out_lengths» .exit)) ⌝ }
-    ensures origins { λ r. ⌜ Contracts.FilledOrigins (Origins.routedOrigins
-        (Polygon.route flags bounds (closedRings (now (lengths .entry)) (now (coords .entry)))) bounds
-        (closedRings (now (lengths .entry)) (now (coords .entry)))) (r .coordinates) (now («out_origins» .exit)) ⌝ }
-{
-    let rect = polygon_rect_all_rings(coords, lengths);
-    match rect {
-        Rect::Nothing => Clipped {
-            answer: PolygonAnswer::Nothing,
-            coordinates: 0,
-        },
-        Rect::NotFinite => Clipped {
-            answer: PolygonAnswer::Dropped,
-            coordinates: 0,
-        },
-        Rect::Box(west, south, east, north) => {
-            let found = Rect::Box(west, south, east, north);
-            let n = lengths[0] as usize;
-            let route = route_exterior(
-                coords,
-                n,
-                flags,
-                found,
-                bounds,
-                scratch,
-                origin_scratch,
-                out,
-                out_origins,
-                order,
-            );
-            answer_route(
-                route,
-                bounds,
-                coords,
-                lengths,
-                scratch,
-                origin_scratch,
-                out,
-                out_lengths,
-                out_origins,
-            )
-        }
-    }
-}
-
-// The same, and the outputs are filled with zeros past the answer.
+// What becomes of a polygon that has room everywhere, as `clip_polygon` says, and the outputs are filled with zeros past the answer.
 fn clip_padded(
     flags: Flags,
     bounds: TileBounds,
@@ -444,12 +151,12 @@ fn clip_padded(
     out_lengths: &mut [u32],
     out_origins: &mut [u16],
 ) -> PolygonAnswer
-    requires { ⌜ Contracts.PolygonRoom (now lengths) (now coords) (length (now scratch)) (length (now order)) (length (now out))
+    requires { ⌜ PolygonRoom (now lengths) (now coords) (length (now scratch)) (length (now order)) (length (now out))
         (length (now «out_lengths»)) ⌝ }
-    requires { ⌜ Contracts.LentOriginsRoom (now lengths) (now coords) (length (now «origin_scratch»)) (length (now «out_origins»))
-        Contracts.nonePlaced ⌝ }
+    requires { ⌜ LentOriginsRoom (now lengths) (now coords) (length (now «origin_scratch»)) (length (now «out_origins»))
+        nonePlaced ⌝ }
     ensures answer { λ r. ⌜ r ≡ Polygon.answerOf (Polygon.route flags bounds (closedRings (now (lengths .entry)) (now (coords .entry)))) ⌝ }
-    ensures written { λ _. ⌜ Contracts.FilledWhole (Polygon.route flags bounds (closedRings (now (lengths .entry)) (now (coords .entry))))
+    ensures written { λ _. ⌜ FilledWhole (Polygon.route flags bounds (closedRings (now (lengths .entry)) (now (coords .entry))))
         (now (out .entry)) (now («out_lengths» .entry)) (now (out .exit)) (now («out_lengths» .exit)) ⌝ }
     ensures origins { λ _. ⌜ now («out_origins» .exit) ≡ padded 0 (originsOf (Origins.routedOrigins
         (Polygon.route flags bounds (closedRings (now (lengths .entry)) (now (coords .entry)))) bounds

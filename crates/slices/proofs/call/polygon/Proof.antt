@@ -11,8 +11,9 @@ use Rattle.ring_calls.proofs.Offered.{cleared}
 use Rattle.rings.specs.LentRings.{closedRings}
 use Rattle.clip.specs.Polygon.{route}
 use Rattle.clip.specs.Origins.{routedOrigins}
+use Rattle.polygon_rings.specs.WrittenRings.{writtenRings, numbersOf, originsOf}
 use Rattle.slices.specs.SliceCall.{sliceCallOriginRoom, polygonSlices, sliceCallCheck, routeLent, originsLent}
-use Rattle.slices.specs.SliceCall.{sliceCallAnswer, writtenRings, numbersOf, originsOf, sliceCallSlices}
+use Rattle.slices.specs.SliceCall.{sliceCallAnswer, sliceCallSlices}
 use Rattle.slices.proofs.Checks.{passed-checks, part-room, part-origin-room, padded-front}
 use Rattle.slices.proofs.Answers.{refused, answered, written}
 use Rattle.slices.proofs.call.polygon.Statement.{statement}

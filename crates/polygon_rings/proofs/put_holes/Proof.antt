@@ -14,9 +14,9 @@ use Rattle.rings.proofs.LentRings.{Left, left-start, left-ring, left-next, ring
 use Rattle.clip.specs.Polygon.{cutHole, cutHoles}
 use Rattle.clip.specs.Origins.{holeOrigins, holesOrigins}
 use Rattle.clip.proofs.Cuts.{hole-fits-room}
-use Rattle.slices.specs.SliceCall.{originsOf}
-use Rattle.slices.specs.Contracts.{Put}
-use Rattle.slices.proofs.Holes.{
+use Rattle.polygon_rings.specs.WrittenRings.{originsOf}
+use Rattle.polygon_rings.specs.Contracts.{Put}
+use Rattle.polygon_rings.proofs.Holes.{
   Ahead,
   ahead-start,
   ahead-then,
@@ -31,8 +31,8 @@ use Rattle.slices.proofs.Holes.{
   room-there,
   same-room,
 }
-use Rattle.slices.proofs.call.put_holes.Statement.{statement}
-use Rattle.slices.proofs.call.put_holes.Tie as tie
+use Rattle.polygon_rings.proofs.put_holes.Statement.{statement}
+use Rattle.polygon_rings.proofs.put_holes.Tie as tie
 
 abbrev Inv-loop : tie.InvT-loop
 Inv-loop coords lengths bounds scratch₀ origin-scratch₀ out₀ out-lengths₀ out-origins₀ placed₀ at₀ k₀ scratch origin-scratch out out-lengths

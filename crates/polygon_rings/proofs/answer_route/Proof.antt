@@ -2,10 +2,10 @@
 use mathlib.Core.Path.{refl, ap}
 use borrow.Author.Needs.{needs}
 use Rattle.clip.specs.declared.polygon.PolygonAnswer.the-variants.{Cut}
-use Rattle.slices.specs.SliceCall.{numbersOf, lengthsOf, originsOf}
-use Rattle.slices.proofs.Checks.{overlay-filled}
-use Rattle.slices.proofs.call.answer_route.Statement.{statement}
-use Rattle.slices.proofs.call.answer_route.Tie as tie
+use Rattle.polygon_rings.specs.WrittenRings.{numbersOf, lengthsOf, originsOf}
+use Rattle.polygon_rings.proofs.Routes.{overlay-filled}
+use Rattle.polygon_rings.proofs.answer_route.Statement.{statement}
+use Rattle.polygon_rings.proofs.answer_route.Tie as tie
 
 enum-told : tie.Need-enum-told
 enum-told c = search needs

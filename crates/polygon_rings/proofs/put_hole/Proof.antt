@@ -10,9 +10,9 @@ use Rattle.tile.specs.Ring.{coords, close}
 use Rattle.clip.specs.Polygon.{cutHole}
 use Rattle.clip.specs.Origins.{holeOrigins}
 use Rattle.clip.proofs.Cuts.{hole-fits-room}
-use Rattle.slices.proofs.Holes.{cut-fits, cut-small, cut-origins-fit, cut-there}
-use Rattle.slices.proofs.call.put_hole.Statement.{statement}
-use Rattle.slices.proofs.call.put_hole.Tie as tie
+use Rattle.polygon_rings.proofs.Holes.{cut-fits, cut-small, cut-origins-fit, cut-there}
+use Rattle.polygon_rings.proofs.put_hole.Statement.{statement}
+use Rattle.polygon_rings.proofs.put_hole.Tie as tie
 
 mul-numbers : tie.Need-mul-numbers
 mul-numbers c = search needs

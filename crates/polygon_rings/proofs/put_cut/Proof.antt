@@ -11,11 +11,11 @@ use Rattle.binary64.proofs.Fill.{tail-part}
 use Rattle.rings.specs.LentRings.{closedRings}
 use Rattle.clip.specs.Polygon.{cutHoles}
 use Rattle.clip.specs.Origins.{holesOrigins}
-use Rattle.slices.specs.SliceCall.{originsOf}
-use Rattle.slices.specs.Contracts.{PutHoles}
-use Rattle.slices.proofs.Holes.{exterior-room, start-fits, holes-room, same-room, cut-done, origins-done}
-use Rattle.slices.proofs.call.put_cut.Statement.{statement}
-use Rattle.slices.proofs.call.put_cut.Tie as tie
+use Rattle.polygon_rings.specs.WrittenRings.{originsOf}
+use Rattle.polygon_rings.specs.Contracts.{PutHoles}
+use Rattle.polygon_rings.proofs.Holes.{exterior-room, start-fits, holes-room, same-room, cut-done, origins-done}
+use Rattle.polygon_rings.proofs.put_cut.Statement.{statement}
+use Rattle.polygon_rings.proofs.put_cut.Tie as tie
 
 count-ring-requires : tie.Need-count-ring-requires
 count-ring-requires c κs =

@@ -25,10 +25,10 @@ use Rattle.clip.specs.Polygon.{cutHole, unlessNone, cutExterior, cutHoles, cutR
 use Rattle.clip.specs.Origins.{exteriorOrigins, holeOrigins, holesOrigins, cutOrigins}
 use Rattle.clip.specs.Contracts.{RingRoom, RingOriginRoom}
 use Rattle.clip.proofs.Cuts.{cut-fits-room, cut-rings, exterior-origins-length, hole-origins-length}
-use Rattle.slices.specs.declared.call.Placed.{Placed}
-use Rattle.slices.specs.SliceCall.{numbersOf, lengthsOf, originsOf}
-use Rattle.slices.specs.Contracts.{nonePlaced, lengthUnlessNone, CountRoom, Counted, HoleRoom, Put, LentRingsRoom, PutHoles, Filled}
-use Rattle.slices.specs.Contracts.{LentCutRoom, HoleOriginRoom, LentOriginsRoom, LentRouteOriginRoom, FilledOrigins}
+use Rattle.polygon_rings.specs.declared.Placed.{Placed}
+use Rattle.polygon_rings.specs.WrittenRings.{numbersOf, lengthsOf, originsOf}
+use Rattle.polygon_rings.specs.Contracts.{nonePlaced, lengthUnlessNone, CountRoom, Counted, HoleRoom, Put, LentRingsRoom, PutHoles}
+use Rattle.polygon_rings.specs.Contracts.{LentCutRoom, HoleOriginRoom, LentOriginsRoom, LentRouteOriginRoom, Filled, FilledOrigins}
 
 pub length-some : (n : ℕ) → (n ≡ 0 → ⊥) → lengthUnlessNone n ≡ n ∷ []
 length-some zero h = absurd (h refl)

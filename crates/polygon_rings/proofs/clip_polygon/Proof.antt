@@ -6,11 +6,11 @@ use borrow.Author.Needs.{needs}
 use Rattle.rings.specs.declared.rectangle.Rect.the-variants as Rects
 use Rattle.rings.proofs.Closing.{all-closed, box-finite}
 use Rattle.clip.specs.Polygon.{route, routeRect}
-use Rattle.slices.specs.SliceCall.{numbersOf, lengthsOf, originsOf}
-use Rattle.slices.proofs.Checks.{cuttable}
-use Rattle.slices.proofs.Holes.{exterior-here, first-room, first-positions, same-room}
-use Rattle.slices.proofs.call.clip_polygon.Statement.{statement}
-use Rattle.slices.proofs.call.clip_polygon.Tie as tie
+use Rattle.polygon_rings.specs.WrittenRings.{numbersOf, lengthsOf, originsOf}
+use Rattle.polygon_rings.proofs.Routes.{cuttable}
+use Rattle.polygon_rings.proofs.Holes.{exterior-here, first-room, first-positions, same-room}
+use Rattle.polygon_rings.proofs.clip_polygon.Statement.{statement}
+use Rattle.polygon_rings.proofs.clip_polygon.Tie as tie
 
 polygon-rect-all-rings-requires : tie.Need-polygon-rect-all-rings-requires
 polygon-rect-all-rings-requires c κs = c .before .before .before .before .before .before .before .before .pre .0 .measurable .lent

@@ -1,0 +1,2 @@
+pub mod WrittenRings
+pub mod Contracts
