@@ -100,7 +100,7 @@ fn cross_next(ring: &mut [Coord<f64>], k: usize) {
 }
 
 /// How many pairs of edges cross, each asked of the Rust as a ring of the two and the way between them.
-fn crossings(ring: &[Coord<f64>]) -> usize {
+pub fn crossings(ring: &[Coord<f64>]) -> usize {
     let closed = [ring, &ring[..1]].concat();
     let mut crossings = 0;
     any_edge_pair(&closed, |a, b| {

@@ -13,11 +13,17 @@ use crate::rings::{self, OUTLINES};
 use crate::slices;
 use crate::table::whole;
 
-const FEW: usize = 20;
-const FURTHER: usize = 100;
+/// So many calls, and some more.
+const CALLS: [usize; 2] = [20, 120];
 
-/// Vertices of the rings.
+/// The same for rings over 1,024 edges, of which one takes seconds under callgrind.
+const CALLS_ON_LONG_RINGS: [usize; 2] = [1, 2];
+
+/// Vertices of the rings that are cut.
 const VERTICES: [usize; 2] = [64, 1_024];
+
+/// Edges of the rings that are checked: up to 32 all pairs are scanned.
+const EDGES: [usize; 7] = [32, 33, 64, 317, 1_024, 4_096, 65_536];
 
 /// Lines of the program's input.
 const FEW_LINES: usize = 500;
@@ -27,24 +33,19 @@ pub fn measure() {
     println!("| workload | size | case | Rust | port | ratio |\n|---|---|---|---|---|---|");
     for (s, size) in SIZES.iter().enumerate() {
         for (c, case) in CASES.iter().enumerate() {
-            print_row("frame entry", size.name, case.name, of_a_call("frame", s, c));
+            print_row("frame entry", size.name, case.name, of_a_call("frame", s, c, CALLS));
         }
     }
-    for (v, vertices) in VERTICES.iter().enumerate() {
-        let size = format!("{} edges", whole(*vertices as f64));
-        for (o, (name, _)) in issues::OUTLINES.iter().enumerate() {
-            print_row("issue check", &size, name, of_a_call("issue", v, o));
-        }
-    }
+    measure_issues();
     for (v, vertices) in VERTICES.iter().enumerate() {
         let size = format!("{} vertices", whole(*vertices as f64));
         for (o, (name, _)) in OUTLINES.iter().enumerate() {
-            print_row("ring call", &size, name, of_a_call("ring", v, o));
+            print_row("ring call", &size, name, of_a_call("ring", v, o, CALLS));
         }
     }
     for (s, size) in slices::SIZES.iter().enumerate() {
         for (c, case) in slices::COUNTED.iter().enumerate() {
-            print_row("slice call", &size.name(), case.name, of_a_call("slice", s, c));
+            print_row("slice call", &size.name(), case.name, of_a_call("slice", s, c, CALLS));
         }
     }
     for (name, shares) in lines::INPUTS {
@@ -57,19 +58,29 @@ pub fn measure() {
     }
 }
 
+fn measure_issues() {
+    for (e, edges) in EDGES.into_iter().enumerate() {
+        let size = format!("{} edges", whole(edges as f64));
+        let calls = if edges <= 1_024 { CALLS } else { CALLS_ON_LONG_RINGS };
+        for (o, (name, _)) in issues::OUTLINES.iter().enumerate() {
+            print_row("issue check", &size, name, of_a_call("issue", e, o, calls));
+        }
+    }
+}
+
 fn print_row(workload: &str, size: &str, case: &str, [rust, port]: [f64; 2]) {
     println!("| {workload} | {size} | {case} | {} | {} | {:.2} |", whole(rust), whole(port), port / rust);
 }
 
 /// Of both sides, in the order of the table.
-fn of_a_call(call: &str, size: usize, case: usize) -> [f64; 2] {
+fn of_a_call(call: &str, size: usize, case: usize, calls: [usize; 2]) -> [f64; 2] {
     ["rust", "port"].map(|side| {
-        let counts = [FEW, FEW + FURTHER].map(|times| {
+        let counts = calls.map(|times| {
             let mut program = Command::new(env::current_exe().expect("a program knows where it is"));
             program.args(["calls", call, side]).args([size, case, times].map(|number| number.to_string()));
             collected(&program, Stdio::null())
         });
-        (counts[1] - counts[0]) / FURTHER as f64
+        (counts[1] - counts[0]) / (calls[1] - calls[0]) as f64
     })
 }
 
@@ -107,7 +118,7 @@ pub fn make_calls(arguments: &[String]) {
         }
         "issue" => {
             let (_, outline) = issues::OUTLINES[case];
-            let mut sides = issues::Sides::new(&outline(VERTICES[size]));
+            let mut sides = issues::Sides::new(&outline(EDGES[size]));
             let one_call = if is_rust { issues::Sides::rust } else { issues::Sides::port };
             (0..times).for_each(|_| one_call(&mut sides));
         }

@@ -1,7 +1,7 @@
 //! Times the port beside the unchanged Rust, on the same inputs, in one run: one table, times in nanoseconds. The ratio is the
 //! port's time over the Rust's. The name of a workload asks for its rows alone, `instructions` for the counts of callgrind,
-//! `crossings` for issue checks of rings that cross themselves. As `ringcut` it is the Rust program that the port's is measured
-//! beside.
+//! `crossings` for issue checks of rings that cross themselves, `shallow` for those of rings that cross in floats alone. As
+//! `ringcut` it is the Rust program that the port's is measured beside.
 
 mod crossings;
 mod frames;
@@ -10,6 +10,7 @@ mod issues;
 mod lines;
 mod outlines;
 mod rings;
+mod shallow;
 mod slices;
 mod table;
 mod timing;
@@ -34,6 +35,7 @@ fn main() {
         Some("calls") => instructions::make_calls(&arguments[1..]),
         Some("instructions") => instructions::measure(),
         Some("crossings") => crossings::measure(),
+        Some("shallow") => shallow::measure(),
         asked => measure(asked),
     }
 }
@@ -43,7 +45,7 @@ fn measure(asked: Option<&str>) {
     let is_asked = |name: &str| asked.is_none_or(|asked| asked == name);
     assert!(
         WORKLOADS.iter().any(|&(name, _)| is_asked(name)),
-        "usage: bench [issues|rings|slices|frames|lines|instructions|crossings]"
+        "usage: bench [issues|rings|slices|frames|lines|instructions|crossings|shallow]"
     );
     table::print_head();
     WORKLOADS.iter().filter(|&&(name, _)| is_asked(name)).for_each(|&(_, measure)| measure());
