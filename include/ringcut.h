@@ -67,10 +67,11 @@ extern "C" {
  * to be read at corner (edge + 1) % n.
  *
  * A corner is repeated where it and the next differ by less than 1e-10 in x and in y; only the last edge may be so short. The
- * first position is the first such corner, the second is 0. Where edges cross, the first position is the lower edge and the
- * second the higher one: of all pairs that cross, the one with the lowest lower number, and of those the one with the lowest
- * higher number. With assume_simple edges that cross are not looked for. A short exterior is told before a repeated corner, and
- * that before edges that cross.
+ * first position is the first such corner, the second is 0. Whether two edges cross is tested in floating point; where all
+ * eight numbers are whole multiples of 1/2^48 and at most 256 in magnitude they then also share a point, exactly. Where edges
+ * cross, the first position is the lower edge and the second the higher one: of all pairs that cross, the one with the lowest
+ * lower number, and of those the one with the lowest higher number. With assume_simple edges that cross are not looked for. A
+ * short exterior is told before a repeated corner, and that before edges that cross.
  *
  * The positions of 9 and 10 are those of the cut exterior, which the answer doesn't bring: there a corner may have another number
  * than in the exterior that was lent.

@@ -148,7 +148,7 @@ fn decision(rounded: i64, answer: i64) -> &'static str {
     }
 }
 
-/// A quarter of the slice calls that are not refused hang on the rule, scanned and swept, in the input and in the cut.
+/// More than a fifth of the slice calls that are not refused hang on the rule, scanned and swept, in the input and in the cut.
 #[test]
 fn the_generator_makes_slice_calls_on_which_the_rule_decides() {
     let (mut decided, mut answered) = (Decided::new(), 0);

@@ -6,19 +6,6 @@ use formats::Coord;
 /// Two edges: from the first end to the second, and from the third to the fourth.
 pub type Pair = [Coord; 4];
 
-/// How two closed segments meet, exactly.
-#[derive(Clone, Copy, Debug, PartialEq, Eq)]
-pub enum Meeting {
-    /// In no point.
-    None,
-    /// In one point, which is an end of either.
-    Touch,
-    /// On one line, in one point or more.
-    Overlap,
-    /// In one point, which is an end of neither.
-    Proper,
-}
-
 /// Document 01's test: boxes that are not apart, no edge shorter than 1e-10, and ends on opposite sides by rounded products.
 pub fn cross_rounded(pair: &Pair) -> bool {
     let [a, b, c, d] = *pair;
@@ -34,8 +21,9 @@ pub fn cross_rounded(pair: &Pair) -> bool {
         && !short(c, d)
 }
 
-/// None where the numbers are too long for whole numbers of 128 bits: not all multiples of 1/2^52, or one of 512 or more in magnitude.
-pub fn meeting(pair: &Pair) -> Option<Meeting> {
+/// Whether they share one point that is an end of neither, exactly. None where the numbers are too long for whole numbers of 128 bits:
+/// not all multiples of 1/2^52, or one of 512 or more in magnitude.
+pub fn cross_properly(pair: &Pair) -> Option<bool> {
     let whole = |number: f64| {
         let steps = number * (1u64 << 52) as f64;
         (number.abs() < 512.0 && steps == steps.trunc()).then_some(steps as i128)
@@ -44,23 +32,9 @@ pub fn meeting(pair: &Pair) -> Option<Meeting> {
     for (place, end) in wholes.iter_mut().zip(pair) {
         *place = (whole(end.0)?, whole(end.1)?);
     }
-    Some(meeting_of_wholes(wholes))
-}
-
-fn meeting_of_wholes([a, b, c, d]: [(i128, i128); 4]) -> Meeting {
+    let [a, b, c, d] = wholes;
     let side = |a: (i128, i128), b: (i128, i128), c: (i128, i128)| {
         ((b.0 - a.0) * (c.1 - a.1) - (b.1 - a.1) * (c.0 - a.0)).signum()
     };
-    let apart = |a: i128, b: i128, c: i128, d: i128| a.max(b) < c.min(d) || c.max(d) < a.min(b);
-    let sides = [side(c, d, a), side(c, d, b), side(a, b, c), side(a, b, d)];
-    let on_one_side = sides[0] * sides[1] > 0 || sides[2] * sides[3] > 0;
-    if on_one_side || apart(a.0, b.0, c.0, d.0) || apart(a.1, b.1, c.1, d.1) {
-        Meeting::None
-    } else if sides == [0; 4] {
-        Meeting::Overlap
-    } else if sides.contains(&0) {
-        Meeting::Touch
-    } else {
-        Meeting::Proper
-    }
+    Some(side(c, d, a) * side(c, d, b) < 0 && side(a, b, c) * side(a, b, d) < 0)
 }

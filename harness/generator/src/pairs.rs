@@ -1,7 +1,7 @@
 //! Two edges at a time, nearly or exactly of one line, on the grid of document 02's point 5 and off it. They are drawn in whole steps,
 //! so that what is meant to be exactly so is.
 
-use crate::meetings::{cross_rounded, meeting, Meeting, Pair};
+use crate::meetings::{cross_properly, cross_rounded, Pair};
 use crate::numbers::any_bits;
 use crate::rng::Rng;
 
@@ -306,7 +306,7 @@ fn looked_for(rng: &mut Rng) -> Pair {
     ]);
     let mut pair = draw(kind, rng);
     for _ in 1..TRIES {
-        if cross_rounded(&pair) && meeting(&pair) != Some(Meeting::Proper) {
+        if cross_rounded(&pair) && cross_properly(&pair) != Some(true) {
             break;
         }
         pair = draw(kind, rng);

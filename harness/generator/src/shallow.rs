@@ -4,7 +4,7 @@
 use formats::{Bounds, Coord, Ring};
 
 use crate::collinear::arc;
-use crate::meetings::{cross_rounded, meeting, Meeting, Pair};
+use crate::meetings::{cross_properly, cross_rounded, Pair};
 use crate::pairs::{draw, mirrored, PairKind};
 use crate::rng::Rng;
 
@@ -55,7 +55,7 @@ fn looked_for_when_cut(east: f64, rng: &mut Rng) -> Pair {
     let mut pair = draw(PairKind::AroundZero, rng);
     for _ in 1..PAIR_TRIES {
         let cut = cut_at_east(&pair, east);
-        if !cross_rounded(&pair) && cross_rounded(&cut) && meeting(&cut) != Some(Meeting::Proper) {
+        if !cross_rounded(&pair) && cross_rounded(&cut) && cross_properly(&cut) != Some(true) {
             break;
         }
         pair = draw(PairKind::AroundZero, rng);
@@ -84,7 +84,7 @@ fn hangs_on_shallow(ring: &[Coord]) -> bool {
     let mut crossing = pairs
         .map(|(j, k)| [edge(j).0, edge(j).1, edge(k).0, edge(k).1])
         .filter(cross_rounded)
-        .map(|pair| meeting(&pair).is_some_and(|meeting| meeting != Meeting::Proper))
+        .map(|pair| cross_properly(&pair) == Some(false))
         .peekable();
     crossing.peek().is_some() && crossing.all(|shallow| shallow)
 }

@@ -567,10 +567,11 @@ fn exact_side(scale: f64, [a, b, c]: [Coord; 3]) -> i128 {
     ((bx - ax) * (cy - ay) - (by - ay) * (cx - ax)).signum()
 }
 
-/// The rounded test takes the first and the third edge for crossing, though the third lies on one side of the first. The decimals are
-/// off the grid of document 02's point 5 and keep the rounded test; the degrees are on it, and share no point.
+/// The rounded test takes the first and the third edge for crossing, though the third lies on one side of the first. The decimals and the
+/// ring with a number above 256 are off the grid of document 02's point 5 and keep the rounded test; the degrees are on it, and share no
+/// point.
 #[test]
-fn a_pair_of_edges_crosses_by_rounding_alone() {
+fn edges_that_cross_by_rounding_alone_on_the_grid_and_off() {
     let decimals = [(0.1, 0.3), (0.6, 0.8), (0.4, 0.6), (0.3, 0.5), (0.1, 0.3)];
     let degrees = [
         (-31.568978182155334, -73.81603924119962),
@@ -579,18 +580,29 @@ fn a_pair_of_edges_crosses_by_rounding_alone() {
         (30.842900723745238, 21.76917765348354),
         (-31.568978182155334, -73.81603924119962),
     ];
+    let above = [(257.4, 9.0), (0.0, 0.0), (57.2, 2.0), (85.8, 3.0), (257.4, 9.0)];
     let crossing = overlay(8, 0, 2).code();
-    for (ring, scale, code) in [(decimals, 2f64.powi(56), crossing), (degrees, 2f64.powi(50), 2)] {
+    let rings = [(decimals, 2f64.powi(56), crossing), (above, 2f64.powi(47), crossing), (degrees, 2f64.powi(50), 2)];
+    for (ring, scale, code) in rings {
         let [a, b, c, d, _] = ring;
         let side = |point: Coord| exact_side(scale, [a, b, point]);
         assert_eq!(side(c), side(d), "the third edge is on one side of the first");
         assert_ne!(side(c), 0);
-        let answers = [0, 1, 2, 3].map(|flags| {
-            let call = SliceCall { bounds: [-100.0, -100.0, 100.0, 100.0], ..call(flags, &[ring.to_vec()]) };
-            answered(&call)
-        });
+        let answers = answers_in([-300.0, -300.0, 300.0, 300.0], &ring.to_vec());
         assert_eq!(answers, [code, 2, code, 2], "{ring:?}");
     }
+}
+
+/// Rings that geo's own orientations would turn down, as products of numbers so small or so large underflow or overflow in them, though
+/// the first and the third edge do share a point. An overlay of the second is dropped, as its numbers are too large for one.
+#[test]
+fn edges_of_tiny_and_of_huge_numbers_keep_the_rounded_test() {
+    let tiny = vec![(-0.4, 0.0), (0.4, 0.0), (-0.1, -5e-324), (0.1, 5e-324), (-0.4, 0.0)];
+    let crossing = overlay(8, 0, 2).code();
+    assert_eq!(answers_in([-100.0, -100.0, 100.0, 100.0], &tiny), [crossing, 2, crossing, 2]);
+    let huge = vec![(-1e155, 0.0), (1e155, 0.0), (0.0, 1e155), (0.0, -1e155), (-1e155, 0.0)];
+    let dropped = SliceAnswer::Dropped.code();
+    assert_eq!(answers_in([-1e156, -1e156, 1e156, 1e156], &huge), [dropped, 2, dropped, 2]);
 }
 
 /// What a call on the ring alone in these bounds is answered with flags 0 to 3, held to the Rust each time.

@@ -4,9 +4,6 @@
 use crate::pair::{Coord, Pair, HIGHEST, STEPS};
 use crate::rng::Rng;
 
-/// Largest whole numbers that stand for coordinates of tenths, hundredths or thousandths: at most 256.
-const MOST_TENTHS: i64 = 2_560;
-
 /// A pair whose numbers are all on the grid.
 pub fn on_grid(rng: &mut Rng) -> Pair {
     // Every double from 16 to 256 is on the grid, so that many pairs stay as they are.
@@ -80,11 +77,11 @@ fn shape(rng: &mut Rng) -> [Coord; 4] {
 /// Four places of a line of tenths, hundredths or thousandths: on one line but for the rounding of the decimals.
 fn decimals(rng: &mut Rng) -> [Coord; 4] {
     let unit = [10, 100, 1_000][rng.between(0, 2) as usize];
-    let most = [unit, 16 * unit, MOST_TENTHS / 10 * unit][rng.between(0, 2) as usize];
+    let most = [unit, 16 * unit, 256 * unit][rng.between(0, 2) as usize];
     let most_step = (most / 8).min([9, 99, 999][rng.between(0, 2) as usize]).max(1);
     let (x, y) = (rng.between(-most / 2, most / 2), rng.between(-most / 2, most / 2));
     let (dx, dy) = (rng.between(-most_step, most_step), rng.between(-most_step, most_step));
-    let steps = most / 2 / most_step.max(1);
+    let steps = most / 2 / most_step;
     [(); 4].map(|()| {
         let place = rng.between(-steps, steps);
         ((x + place * dx) as f64 / unit as f64, (y + place * dy) as f64 / unit as f64)

@@ -31,8 +31,9 @@ pub enum Issue {
         /// The first corner that the next repeats.
         corner: usize,
     },
-    /// Two edges cross: of all pairs that do, the one with the lowest `lower`, and of those the one with the lowest `higher`. With
-    /// [`assume_simple`](crate::Flags::assume_simple) it is not looked for.
+    /// Two edges cross: of all pairs that do, the one with the lowest `lower`, and of those the one with the lowest `higher`. It is
+    /// tested in floating point; where all eight numbers are whole multiples of 1/2^48 and at most 256 in magnitude the two edges then
+    /// also share a point, exactly. With [`assume_simple`](crate::Flags::assume_simple) it is not looked for.
     Crossing {
         /// The edge with the lower number.
         lower: usize,

@@ -1,8 +1,9 @@
 //! `line_intersection` as document 02's point 5 has it: exact where all eight numbers are on the grid, and a point elsewhere, as
 //! document 01's base leaves the test out there.
 //!
-//! The real one asks whether two closed segments share a point by orientations of the crate `robust`. Here these are reckoned in whole
-//! numbers. The order of the tests is the same: boxes, the sides of one segment's ends, the sides of the other's.
+//! By its published behaviour the real one, whose code is not at hand, asks whether two closed segments share a point by orientations of
+//! the crate `robust`. Here these are reckoned in whole numbers, and the tests go in the order known of it: boxes, the sides of one
+//! segment's ends, the sides of the other's.
 
 use crate::{Coord, Line};
 
