@@ -7,8 +7,9 @@ use Rattle.exact.specs.declared.segments.Point.{Point}
 
 -- ---- what is meant
 
--- "the two closed segments share a point": (r·a + s·b) / (r + s) is (u·c + t·d) / (u + t). Whole numbers for weights are enough: segments
--- between points of whole numbers that share any point share an end, or cross at a point that divides each in a ratio of whole numbers
+-- "the two closed segments share a point": (r·a + s·b) / (r + s) is (u·c + t·d) / (u + t). Whole numbers for weights are enough: of two
+-- segments between points of whole numbers that share any point, one has an end on the other, or they cross at a point that divides each in
+-- a ratio of whole numbers
 pub record SharedPoint (a b c d : Point) : Type 0 where
   pub r : ℕ
   pub s : ℕ
