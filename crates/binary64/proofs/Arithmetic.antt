@@ -5,7 +5,8 @@ use mathlib.Core.Path.{_≡_, refl, sym, ap, ap₂, _∙_}
 use mathlib.Core.Logic.{_⊎_, inl, inr}
 use mathlib.Core.Bool.{Bool, true, false, not, cond}
 use Prim.Native.Nat.{ℕ, _+_, _-_, _*_, _^_, _≤_, _<_}
-use native.Mathlib.Nat.{le-trans, le-of-eq, le-of-lt, lt-of-le-of-lt, mul-comm, mul-sub, mul-le-mul-right, le-of-mul-le-mul-right, mul-pos}
+use native.Mathlib.Nat.{le-trans, le-of-eq, le-of-lt, lt-of-le-of-lt, eq-zero-or-pos, zero-add, add-zero, mul-comm, mul-sub, mul-pos}
+use native.Mathlib.Nat.{mul-le-mul-right, le-of-mul-le-mul-right}
 use native.Mathlib.Omega.{arith}
 use lib.Dec.{T, ltb, eqb, ltb→lt, nltb→le, eqb→eq, not-T}
 use lib.Pow.{pow-pos}
@@ -14,9 +15,9 @@ use lib.Ieee.Bits.{cond-no}
 use lib.Ieee.Fits.{down-pos, neg-fits}
 use lib.Ieee.Positive.{num, den, first-pos}
 use lib.Ieee.Scale.{grid, overflow, round-same}
-use Rattle.binary64.specs.Scaled.{mag, aboveZero, belowZero}
+use Rattle.binary64.specs.Scaled.{mag, aboveZero, belowZero, distance}
 use Rattle.binary64.proofs.Order.{above, under}
-use Rattle.binary64.proofs.Value.{Number, Parts, InFormat, distance, in-format-zero, mag-whole}
+use Rattle.binary64.proofs.Value.{Number, Parts, InFormat, in-format-zero, mag-whole, mag-parts}
 use Rattle.binary64.proofs.Rounding.{rnd, rnd-zero, round-parts, round-units, in-format-power, grid-le-in-format}
 
 -- a number over a denominator that is its own times d
@@ -124,6 +125,18 @@ sub-rounded {f} {y = fin true n d} hx hy =
 sub-rounded {f} {y = fin false n d} hx hy =
     add-rounded {y = fin true n d} hx (record { is-finite = tt; in-format = neg-fits f (fin false n d) (hy .in-format) })
 
+-- its size is theirs, rounded
+pub rounded-mag : {f : Format} {z : Float} (p n : ℕ) → Rounded f z p n → mag f z ≡ rnd f (distance p n)
+rounded-mag {f} {z} p n h =
+    sym (mag-parts f z .0) ∙ ap₂ _+_ (h .plus-is) (h .minus-is)
+    ∙ elim (eq-zero-or-pos (p - n)) [
+      | inl e ↦ rw (e, rnd-zero f, zero-add (n - p)) (zero-add (rnd f (n - p)))
+      | inr l ↦ rw (less p n l, rnd-zero f, add-zero (p - n)) (add-zero (rnd f (p - n)))
+    ]
+  where
+    less : (p n : ℕ) → 0 < p - n → n - p ≡ 0
+    less p n l = omega arith
+
 -- ---- what goes no further from zero
 -- z is a number whose part above zero is at most p units, and whose part below zero is at most n
 pub record AtMost (f : Format) (z : Float) (p n : ℕ) : Type 0 where
@@ -192,28 +205,55 @@ ratio-of-sizes f u X Y a b C y p q h =
     side true = omega arith
     side false = omega arith
 
-pub div-ratio : {f : Format} {x y : Float} → Number f x → Number f y → PartOf f x y → Ratio f (div f x y)
+-- the quotient is the fraction X / Y, rounded once; with C for the denominator, X is the size of x and Y that of y
+pub record Quotient (f : Format) (x y : Float) : Type 0 where
+  pub negative : Bool
+  pub X : ℕ
+  pub Y : ℕ
+  pub C : ℕ
+  pub is : div f x y ≡ round f negative X Y
+  pub Y-pos : 0 < Y
+  pub C-pos : 0 < C
+  pub X-is : X * 2 ^ low f ≡ mag f x * C
+  pub Y-is : Y * 2 ^ low f ≡ mag f y * C
+  pub size : mag f x ≤ above negative (mag f y)
+
+pub quotient : {f : Format} {x y : Float} → Number f x → Number f y → PartOf f x y → Quotient f x y
 unfolding div aboveZero belowZero
-div-ratio {x = nan} hx hy h = absurd (hx .is-finite)
-div-ratio {x = inf s} hx hy h = absurd (hx .is-finite)
-div-ratio {x = fin s m e} {y = nan} hx hy h = absurd (hy .is-finite)
-div-ratio {x = fin s m e} {y = inf t} hx hy h = absurd (hy .is-finite)
-div-ratio {f} {x = fin s m e} {y = fin t n d} hx hy h =
+quotient {x = nan} hx hy h = absurd (hx .is-finite)
+quotient {x = inf s} hx hy h = absurd (hx .is-finite)
+quotient {x = fin s m e} {y = nan} hx hy h = absurd (hy .is-finite)
+quotient {x = fin s m e} {y = inf t} hx hy h = absurd (hy .is-finite)
+quotient {f} {x = fin s m e} {y = fin t n d} hx hy h =
     let X = m * up e * down d in
     let Y = n * up d * down e in
     let C = down e * down d in
-    let a = mag f (fin s m e) in
-    let b = mag f (fin t n d) in
-    let q : Y * 2 ^ low f ≡ b * C = over hy (down e) C (mul-comm (down e) (down d)) in
-    let g = sizes s t a b h in
-    let y-pos : 0 < Y = first-pos Y (2 ^ low f) (rw q (mul-pos (g .1) (mul-pos (down-pos e) (down-pos d)))) in
+    let c : 0 < C = mul-pos (down-pos e) (down-pos d) in
+    let q : Y * 2 ^ low f ≡ mag f (fin t n d) * C = over hy (down e) C (mul-comm (down e) (down d)) in
+    let g = sizes s t (mag f (fin s m e)) (mag f (fin t n d)) h in
+    let y-pos : 0 < Y = first-pos Y (2 ^ low f) (rw q (mul-pos (g .1) c)) in
     let n-pos : 0 < n = first-pos n (up d) (first-pos (n * up d) (down e) y-pos) in
-    rw (cond-no (eqb n 0) (cond (eqb m 0) nan (inf (unlike s t))) (round f (unlike s t) X Y) (not-zero n n-pos))
-    (ratio-of-sizes f (unlike s t) X Y a b C y-pos (over hx (down d) C refl) q (g .0))
+    record {
+      negative = unlike s t;
+      X = X;
+      Y = Y;
+      C = C;
+      is = cond-no (eqb n 0) (cond (eqb m 0) nan (inf (unlike s t))) (round f (unlike s t) X Y) (not-zero n n-pos);
+      Y-pos = y-pos;
+      C-pos = c;
+      X-is = over hx (down d) C refl;
+      Y-is = q;
+      size = g .0;
+    }
+
+pub div-ratio : {f : Format} {x y : Float} → Number f x → Number f y → PartOf f x y → Ratio f (div f x y)
+div-ratio {f} {x} {y} hx hy h =
+    let q = quotient hx hy h in
+    rw (q .is) (ratio-of-sizes f (q .negative) (q .X) (q .Y) (mag f x) (mag f y) (q .C) (q .Y-pos) (q .X-is) (q .Y-is) (q .size))
 
 -- ---- products
 -- A / c is ±a units, from 0 to 1, and B / d is b units
-product-le : (s : Bool) (A B c d a b L : ℕ) → 0 < L → A * L ≡ a * c → B * L ≡ b * d → above s a ≤ L → under s a ≤ 0
+pub product-le : (s : Bool) (A B c d a b L : ℕ) → 0 < L → A * L ≡ a * c → B * L ≡ b * d → above s a ≤ L → under s a ≤ 0
     → A * B * L ≤ above s b * (c * d)
 product-le true A B c d a b L l p q u v =
     let g : a * c ≤ 0 * c = mul-le-mul-right c v in

@@ -1,7 +1,9 @@
 mod Arithmetic
+mod Errors
 pub mod Booleans
 pub mod Comparisons
 pub mod Cut
+pub mod CrossingError
 pub mod Fill
 pub mod KeyOrder
 pub mod Lines

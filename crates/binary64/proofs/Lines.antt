@@ -5,8 +5,8 @@
 use mathlib.Core.Path.{_≡_}
 use mathlib.Core.Logic.{inl, inr}
 use mathlib.Core.Bool.{Bool, true, false, not}
-use Prim.Native.Nat.{ℕ, suc, _+_, _^_, _≤_, _<_}
-use native.Mathlib.Nat.{le-refl, le-of-lt, lt-of-le-of-lt}
+use Prim.Native.Nat.{ℕ, suc, _+_, _^_, _≤_}
+use native.Mathlib.Nat.{le-refl, le-trans, le-of-lt}
 use native.Mathlib.Omega.{arith}
 use lib.Dec.{T}
 use lib.Ieee.{Float, Format, prec}
@@ -14,7 +14,8 @@ use Rattle.binary64.specs.Interpolation.{within, interpolate}
 use Rattle.binary64.specs.Scaled.{mag, aboveZero, belowZero}
 use Rattle.binary64.proofs.Value.{Le, Lt}
 use Rattle.binary64.proofs.Value.{Number, mag-parts, Le-of-le, Lt-of-not-le}
-use Rattle.binary64.proofs.Cut.{Small, Room, Between, Range, In, widen, interpolate-in}
+use Rattle.binary64.proofs.Rounding.{Room}
+use Rattle.binary64.proofs.Cut.{Small, Between, Range, In, widen, interpolate-in}
 
 -- ---- one end in and the other out puts the line between them
 in-out : {f : Format} {c va vb : Float} (low : Bool) → Number f c → Number f va → Number f vb → T (within low c va)
@@ -77,11 +78,11 @@ widen-in : {f : Format} {x : Float} {r : Range} (e : ℕ) → In f r x → In f 
 widen-in e h = record { number = h .number; not-below = omega arith; not-above = omega arith }
 
 -- ---- one cut
--- the line at c can cut what lies in v in the fixed coordinate and in u in the free one: nothing here is above g units, and that is below 2
--- ^ (prec + k)
+-- the line at c can cut what lies in v in the fixed coordinate and in u in the free one: nothing here is above g units, and that is at most
+-- 2 ^ (prec + k)
 pub record Cuttable (f : Format) (k g : ℕ) (c : Float) (v u : Range) : Type 0 where
   pub room : Room f k
-  pub reach : g < 2 ^ (prec f + k)
+  pub reach : g ≤ 2 ^ (prec f + k)
   pub line : Number f c
   pub line-le : mag f c ≤ g
   pub fixed : Reach g v
@@ -104,9 +105,9 @@ crossed {f} {k} {g} {c} {v} {u} {va} {vb} low i h hva hvb hua hub p q =
     let w : Between f va c vb = between low i (h .line) (hva .number) (hvb .number) p q in
     record {
       fixed = line-in low (between-in (h .line) hva hvb w);
-      free = interpolate-in (h .room) (record { number = h .line; size = lt-of-le-of-lt (h .line-le) (h .reach) })
+      free = interpolate-in (h .room) (record { number = h .line; size = le-trans (h .line-le) (h .reach) })
           (small (h .fixed) hva) (small (h .fixed) hvb) (small (h .free) hua) (small (h .free) hub) w hua hub;
     }
   where
     small : {r : Range} {x : Float} → Reach g r → In f r x → Small f k x
-    small a b = record { number = b .number; size = lt-of-le-of-lt (mag-le-reach a b) (h .reach) }
+    small a b = record { number = b .number; size = le-trans (mag-le-reach a b) (h .reach) }

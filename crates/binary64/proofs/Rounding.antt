@@ -1,10 +1,11 @@
 -- A fraction rounded to a format, in units: `grid f a c` is a / c rounded, `rnd f n` is n units rounded. Rounding leaves what the format
--- holds, keeps the order, and below 2 ^ (prec + k + 1) units it is at most 2 ^ k units off. Assumes nothing.
+-- holds, keeps the order, and up to 2 ^ (prec + k + 1) units it is at most 2 ^ k units off. Assumes nothing.
 use mathlib.Core.Path.{_≡_, sym, ap, _∙_}
+use mathlib.Core.Logic.{inl, inr}
 use mathlib.Core.Bool.{Bool, false, not}
 use Prim.Native.Nat.{ℕ, suc, _+_, _*_, _/_, _%_, _^_, _≤_, _<_, compare, Ordering, Ordering·lt, Ordering·eq, Ordering·gt}
 use native.Mathlib.Nat.{le-trans, le-of-eq, lt-of-le-of-lt, mod-lt, one-mul, zero-mul, mul-le-mul-right, mul-le-mul-left}
-use native.Mathlib.Nat.{mul-lt-mul-of-pos-right, le-of-mul-le-mul-right, mul-pos, div-add-mod', div-lt-iff-lt-mul, two-pow-succ}
+use native.Mathlib.Nat.{eq-or-lt-of-le, le-of-mul-le-mul-right, mul-pos, div-add-mod', div-lt-iff-lt-mul, two-pow-succ}
 use native.Mathlib.Omega.{arith}
 use lib.Dec.{T, isLe, isEq, leb→le, nleb→lt, eqb→eq}
 use lib.Pow.{pow-pos, pow-mono, pow-lt}
@@ -42,7 +43,7 @@ finite-of-value (inf t) s a c h = absurd h
 finite-of-value (fin t m e) s a c h = tt
 
 -- ---- what the format holds stays
-rnd-in-format : {f : Format} {w : ℕ} → InFormat f w → rnd f w ≡ w
+pub rnd-in-format : {f : Format} {w : ℕ} → InFormat f w → rnd f w ≡ w
 unfolding rnd
 rnd-in-format {f} {w} h =
     let l = 2 ^ low f in
@@ -92,11 +93,22 @@ grid-le-in-format {f} {w} a c C h whole-in =
     let e : grid f w (2 ^ low f) ≡ w = rnd-in-format whole-in in
     le-trans (grid-mono f a c w (2 ^ low f) C (pow-pos (low f)) h (lt-of-le-of-lt (le-of-eq e) (whole-in .small))) (le-of-eq e)
 
+-- and one that is what the format holds rounds to that
+grid-in-format : {f : Format} {w : ℕ} (a c : ℕ) → 0 < c → a * 2 ^ low f ≡ w * c → InFormat f w → grid f a c ≡ w
+unfolding rnd
+grid-in-format {f} {w} a c C e whole-in =
+    let l = 2 ^ low f in
+    let g : grid f a c ≤ w = grid-le-in-format a c C (le-of-eq e) whole-in in
+    let h : grid f w l ≤ grid f a c = grid-mono f w l a c (pow-pos (low f)) C (le-of-eq (sym e)) (lt-of-le-of-lt g (whole-in .small)) in
+    let s : grid f w l ≡ w = rnd-in-format whole-in in
+    omega arith
+
+pub rnd-le : {f : Format} {w : ℕ} (n : ℕ) → n ≤ w → InFormat f w → rnd f n ≤ w
+unfolding rnd
+rnd-le {f} n h = grid-le-in-format n (2 ^ low f) (pow-pos (low f)) (mul-le-mul-right (2 ^ low f) h)
+
 pub rnd-small : (f : Format) {n j : ℕ} → n ≤ 2 ^ j → j < low f + suc (emax f) → rnd f n < overflow f
-rnd-small f {n} {j} h l =
-    let whole-in = in-format-power f j l in
-    let e : rnd f (2 ^ j) ≡ 2 ^ j = rnd-in-format whole-in in
-    lt-of-le-of-lt (le-trans (rnd-mono f n (2 ^ j) h (lt-of-le-of-lt (le-of-eq e) (whole-in .small))) (le-of-eq e)) (whole-in .small)
+rnd-small f {n} {j} h l = let power = in-format-power f j l in lt-of-le-of-lt (rnd-le n h power) (power .small)
 
 pub rnd-pos : (f : Format) (n : ℕ) → 0 < n → rnd f n < overflow f → 0 < rnd f n
 rnd-pos f n h o = le-trans (le-of-eq (sym (rnd-in-format (in-format-power f 0 (omega arith))))) (rnd-mono f 1 n h o)
@@ -124,18 +136,35 @@ closest-off a b B =
 drop-le : (p n c k : ℕ) → 0 < c → n < 2 ^ (p + k) * c → drop p n c ≤ k
 drop-le p n c k C h = let z : size (n / c) ≤ p + k = size-le (n / c) (p + k) (div-lt-iff-lt-mul C .1 h) in omega arith
 
-grid-off : (f : Format) (a c k : ℕ) → 0 < c → a * 2 ^ low f < 2 ^ (prec f + suc k) * c → Off (grid f a c * c) (a * 2 ^ low f) (c * 2 ^ k)
-grid-off f a c k C h =
-    let n = a * 2 ^ low f in
-    let j = drop (prec f) n c in
-    let off = closest-off n (c * 2 ^ j) (mul-pos C (pow-pos j)) in
-    let last : c * 2 ^ j ≤ c * (2 ^ k + 2 ^ k) = rw two-pow-succ at (mul-le-mul-left c (pow-mono (drop-le (prec f) n c (suc k) C h))) in
-    omega arith
+-- twice 2 ^ (prec + k) units do not overflow
+abbrev pub Room : Format → ℕ → Type 0
+Room f k = prec f + suc k < low f + suc (emax f)
 
-pub rnd-off : (f : Format) (n k : ℕ) → n < 2 ^ (prec f + suc k) → Off (rnd f n) n (2 ^ k)
+-- a fraction of a / c units, up to 2 ^ (prec + k + 1), which is itself of the format
+pub grid-off : (f : Format) (k a c : ℕ) → Room f k → 0 < c → a * 2 ^ low f ≤ 2 ^ (prec f + suc k) * c
+    → Off (grid f a c * c) (a * 2 ^ low f) (c * 2 ^ k)
+grid-off f k a c room C h = elim (eq-or-lt-of-le h) [ inl e ↦ at e | inr l ↦ under l ]
+  where
+    n : ℕ
+    n = a * 2 ^ low f
+
+    under : n < 2 ^ (prec f + suc k) * c → Off (grid f a c * c) n (c * 2 ^ k)
+    under l =
+        let j = drop (prec f) n c in
+        let off = closest-off n (c * 2 ^ j) (mul-pos C (pow-pos j)) in
+        let last : c * 2 ^ j ≤ c * (2 ^ k + 2 ^ k) = rw two-pow-succ at (mul-le-mul-left c (pow-mono (drop-le (prec f) n c (suc k) C l))) in
+        omega arith
+
+    at : n ≡ 2 ^ (prec f + suc k) * c → Off (grid f a c * c) n (c * 2 ^ k)
+    at e =
+        let g : grid f a c ≡ 2 ^ (prec f + suc k) = grid-in-format a c C e (in-format-power f (prec f + suc k) room) in
+        let s : grid f a c * c ≡ n = ap (λ (z : ℕ). z * c) g ∙ sym e in
+        omega arith
+
+pub rnd-off : (f : Format) (k n : ℕ) → Room f k → n ≤ 2 ^ (prec f + suc k) → Off (rnd f n) n (2 ^ k)
 unfolding rnd
-rnd-off f n k h =
+rnd-off f k n room h =
     let l = 2 ^ low f in
     let L : 0 < l = pow-pos (low f) in
-    let off : Off (grid f n l * l) (n * l) (l * 2 ^ k) = grid-off f n l k L (mul-lt-mul-of-pos-right h L) in
+    let off : Off (grid f n l * l) (n * l) (l * 2 ^ k) = grid-off f k n l room L (mul-le-mul-right l h) in
     (le-of-mul-le-mul-right {k = l} (omega arith) L, le-of-mul-le-mul-right {k = l} (omega arith) L)

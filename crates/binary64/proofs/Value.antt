@@ -16,7 +16,7 @@ use lib.Ieee.Exact.{HasValue}
 use lib.Ieee.Fits.{down-pos, and-l, and-r}
 use lib.Ieee.Positive.{num, den, den-pos}
 use lib.Ieee.Scale.{overflow, finite}
-use Rattle.binary64.specs.Scaled.{sign, mag, aboveZero, belowZero}
+use Rattle.binary64.specs.Scaled.{sign, mag, aboveZero, belowZero, distance}
 use Rattle.binary64.proofs.Order.{above, under, plusNum, minusNum, le-is-fractions}
 
 -- x ≤ y and x < y, of the whole numbers
@@ -44,10 +44,6 @@ pub record InFormat (f : Format) (w : ℕ) : Type 0 where
   pub is : w ≡ digits * 2 ^ zeros
   pub few : digits < 2 ^ prec f
   pub small : w < overflow f
-
--- how far apart two whole numbers are
-abbrev pub distance : ℕ → ℕ → ℕ
-distance a b = a - b + (b - a)
 
 -- ---- a number of the format is a whole number of units that the format holds
 abbrev Whole : Format → ℕ → ℤ → Type 0

@@ -127,7 +127,7 @@ cut : (l : Edge) (b : TileBounds) {v u : Range} → AtMost256 (bound l b) → Re
 cut l b m v u =
     record {
       room = lit< tt;
-      reach = lit< tt;
+      reach = lit≤ tt;
       line = at-most-in (bound l b) m .number;
       line-le = le-trans (at-most-reach (bound l b) m)
           (lit≤ tt);
