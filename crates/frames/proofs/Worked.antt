@@ -22,7 +22,7 @@ use Rattle.box_pairs.specs.Cross.{crossProductSign, aboveBelow, splits, interse
 use Rattle.box_pairs.specs.Cross.{cross}
 use Rattle.box_pairs.specs.Pairs.{firstInRow, firstFrom, edgesCross, firstPair}
 use Rattle.box_pairs.specs.Issue.{repeatedFrom, issueOf, hasIssue}
-use Rattle.sutherland_hodgman.specs.CuttingLines.{inside, crossing}
+use Rattle.cutting_lines.specs.CuttingLines.{inside, crossing}
 use Rattle.sutherland_hodgman.specs.Clip.{steps, leaveOff, around, pass, passes, finish, clipRing}
 use Rattle.sutherland_hodgman.specs.Origins.{positionsFrom, stepsOrigins, aroundOrigins, passOrigins, passesOrigins, closeOrigins}
 use Rattle.sutherland_hodgman.specs.Origins.{finishOrigins, clipOrigins}

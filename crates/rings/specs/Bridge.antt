@@ -7,7 +7,7 @@ use Rattle.tile.specs.declared.TileBounds.{TileBounds}
 use Rattle.tile.specs.declared.Edge.{Edge}
 use Rattle.tile.specs.declared.Edge.the-variants.{Left, Right, Bottom, Top}
 use Rattle.box_pairs.specs.Cross.{degenerate}
-use Rattle.sutherland_hodgman.specs.CuttingLines.{fixed, bound}
+use Rattle.cutting_lines.specs.CuttingLines.{fixed, bound}
 use Rattle.rings.specs.declared.bridge.Bridge.{Bridge}
 use Rattle.rings.specs.declared.bridge.Bridge.the-variants.{None, Along}
 

@@ -9,7 +9,7 @@ use Rattle.tile.specs.declared.Coord.{Coord}
 use Rattle.tile.specs.declared.TileBounds.{TileBounds}
 use Rattle.tile.specs.Ring.{same, last, closed, close}
 use Rattle.tile.proofs.WholeNumbers.{num, at}
-use Rattle.sutherland_hodgman.specs.CuttingLines.{inside, crossing}
+use Rattle.cutting_lines.specs.CuttingLines.{inside, crossing}
 use Rattle.sutherland_hodgman.specs.Clip.{steps, leaveOff, around, pass, passes, finish, clipRing}
 use Rattle.sutherland_hodgman.specs.Origins.{positionsFrom, stepsOrigins, aroundOrigins, passOrigins, passesOrigins}
 use Rattle.sutherland_hodgman.specs.Origins.{closeOrigins, finishOrigins, clipOrigins}

@@ -16,7 +16,7 @@ use Rattle.tile.specs.declared.Edge.the-variants.{Top}
 use Rattle.tile.specs.Ring.{coords, closed, close}
 use Rattle.tile.specs.Contracts.{Stands}
 use Rattle.tile.proofs.Rings.{length-front}
-use Rattle.sutherland_hodgman.specs.CuttingLines.{fixed, bound}
+use Rattle.cutting_lines.specs.CuttingLines.{fixed, bound}
 use Rattle.sutherland_hodgman.specs.Clip.{leaveOff, around, pass, passes, finish, clipRing}
 use Rattle.sutherland_hodgman.specs.Growth.{halfGrowth, fourHalfGrowths, B, mostCoordinates}
 use Rattle.sutherland_hodgman.specs.Origins.{lineOrigin, IsPosition, closeOrigins, clipOrigins, Traced, Rises}

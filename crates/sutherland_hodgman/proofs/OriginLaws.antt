@@ -17,7 +17,7 @@ use Rattle.tile.specs.declared.TileBounds.{TileBounds}
 use Rattle.tile.specs.declared.Edge.{Edge}
 use Rattle.tile.specs.declared.Edge.the-variants.{Left, Right, Bottom, Top}
 use Rattle.tile.specs.Ring.{last, closed, close}
-use Rattle.sutherland_hodgman.specs.CuttingLines.{fixed, bound, inside, crossing}
+use Rattle.cutting_lines.specs.CuttingLines.{fixed, bound, inside, crossing}
 use Rattle.sutherland_hodgman.specs.Clip.{step, steps, leaveOff, around, pass, passes, finish, clipRing}
 use Rattle.sutherland_hodgman.specs.Origins.{
   lineOrigin,

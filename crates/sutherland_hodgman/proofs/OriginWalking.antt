@@ -16,7 +16,7 @@ use Rattle.tile.specs.declared.Edge.{Edge}
 use Rattle.tile.specs.Ring.{coords, last}
 use Rattle.tile.specs.Contracts.{coordAt}
 use Rattle.tile.proofs.Rings.{length-front, front-at, last-at}
-use Rattle.sutherland_hodgman.specs.CuttingLines.{inside, crossing}
+use Rattle.cutting_lines.specs.CuttingLines.{inside, crossing}
 use Rattle.sutherland_hodgman.specs.Clip.{step, steps, leaveOff, around, pass}
 use Rattle.sutherland_hodgman.specs.Contracts.{noVertex}
 use Rattle.sutherland_hodgman.specs.Origins.{lineOrigin, positionsFrom, stepOrigins, stepsOrigins, aroundOrigins, passOrigins}

@@ -25,7 +25,7 @@ use Rattle.tile.specs.declared.Edge.{Edge}
 use Rattle.tile.specs.declared.Edge.the-variants.{Left, Right, Bottom, Top}
 use Rattle.tile.specs.Ring.{coords, close}
 use Rattle.tile.proofs.Rings.{coords-take, length-close}
-use Rattle.sutherland_hodgman.specs.CuttingLines.{fixed, free, place, bound, isLow, inside, crossing}
+use Rattle.cutting_lines.specs.CuttingLines.{fixed, free, place, bound, isLow, inside, crossing}
 use Rattle.sutherland_hodgman.specs.Clip.{pass, passes, finish, clipRing}
 use Rattle.sutherland_hodgman.specs.Promise.{LatitudeInBounds, atMost256, CoordAtMost256, LongitudeNearBounds, Promise}
 use Rattle.sutherland_hodgman.proofs.GrowthLaws.{clipRing-grows}

@@ -16,7 +16,7 @@ use Rattle.tile.specs.declared.Edge.{Edge}
 use Rattle.tile.specs.Ring.{coords, flat, last}
 use Rattle.tile.specs.Contracts.{coordAt, Written}
 use Rattle.tile.proofs.Rings.{flat-append, length-flat, last-at, length-front, front-at}
-use Rattle.sutherland_hodgman.specs.CuttingLines.{inside, crossing}
+use Rattle.cutting_lines.specs.CuttingLines.{inside, crossing}
 use Rattle.sutherland_hodgman.specs.Clip.{step, steps, leaveOff, around, pass}
 use Rattle.sutherland_hodgman.specs.Contracts.{noVertex, vertexBefore, stepsLeft, SameRest}
 use Rattle.sutherland_hodgman.specs.Growth.{halfGrowth}

@@ -10,7 +10,7 @@ use Rattle.tile.specs.declared.TileBounds.{TileBounds}
 use Rattle.tile.specs.declared.Edge.{Edge}
 use Rattle.tile.specs.declared.Edge.the-variants.{Left, Right, Bottom, Top}
 use Rattle.tile.specs.Ring.{last, closed, close}
-use Rattle.sutherland_hodgman.specs.CuttingLines.{inside, crossing}
+use Rattle.cutting_lines.specs.CuttingLines.{inside, crossing}
 
 -- "In to in: the end. In to out: the crossing. Out to in: the crossing, then the end. Out to out: none."
 abbrev pub step : Bool → Bool → Coord → Coord → List Coord

@@ -1,4 +1,3 @@
-pub mod CuttingLines
 pub mod Clip
 pub mod Verdicts
 pub mod Growth

@@ -12,7 +12,7 @@ use Rattle.tile.specs.declared.TileBounds.{TileBounds}
 use Rattle.tile.specs.declared.Edge.{Edge}
 use Rattle.tile.specs.declared.Edge.the-variants.{Left, Right, Bottom, Top}
 use Rattle.tile.specs.Ring.{last, closed}
-use Rattle.sutherland_hodgman.specs.CuttingLines.{fixed, bound, inside}
+use Rattle.cutting_lines.specs.CuttingLines.{fixed, bound, inside}
 use Rattle.sutherland_hodgman.specs.Clip.{leaveOff, pass, passes}
 
 -- ---- the origins of a cut

@@ -7,14 +7,15 @@ ghost use Prim.Native.Nat.{_+_, _*_, _≤_, _<_};
 ghost use lib.ListN.{length, take, drop};
 ghost use Rattle.tile.specs.Ring.{coords};
 ghost use Rattle.tile.specs.Contracts.{coordAt, Stands, Written};
-ghost use Rattle.sutherland_hodgman.specs.CuttingLines as CuttingLines;
+ghost use Rattle.cutting_lines.specs.CuttingLines as CuttingLines;
 ghost use Rattle.sutherland_hodgman.specs.Clip as Clip;
 ghost use Rattle.sutherland_hodgman.specs.Contracts as Contracts;
 ghost use Rattle.sutherland_hodgman.specs.Growth.{halfGrowth};
 ghost use Rattle.sutherland_hodgman.specs.Verdicts.{verdicts};
 ghost use Rattle.sutherland_hodgman.specs.Origins as Origins;
 ghost use Rattle.sutherland_hodgman.specs.Contracts.{CutterRoom, OriginRoom, RingCut};
-use binary64::interpolate;
+use cutting_lines::intersect;
+use cutting_lines::verdict::judge;
 use origins::close_with_origins;
 use origins::copy_origins;
 use origins::line_origin;
@@ -26,48 +27,9 @@ use tile::TileBounds;
 use tile::ring::coord_at;
 use tile::ring::is_closed;
 use tile::ring::put;
-use verdict::judge;
 
 pub mod growth;
 pub mod origins;
-mod verdict;
-
-// Where the line of an edge crosses the segment from a to b, one end of which is in and the other out; between other ends a coordinate that
-// means nothing.
-fn intersect(a: Coord, b: Coord, edge: Edge, bounds: TileBounds) -> Coord
-    ensures { λ r. ⌜ r ≡ CuttingLines.crossing edge bounds a b ⌝ }
-{
-    match edge {
-        Edge::Left => {
-            let y = interpolate(bounds.lng_min, a.x, b.x, a.y, b.y);
-            Coord {
-                x: bounds.lng_min,
-                y,
-            }
-        }
-        Edge::Right => {
-            let y = interpolate(bounds.lng_max, a.x, b.x, a.y, b.y);
-            Coord {
-                x: bounds.lng_max,
-                y,
-            }
-        }
-        Edge::Bottom => {
-            let x = interpolate(bounds.lat_min, a.y, b.y, a.x, b.x);
-            Coord {
-                x,
-                y: bounds.lat_min,
-            }
-        }
-        Edge::Top => {
-            let x = interpolate(bounds.lat_max, a.y, b.y, a.x, b.x);
-            Coord {
-                x,
-                y: bounds.lat_max,
-            }
-        }
-    }
-}
 
 // What one pass answers: how many vertices it wrote, and how many verdicts it worked out.
 pub struct Pass {

@@ -1,8 +1,8 @@
 -- `intersect` meets its contract: each arm knows its edge. Assumes nothing.
 use borrow.Author.Needs.{needs}
-use Rattle.sutherland_hodgman.specs.CuttingLines.{crossing}
-use Rattle.sutherland_hodgman.proofs.intersect.Statement.{statement}
-use Rattle.sutherland_hodgman.proofs.intersect.Tie as tie
+use Rattle.cutting_lines.specs.CuttingLines.{crossing}
+use Rattle.cutting_lines.proofs.intersect.Statement.{statement}
+use Rattle.cutting_lines.proofs.intersect.Tie as tie
 
 enum-told : tie.Need-enum-told
 enum-told c = search needs

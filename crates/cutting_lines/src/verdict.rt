@@ -2,7 +2,7 @@
 // outside this module. Whoever judges hands on the count that comes with the verdict.
 ghost use mathlib.Core.Path.{_≡_};
 ghost use Prim.Native.Nat.{_+_, _^_, _<_};
-ghost use Rattle.sutherland_hodgman.specs.CuttingLines as CuttingLines;
+ghost use Rattle.cutting_lines.specs.CuttingLines as CuttingLines;
 use tile::Coord;
 use tile::Edge;
 use tile::TileBounds;

@@ -1,8 +1,8 @@
 -- `is_inside` meets its contract: each arm knows its edge. Assumes nothing.
 use borrow.Author.Needs.{needs}
-use Rattle.sutherland_hodgman.specs.CuttingLines.{inside}
-use Rattle.sutherland_hodgman.proofs.verdict.is_inside.Statement.{statement}
-use Rattle.sutherland_hodgman.proofs.verdict.is_inside.Tie as tie
+use Rattle.cutting_lines.specs.CuttingLines.{inside}
+use Rattle.cutting_lines.proofs.verdict.is_inside.Statement.{statement}
+use Rattle.cutting_lines.proofs.verdict.is_inside.Tie as tie
 
 enum-told : tie.Need-enum-told
 enum-told c = search needs
