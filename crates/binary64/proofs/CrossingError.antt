@@ -16,12 +16,18 @@ use lib.Ieee.{Float, Format, binary32, binary64, prec, low, add, sub, mul, div}
 use lib.Ieee.Scale.{overflow}
 use Rattle.binary64.specs.Interpolation.{interpolate}
 use Rattle.binary64.specs.Scaled.{mag, aboveZero, belowZero, unitsApart}
-use Rattle.binary64.specs.ExactCrossing.{exactCrossing, OffAtMost}
+use Rattle.binary64.specs.ExactCrossing.{Fraction, exactCrossing, OffAtMost}
 use Rattle.binary64.proofs.Value.{mag-parts}
 use Rattle.binary64.proofs.Rounding.{rnd, rnd-zero, rnd-mono, rnd-small, rnd-le, rnd-pos, in-format-power, Off, Room, rnd-off}
 use Rattle.binary64.proofs.Arithmetic.{rounded-mag, mul-shrinks}
 use Rattle.binary64.proofs.Cut.{Small, Between, apart-le, sub-small, part-of, ratio, mixed}
 use Rattle.binary64.proofs.Errors.{rnd-part, div-off, mul-off}
+
+-- what is off by at most d is off by at most e, if that is more
+pub off-wider : {f : Format} {x : Float} {q : Fraction} {d e : ℕ} → d ≤ e → OffAtMost f x q d → OffAtMost f x q e
+off-wider {q = q} h o =
+    let more = mul-le-mul-left (q .over) h in
+    record { is-finite = o .is-finite; is-fraction = o .is-fraction; above-by = omega arith; below-by = omega arith }
 
 -- ---- in whole numbers: n / m is the exact ratio, N / M that of the rounded differences, and t / L the computed one
 ratio-off : (n m N M q t L g : ℕ) → n ≤ m → N ≤ M → 0 < M → q * (g + g) ≡ L → Off (N * q) (n * q) n → Off (M * q) (m * q) m
@@ -155,4 +161,4 @@ module _ (f : Format) (k : ℕ) (room : Room f (suc k)) where
             (2 ^ k) (omega arith) (omega (arith, s .sum, shrinks .plus-le)) off in
             (o .1, o .0)
       ] in
-      (s .number .is-finite, between-le c va vb w .1, omega arith, omega arith)
+      record { is-finite = s .number .is-finite; is-fraction = between-le c va vb w .1; above-by = omega arith; below-by = omega arith }

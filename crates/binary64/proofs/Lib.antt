@@ -1,4 +1,5 @@
 mod Arithmetic
+pub mod AtMost256
 mod Errors
 pub mod Booleans
 pub mod Comparisons

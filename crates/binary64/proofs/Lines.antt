@@ -49,7 +49,7 @@ pub record Reach (g : ℕ) (r : Range) : Type 0 where
   pub low-end : r .ln ≤ g + r .lp
   pub high-end : r .hp ≤ g + r .hn
 
-pub mag-le-reach : {f : Format} {g : ℕ} {r : Range} {x : Float} → Reach g r → In f r x → mag f x ≤ g
+mag-le-reach : {f : Format} {g : ℕ} {r : Range} {x : Float} → Reach g r → In f r x → mag f x ≤ g
 mag-le-reach {f} {x = x} h i = let a = mag-parts f x in omega arith
 
 pub reach-cutAt : {g : ℕ} {r : Range} (f : Format) (low : Bool) (c : Float) → mag f c ≤ g → Reach g r → Reach g (cutAt f low c r)

@@ -1,7 +1,8 @@
 -- Comparisons of doubles as document 01 uses them: minimum and maximum (its head), nearness ("Unchanged", "Overlay wanted"), size ("Overlay
--- wanted"). That a number is neither NaN nor infinite is `finite` of `lib.Ieee.Scale`. Definitions only.
-use mathlib.Core.Bool.{Bool, false, _||_, cond}
+-- wanted", demand 3). That a number is neither NaN nor infinite is `finite` of `lib.Ieee.Scale`. Definitions only.
+use mathlib.Core.Bool.{Bool, true, false, _&&_, _||_, cond}
 use Prim.Native.Nat.{_^_}
+use lib.IntN.{pos}
 use lib.Ieee.{Float, nan, inf, fin, binary64, isNan, lt, le, sub, round}
 
 -- "the minimum and maximum that pass over NaN; of two equal numbers they keep the first" (document 01, the head)
@@ -34,3 +35,7 @@ overlayLimit = round binary64 false (10 ^ 150) 1
 -- "magnitude 1e150 or more" (document 01, "Overlay wanted")
 unfoldable pub huge : Float → Bool
 huge x = le overlayLimit (magnitude x)
+
+-- finite, and at most 256 in magnitude (demand 3; document 02, Point 8): 256 is 1 times 2^8
+abbrev pub atMost256 : Float → Bool
+atMost256 x = le (fin true 1 (pos 8)) x && le x (fin false 1 (pos 8))

@@ -25,9 +25,9 @@ exactCrossing f bound startFixed endFixed startFree endFree =
       over = m;
     }
 
--- x is finite, and off q by at most e: over times x and above − below are at most over times e apart
-abbrev pub OffAtMost : Format → Float → Fraction → ℕ → Type 0
-OffAtMost f x q e =
-    T (finite x) × (0 < q .over)
-    × (q .over * aboveZero f x + q .below ≤ q .over * belowZero f x + q .above + q .over * e)
-    × (q .over * belowZero f x + q .above ≤ q .over * aboveZero f x + q .below + q .over * e)
+-- x is finite, and off q by at most e: over times x, and above − below, are at most over times e apart
+pub record OffAtMost (f : Format) (x : Float) (q : Fraction) (e : ℕ) : Type 0 where
+  pub is-finite : T (finite x)
+  pub is-fraction : 0 < q .over
+  pub above-by : q .over * aboveZero f x + q .below ≤ q .over * belowZero f x + q .above + q .over * e
+  pub below-by : q .over * belowZero f x + q .above ≤ q .over * aboveZero f x + q .below + q .over * e

@@ -1,1 +1,2 @@
 pub mod CuttingLines
+pub mod CrossingError

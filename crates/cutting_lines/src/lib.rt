@@ -2,6 +2,7 @@
 // is in.
 ghost use mathlib.Core.Path.{_≡_};
 ghost use Rattle.cutting_lines.specs.CuttingLines as CuttingLines;
+ghost use Rattle.cutting_lines.specs.CrossingError.{NearExact};
 use binary64::interpolate;
 use tile::Coord;
 use tile::Edge;
@@ -12,7 +13,8 @@ pub mod verdict;
 // Where the line of an edge crosses the segment from a to b, one end of which is in and the other out; between other ends a coordinate that
 // means nothing.
 pub fn intersect(a: Coord, b: Coord, edge: Edge, bounds: TileBounds) -> Coord
-    ensures { λ r. ⌜ r ≡ CuttingLines.crossing edge bounds a b ⌝ }
+    ensures crossing { λ r. ⌜ r ≡ CuttingLines.crossing edge bounds a b ⌝ }
+    ensures near { λ r. ⌜ NearExact edge bounds a b r ⌝ }
 {
     match edge {
         Edge::Left => {

@@ -16,7 +16,8 @@ use Rattle.sutherland_hodgman.specs.Clip.{pass, passes, finish, clipRing
 use Rattle.sutherland_hodgman.specs.Contracts.{threePasses, RingCut}
 use Rattle.sutherland_hodgman.specs.Growth.{halfGrowth}
 use Rattle.sutherland_hodgman.proofs.GrowthLaws.{pass-grows}
-use Rattle.sutherland_hodgman.proofs.Promises.{FittingBounds, FittingCoord, promise}
+use Rattle.cutting_lines.proofs.CrossingLaws.{FittingBounds, FittingCoord}
+use Rattle.sutherland_hodgman.proofs.Promises.{promise}
 
 some-grown : (n k : ℕ) → k ≤ halfGrowth n → 3 ≤ k → 0 < n
 unfolding halfGrowth

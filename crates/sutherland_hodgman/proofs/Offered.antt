@@ -26,7 +26,8 @@ use Rattle.sutherland_hodgman.proofs.LeavingOff.{leaveOff-close}
 use Rattle.sutherland_hodgman.proofs.LastPass.{last-pass-cut}
 use Rattle.sutherland_hodgman.proofs.OriginLaws as laws
 use Rattle.sutherland_hodgman.proofs.OriginStages.{origins-last, origins-cut}
-use Rattle.sutherland_hodgman.proofs.Promises.{FittingBounds, fitting-front}
+use Rattle.cutting_lines.proofs.CrossingLaws.{FittingBounds}
+use Rattle.sutherland_hodgman.proofs.Promises.{fitting-front}
 use Rattle.sutherland_hodgman.proofs.Stages.{stage-three, stage-last}
 
 -- ---- the room of a ring

@@ -7,27 +7,28 @@ use mathlib.Core.List.{List, [], _∷_}
 use Prim.Native.Nat.{ℕ, suc, _+_, _*_, _^_, _≤_}
 use native.Mathlib.Nat.{le-trans}
 use native.Mathlib.Omega.{arith}
-use lib.IntN.{pos}
 use lib.Dec.{T, leb, leb→le, lit≤, lit<}
 use lib.ListN.{length, getD, take}
-use lib.Ieee.{Float, nan, fin, binary64, fits, le}
-use lib.Ieee.Fits.{and-l, and-r}
+use lib.Ieee.{Float, nan, binary64, fits, le}
 use Rattle.binary64.specs.Interpolation.{interpolate}
 use Rattle.binary64.specs.Scaled.{mag, aboveZero, belowZero}
 use Rattle.binary64.specs.Lists.{Every}
-use Rattle.binary64.proofs.Order.{le-self-of-le, finite-between}
-use Rattle.binary64.proofs.Value.{Number, Le-of-le}
+use Rattle.binary64.proofs.Order.{le-self-of-le}
+use Rattle.binary64.proofs.Value.{mag-parts}
+use Rattle.binary64.proofs.AtMost256.{AtMost256, at-most-small}
 use Rattle.binary64.proofs.Cut.{Range, In, widen}
-use Rattle.binary64.proofs.Lines.{cutAt, Reach, mag-le-reach, reach-cutAt, reach-widen, reach-mono, Cuttable, kept, crossed}
+use Rattle.binary64.proofs.Lines.{cutAt, Reach, reach-cutAt, reach-widen, reach-mono, Cuttable, kept, crossed}
 use Rattle.tile.specs.declared.Coord.{Coord}
 use Rattle.tile.specs.declared.TileBounds.{TileBounds}
 use Rattle.tile.specs.declared.Edge.{Edge}
 use Rattle.tile.specs.declared.Edge.the-variants.{Left, Right, Bottom, Top}
 use Rattle.tile.specs.Ring.{coords, close}
 use Rattle.tile.proofs.Rings.{coords-take, length-close}
+use Rattle.cutting_lines.specs.CrossingError.{CoordAtMost256}
+use Rattle.cutting_lines.proofs.CrossingLaws.{FittingBounds, FittingCoord}
 use Rattle.cutting_lines.specs.CuttingLines.{fixed, free, place, bound, isLow, inside, crossing}
 use Rattle.sutherland_hodgman.specs.Clip.{pass, passes, finish, clipRing}
-use Rattle.sutherland_hodgman.specs.Promise.{LatitudeInBounds, atMost256, CoordAtMost256, LongitudeNearBounds, Promise}
+use Rattle.sutherland_hodgman.specs.Promise.{LatitudeInBounds, LongitudeNearBounds, Promise}
 use Rattle.sutherland_hodgman.proofs.GrowthLaws.{clipRing-grows}
 use Rattle.sutherland_hodgman.proofs.Turns.{Turns, every-take, every-finish, every-map, every-both, every-of-all, passed}
 
@@ -55,16 +56,7 @@ module _ (b : TileBounds) (h : T (le (b .«lat_min») (b .«lat_max»))) where
       every-finish (LatitudeInBounds b) (pass Top b r3)
       (passed Above (LatitudeInBounds b) Top b top r3 (passed Any Above Bottom b bottom r2 (every-of-all Any r2 (λ p. tt))))
 
--- ---- atMost256 numbers, from -256 to 256
-abbrev AtMost256 : Float → Type 0
-AtMost256 x = T (fits binary64 x) × T (atMost256 x)
-
-abbrev least : Float
-least = fin true 1 (pos 8)
-
-abbrev greatest : Float
-greatest = fin false 1 (pos 8)
-
+-- ---- numbers from -256 to 256
 -- 256, in units
 abbrev most : ℕ
 most = 2 ^ 1082
@@ -73,17 +65,13 @@ abbrev whole : Range
 whole = record { lp = 0; ln = most; hp = most; hn = 0 }
 
 at-most-in : (x : Float) → AtMost256 x → In binary64 whole x
-unfolding fits aboveZero belowZero
 at-most-in x h =
-    let l = and-l (le least x) (le x greatest) (h .1) in
-    let g = and-r (le least x) (le x greatest) (h .1) in
-    let n : Number binary64 x = record { is-finite = finite-between least x greatest tt tt l g; in-format = h .0 } in
-    record {
-      number = n;
-      not-below = Le-of-le (record { is-finite = tt; in-format = tt }) n l;
-      not-above =
-          Le-of-le n (record { is-finite = tt; in-format = tt }) g;
-    }
+    let s = at-most-small h in
+    let r = go (aboveZero binary64 x) (belowZero binary64 x) (mag binary64 x) most (mag-parts binary64 x .0) (s .size) in
+    record { number = s .number; not-below = r .0; not-above = r .1 }
+  where
+    go : (p n m w : ℕ) → p + n ≡ m → m ≤ w → (0 + n ≤ p + w) × (p + 0 ≤ w + n)
+    go p n m w e l = omega arith
 
 -- ---- one pass over a ring whose vertices lie in v in the coordinate that the line fixes, and in u in the other
 abbrev Lies : Edge → Range → Range → Coord → Type 0
@@ -121,7 +109,7 @@ whole-reach : Reach most whole
 whole-reach = record { low-end = lit≤ tt; high-end = lit≤ tt }
 
 at-most-reach : (x : Float) → AtMost256 x → mag binary64 x ≤ most
-at-most-reach x h = mag-le-reach whole-reach (at-most-in x h)
+at-most-reach x h = at-most-small h .size
 
 cut : (l : Edge) (b : TileBounds) {v u : Range} → AtMost256 (bound l b) → Reach far v → Reach far u → Cut l b v u
 cut l b m v u =
@@ -200,15 +188,7 @@ vertices r = go (leb 3 (length r)) (leb→le 3 (length r))
     go true h = inr (le-trans (h tt) (length-close r))
     go false h = inl refl
 
--- ---- the demand, whole: what it asks of is fitting by doubles
-abbrev pub FittingBounds : TileBounds → Type 0
-FittingBounds b =
-    T (fits binary64 (b .«lng_min»)) × T (fits binary64 (b .«lat_min»)) × T (fits binary64 (b .«lng_max»))
-    × T (fits binary64 (b .«lat_max»))
-
-abbrev pub FittingCoord : Coord → Type 0
-FittingCoord p = T (fits binary64 (p .x)) × T (fits binary64 (p .y))
-
+-- ---- the demand, whole: its numbers are doubles
 -- the numbers of a slice are doubles, and so are those of the ring at its front
 pub fitting-front : (s : List Float) (n : ℕ) → ((i : ℕ) → T (fits binary64 (getD s i nan))) → Every FittingCoord (coords (take (2 * n) s))
 unfolding coords

@@ -1,34 +1,28 @@
 -- What the ring cutter promises of every ring that it answers: demand 3 (document 01, "Cut rings"). Definitions only.
 use mathlib.Core.Logic.{_⊎_}
 use mathlib.Core.Path.{_≡_}
-use mathlib.Core.Bool.{Bool, true, false, _&&_}
 use mathlib.Core.List.{List}
 use Prim.Native.Nat.{ℕ, suc, _^_, _≤_}
 use lib.Dec.{T}
-use lib.IntN.{pos}
-use lib.Ieee.{Float, fin, binary64, le}
+use lib.Ieee.{binary64, le}
 use lib.Ieee.Scale.{finite}
 use lib.ListN.{length}
+use Rattle.binary64.specs.Compare.{atMost256}
 use Rattle.binary64.specs.Scaled.{LessAtMost}
 use Rattle.binary64.specs.Lists.{Every}
 use Rattle.tile.specs.declared.Coord.{Coord}
 use Rattle.tile.specs.declared.TileBounds.{TileBounds}
+use Rattle.cutting_lines.specs.CrossingError.{CoordAtMost256}
 use Rattle.sutherland_hodgman.specs.Growth.{fourHalfGrowths}
 
 -- the latitude lies from south to north
 abbrev pub LatitudeInBounds : TileBounds → Coord → Type 0
 LatitudeInBounds b p = T (le (b .«lat_min») (p .y)) × T (le (p .y) (b .«lat_max»))
 
--- finite, and at most 256 in magnitude: 256 is 1 times 2^8
-abbrev pub atMost256 : Float → Bool
-atMost256 x = le (fin true 1 (pos 8)) x && le x (fin false 1 (pos 8))
-
+-- finite, and at most 256 in magnitude; so is a coordinate that is `CoordAtMost256`
 abbrev pub BoundsAtMost256 : TileBounds → Type 0
 BoundsAtMost256 b =
     T (atMost256 (b .«lng_min»)) × T (atMost256 (b .«lat_min»)) × T (atMost256 (b .«lng_max»)) × T (atMost256 (b .«lat_max»))
-
-abbrev pub CoordAtMost256 : Coord → Type 0
-CoordAtMost256 p = T (atMost256 (p .x)) × T (atMost256 (p .y))
 
 -- 1/2^42, times 2^1074
 abbrev pub overrun : ℕ

@@ -147,7 +147,7 @@ returns-2 c =
             (c .before .before .before .before .before .before .before .before .before .before .before .before .before .before .before
             .before .before .before .before .before .coord-at .ensures)
             (c .before .before .before .before .before .before .before .before .before .before .before .before .before .before .before
-            .before .before .intersect .ensures) (e .0 .2 h) (next .len) (now (a .args .out)) _ _ (p .0) (q .0)),
+            .before .before .intersect .ensures .0) (e .0 .2 h) (next .len) (now (a .args .out)) _ _ (p .0) (q .0)),
       ),
       (
         omega (arith, e .1 .0 .at-vertex h),

@@ -155,7 +155,7 @@ returns-2 c =
             (in-out (a .args .edge) (a .args .bounds) s m (a .pre .0 .0) (to .i) h _ _ _
             (c .before .before .before .before .before .before .before .before .before .before .before .before .previous .ensures)
             (c .before .before .before .before .before .before .before .before .before .before .before .coord-at .ensures)
-            (c .before .before .before .before .before .before .before .before .intersect .ensures) (e .0 .2 h) (to .len) _ _ (p .0)),
+            (c .before .before .before .before .before .before .before .before .intersect .ensures .0) (e .0 .2 h) (to .len) _ _ (p .0)),
       ),
       (
         omega (arith, e .1 .0 .at-vertex h),

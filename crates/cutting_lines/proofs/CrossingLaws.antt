@@ -1,0 +1,72 @@
+-- The crossing is near the exact one (specs/CrossingError.antt), the line as a parameter: within 1 / 2 ^ 42, and so within the 1 / 2 ^ 40 that
+-- is asked for. Assumes nothing.
+use mathlib.Core.Path.{_≡_, refl}
+use mathlib.Core.Bool.{not}
+use Prim.Native.Nat.{_^_}
+use lib.Dec.{T, lit≤, lit<}
+use lib.Ieee.{Float, binary64, fits}
+use Rattle.binary64.specs.Compare.{atMost256}
+use Rattle.binary64.specs.Interpolation.{interpolate}
+use Rattle.binary64.specs.ExactCrossing.{OffAtMost}
+use Rattle.binary64.proofs.AtMost256.{AtMost256, at-most-small}
+use Rattle.binary64.proofs.Lines.{between}
+use Rattle.binary64.proofs.CrossingError.{off-wider, interpolate-off}
+use Rattle.tile.specs.declared.Coord.{Coord}
+use Rattle.tile.specs.declared.TileBounds.{TileBounds}
+use Rattle.tile.specs.declared.Edge.{Edge}
+use Rattle.tile.specs.declared.Edge.the-variants.{Left, Right, Bottom, Top}
+use Rattle.cutting_lines.specs.CuttingLines.{fixed, free, place, bound, isLow, inside, crossing}
+use Rattle.cutting_lines.specs.CrossingError.{CoordAtMost256, exactFree, NearExact}
+
+-- bounds and a coordinate whose numbers are doubles
+abbrev pub FittingBounds : TileBounds → Type 0
+FittingBounds b =
+    T (fits binary64 (b .«lng_min»)) × T (fits binary64 (b .«lat_min»)) × T (fits binary64 (b .«lng_max»))
+    × T (fits binary64 (b .«lat_max»))
+
+abbrev pub FittingCoord : Coord → Type 0
+FittingCoord p = T (fits binary64 (p .x)) × T (fits binary64 (p .y))
+
+-- ---- what holds of all bounds and of both coordinates holds of the line's
+bound-fits : (l : Edge) (b : TileBounds) → FittingBounds b → T (fits binary64 (bound l b))
+bound-fits Left b h = h .0
+bound-fits Right b h = h .2
+bound-fits Bottom b h = h .1
+bound-fits Top b h = h .3
+
+fixed-at-most : (l : Edge) (p : Coord) → FittingCoord p → CoordAtMost256 p → AtMost256 (fixed l p)
+fixed-at-most Left p f h = (f .0, h .0)
+fixed-at-most Right p f h = (f .0, h .0)
+fixed-at-most Bottom p f h = (f .1, h .1)
+fixed-at-most Top p f h = (f .1, h .1)
+
+free-at-most : (l : Edge) (p : Coord) → FittingCoord p → CoordAtMost256 p → AtMost256 (free l p)
+free-at-most Left p f h = (f .1, h .1)
+free-at-most Right p f h = (f .1, h .1)
+free-at-most Bottom p f h = (f .0, h .0)
+free-at-most Top p f h = (f .0, h .0)
+
+free-place : (l : Edge) (v u : Float) → free l (place l v u) ≡ u
+free-place Left v u = refl
+free-place Right v u = refl
+free-place Bottom v u = refl
+free-place Top v u = refl
+
+-- ---- one cut
+-- within 1 / 2 ^ 42, as near as demand 3 has the overrun
+pub crossing-off : (l : Edge) (b : TileBounds) (s e : Coord) → FittingBounds b → FittingCoord s → FittingCoord e
+    → inside l b e ≡ not (inside l b s) → T (atMost256 (bound l b)) → CoordAtMost256 s → CoordAtMost256 e
+    → OffAtMost binary64 (free l (crossing l b s e)) (exactFree l b s e) (2 ^ 1032)
+unfolding inside crossing
+crossing-off l b s e fb fs fe ends hb hs he =
+    let c = at-most-small (bound-fits l b fb, hb) in
+    let vs = at-most-small (fixed-at-most l s fs hs) in
+    let ve = at-most-small (fixed-at-most l e fe he) in
+    rw (free-place l (bound l b) (interpolate binary64 (bound l b) (fixed l s) (fixed l e) (free l s) (free l e)))
+    (interpolate-off binary64 1029 (lit< tt) c vs ve (at-most-small (free-at-most l s fs hs)) (at-most-small (free-at-most l e fe he))
+    (between (isLow l) (inside l b s) (c .number) (vs .number) (ve .number) refl ends))
+
+-- Point 8
+pub crossing-near : (l : Edge) (b : TileBounds) (s e : Coord) → FittingBounds b → FittingCoord s → FittingCoord e
+    → NearExact l b s e (crossing l b s e)
+crossing-near l b s e fb fs fe ends hb hs he = off-wider (lit≤ tt) (crossing-off l b s e fb fs fe ends hb hs he)

@@ -1,0 +1,2 @@
+pub mod CrossingLaws
+mod Cases
