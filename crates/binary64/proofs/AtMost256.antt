@@ -32,7 +32,8 @@ at-most-small {x} h =
     let n : Number binary64 x = record { is-finite = finite-between least x greatest tt tt l g; in-format = h .0 } in
     let low = Le-of-le (record { is-finite = tt; in-format = tt }) n l in
     let high = Le-of-le n (record { is-finite = tt; in-format = tt }) g in
-    record { number = n; size = go (aboveZero binary64 x) (belowZero binary64 x) (mag binary64 x) (2 ^ 1082) (mag-parts binary64 x) low high }
+    let size-le = go (aboveZero binary64 x) (belowZero binary64 x) (mag binary64 x) (2 ^ 1082) (mag-parts binary64 x) low high in
+    record { number = n; size = size-le }
   where
     go : (p n m w : ℕ) → (p + n ≡ m) × (distance p n ≡ m) → 0 + n ≤ p + w → p + 0 ≤ w + n → m ≤ w
     go p n m w a b c = omega arith

@@ -1,7 +1,7 @@
--- Cuts and their exact crossings, computed from the definitions: one that is exact, one at a third, and one that is further off than half of
--- what `crossing-off` allows, which so is the least power of two that can be promised. Assumes nothing.
+-- Cuts and their exact crossings, computed from the definitions: one that is exact, one at a third, and one that is off by more than half
+-- of what `crossing-off` allows. So no smaller power of two could be promised. Assumes nothing.
 use mathlib.Core.Path.{_≡_, refl}
-use mathlib.Core.Bool.{Bool, true, false, not}
+use mathlib.Core.Bool.{true, false, not}
 use Prim.Native.Nat.{ℕ, _+_, _-_, _^_}
 use native.Mathlib.Nat.{not-le-of-lt}
 use lib.Dec.{T, lit≤, lit<}

@@ -1,4 +1,4 @@
--- The crossing is near the exact one (specs/CrossingError.antt), the line as a parameter: within 1 / 2 ^ 42, and so within the 1 / 2 ^ 40 that
+-- The crossing is near the exact one (specs/CrossingError.antt), the line as a parameter: within 1 / 2 ^ 42, and so within 1 / 2 ^ 40, as
 -- is asked for. Assumes nothing.
 use mathlib.Core.Path.{_≡_, refl}
 use mathlib.Core.Bool.{not}
@@ -8,7 +8,8 @@ use lib.Ieee.{Float, binary64, fits}
 use Rattle.binary64.specs.Compare.{atMost256}
 use Rattle.binary64.specs.Interpolation.{interpolate}
 use Rattle.binary64.specs.ExactCrossing.{OffAtMost}
-use Rattle.binary64.proofs.AtMost256.{AtMost256, at-most-small}
+use Rattle.binary64.proofs.AtMost256.{at-most-small}
+use Rattle.binary64.proofs.Cut.{Small}
 use Rattle.binary64.proofs.Lines.{between}
 use Rattle.binary64.proofs.CrossingError.{off-wider, interpolate-off}
 use Rattle.tile.specs.declared.Coord.{Coord}
@@ -34,17 +35,15 @@ bound-fits Right b h = h .2
 bound-fits Bottom b h = h .1
 bound-fits Top b h = h .3
 
-fixed-at-most : (l : Edge) (p : Coord) → FittingCoord p → CoordAtMost256 p → AtMost256 (fixed l p)
-fixed-at-most Left p f h = (f .0, h .0)
-fixed-at-most Right p f h = (f .0, h .0)
-fixed-at-most Bottom p f h = (f .1, h .1)
-fixed-at-most Top p f h = (f .1, h .1)
-
-free-at-most : (l : Edge) (p : Coord) → FittingCoord p → CoordAtMost256 p → AtMost256 (free l p)
-free-at-most Left p f h = (f .1, h .1)
-free-at-most Right p f h = (f .1, h .1)
-free-at-most Bottom p f h = (f .0, h .0)
-free-at-most Top p f h = (f .0, h .0)
+small : (l : Edge) (p : Coord) → FittingCoord p → CoordAtMost256 p → Small binary64 1029 (fixed l p) × Small binary64 1029 (free l p)
+small l p f h = place-at l (at-most-small (f .0, h .0)) (at-most-small (f .1, h .1))
+  where
+    place-at : (l : Edge) → Small binary64 1029 (p .x) → Small binary64 1029 (p .y)
+        → Small binary64 1029 (fixed l p) × Small binary64 1029 (free l p)
+    place-at Left x y = (x, y)
+    place-at Right x y = (x, y)
+    place-at Bottom x y = (y, x)
+    place-at Top x y = (y, x)
 
 free-place : (l : Edge) (v u : Float) → free l (place l v u) ≡ u
 free-place Left v u = refl
@@ -60,11 +59,11 @@ pub crossing-off : (l : Edge) (b : TileBounds) (s e : Coord) → FittingBounds b
 unfolding inside crossing
 crossing-off l b s e fb fs fe ends hb hs he =
     let c = at-most-small (bound-fits l b fb, hb) in
-    let vs = at-most-small (fixed-at-most l s fs hs) in
-    let ve = at-most-small (fixed-at-most l e fe he) in
+    let vs = small l s fs hs in
+    let ve = small l e fe he in
     rw (free-place l (bound l b) (interpolate binary64 (bound l b) (fixed l s) (fixed l e) (free l s) (free l e)))
-    (interpolate-off binary64 1029 (lit< tt) c vs ve (at-most-small (free-at-most l s fs hs)) (at-most-small (free-at-most l e fe he))
-    (between (isLow l) (inside l b s) (c .number) (vs .number) (ve .number) refl ends))
+    (interpolate-off binary64 1029 (lit< tt) c (vs .0) (ve .0) (vs .1) (ve .1)
+    (between (isLow l) (inside l b s) (c .number) (vs .0 .number) (ve .0 .number) refl ends))
 
 -- Point 8
 pub crossing-near : (l : Edge) (b : TileBounds) (s e : Coord) → FittingBounds b → FittingCoord s → FittingCoord e
