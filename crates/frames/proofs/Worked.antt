@@ -23,9 +23,10 @@ use Rattle.box_pairs.specs.Cross.{cross}
 use Rattle.box_pairs.specs.Pairs.{firstInRow, firstFrom, edgesCross, firstPair}
 use Rattle.box_pairs.specs.Issue.{repeatedFrom, issueOf, hasIssue}
 use Rattle.cutting_lines.specs.CuttingLines.{inside, crossing}
-use Rattle.sutherland_hodgman.specs.Clip.{steps, leaveOff, around, pass, passes, finish, clipRing}
-use Rattle.sutherland_hodgman.specs.Origins.{positionsFrom, stepsOrigins, aroundOrigins, passOrigins, passesOrigins, closeOrigins}
-use Rattle.sutherland_hodgman.specs.Origins.{finishOrigins, clipOrigins}
+use Rattle.edge_pass.specs.Pass.{steps, leaveOff, around, pass}
+use Rattle.edge_pass.specs.Origins.{stepsOrigins, aroundOrigins, passOrigins}
+use Rattle.sutherland_hodgman.specs.Clip.{passes, finish, clipRing}
+use Rattle.sutherland_hodgman.specs.Origins.{positionsFrom, passesOrigins, closeOrigins, finishOrigins, clipOrigins}
 use Rattle.rings.specs.Bridge.{runsAlong, bridgeOf, firstBridge}
 use Rattle.rings.specs.Rectangle.{withCoord, withRing, withRings, reaches, intersectsBounds, liesBetween, isFullyInside, withParts}
 use Rattle.rings.specs.Representable.{hugeCoord, anyHuge, anyHugeRing}

@@ -19,8 +19,9 @@ use Rattle.box_pairs.specs.Contracts.{front, IssueRoom, PairBelow, IssueBelow}
 use Rattle.box_pairs.specs.Pairs.{firstPair}
 use Rattle.box_pairs.specs.Issue.{issueOf}
 use Rattle.box_pairs.proofs.Offered.{issue-below, pair-below}
-use Rattle.sutherland_hodgman.specs.Growth.{halfGrowth, mostCoordinates}
-use Rattle.sutherland_hodgman.specs.Contracts.{PassOriginRoom}
+use Rattle.edge_pass.specs.Growth.{halfGrowth}
+use Rattle.edge_pass.specs.Contracts.{PassOriginRoom}
+use Rattle.sutherland_hodgman.specs.Growth.{mostCoordinates}
 use Rattle.probe.specs.Edges.{most, hasRoom, pairCode}
 use Rattle.probe.specs.Passes.{hasPassRoom}
 

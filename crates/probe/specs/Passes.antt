@@ -1,4 +1,4 @@
--- What the call of one pass answers and leaves in the lent slices: the definitions of `sutherland_hodgman`, where there is room.
+-- What the call of one pass answers and leaves in the lent slices: the definitions of `edge_pass`, where there is room.
 -- Definitions only.
 use mathlib.Core.Bool.{Bool, _&&_, cond}
 use mathlib.Core.List.{List, _++_}
@@ -12,10 +12,11 @@ use Rattle.tile.specs.declared.TileBounds.{TileBounds}
 use Rattle.tile.specs.declared.Edge.{Edge}
 use Rattle.tile.specs.declared.Edge.the-variants.{Left, Right, Bottom, Top}
 use Rattle.tile.specs.Ring.{coords, flat}
-use Rattle.sutherland_hodgman.specs.Clip.{pass}
-use Rattle.sutherland_hodgman.specs.Growth.{halfGrowth, mostCoordinates}
-use Rattle.sutherland_hodgman.specs.Origins.{passOrigins}
-use Rattle.sutherland_hodgman.specs.Verdicts.{verdicts}
+use Rattle.edge_pass.specs.Pass.{pass}
+use Rattle.edge_pass.specs.Growth.{halfGrowth}
+use Rattle.edge_pass.specs.Origins.{passOrigins}
+use Rattle.edge_pass.specs.Verdicts.{verdicts}
+use Rattle.sutherland_hodgman.specs.Growth.{mostCoordinates}
 
 -- the edges by number
 abbrev pub edgeAt : ℕ → Edge

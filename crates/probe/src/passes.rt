@@ -4,7 +4,7 @@ ghost use lib.ListN.{set};
 ghost use Rattle.probe.specs.Numbers.{boundsAt};
 ghost use Rattle.probe.specs.Passes as Passes;
 use super::bounds_at;
-use sutherland_hodgman::clip_ring_against_edge;
+use edge_pass::clip_ring_against_edge;
 use sutherland_hodgman::growth::MOST_COORDINATES;
 use sutherland_hodgman::growth::half_growth;
 use tile::Edge;

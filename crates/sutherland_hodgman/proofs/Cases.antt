@@ -10,10 +10,12 @@ use Rattle.tile.specs.declared.TileBounds.{TileBounds}
 use Rattle.tile.specs.Ring.{same, last, closed, close}
 use Rattle.tile.proofs.WholeNumbers.{num, at}
 use Rattle.cutting_lines.specs.CuttingLines.{inside, crossing}
-use Rattle.sutherland_hodgman.specs.Clip.{steps, leaveOff, around, pass, passes, finish, clipRing}
-use Rattle.sutherland_hodgman.specs.Origins.{positionsFrom, stepsOrigins, aroundOrigins, passOrigins, passesOrigins}
-use Rattle.sutherland_hodgman.specs.Origins.{closeOrigins, finishOrigins, clipOrigins}
-use Rattle.sutherland_hodgman.specs.Growth.{halfGrowth, fourHalfGrowths, B}
+use Rattle.edge_pass.specs.Pass.{steps, leaveOff, around, pass}
+use Rattle.edge_pass.specs.Origins.{stepsOrigins, aroundOrigins, passOrigins}
+use Rattle.edge_pass.specs.Growth.{halfGrowth}
+use Rattle.sutherland_hodgman.specs.Clip.{passes, finish, clipRing}
+use Rattle.sutherland_hodgman.specs.Origins.{positionsFrom, passesOrigins, closeOrigins, finishOrigins, clipOrigins}
+use Rattle.sutherland_hodgman.specs.Growth.{fourHalfGrowths, B}
 
 ten : TileBounds
 unfolding num

@@ -12,10 +12,11 @@ use Rattle.tile.specs.declared.Edge.the-variants.{Top}
 use Rattle.tile.specs.Ring.{coords}
 use Rattle.tile.specs.Contracts.{Stands}
 use Rattle.tile.proofs.Rings.{stands-front}
-use Rattle.sutherland_hodgman.specs.Clip.{pass, passes, finish, clipRing}
+use Rattle.edge_pass.specs.Pass.{pass}
+use Rattle.edge_pass.specs.Growth.{halfGrowth}
+use Rattle.edge_pass.proofs.PassGrowth.{pass-grows}
+use Rattle.sutherland_hodgman.specs.Clip.{passes, finish, clipRing}
 use Rattle.sutherland_hodgman.specs.Contracts.{threePasses, RingCut}
-use Rattle.sutherland_hodgman.specs.Growth.{halfGrowth}
-use Rattle.sutherland_hodgman.proofs.GrowthLaws.{pass-grows}
 use Rattle.cutting_lines.proofs.CrossingLaws.{FittingBounds, FittingCoord}
 use Rattle.sutherland_hodgman.proofs.Promises.{promise}
 

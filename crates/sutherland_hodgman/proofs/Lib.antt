@@ -1,13 +1,11 @@
 mod Cases
+mod Finishing
 mod GrowthLaws
 mod LastPass
-mod LeavingOff
 pub mod Offered
 mod OriginLaws
 mod OriginStages
-mod OriginWalking
+mod Positions
 mod Promises
 mod Stages
 mod Turns
-mod Verdicts
-mod Walking

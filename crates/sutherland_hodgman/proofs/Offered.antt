@@ -17,12 +17,16 @@ use Rattle.tile.specs.Ring.{coords, closed, close}
 use Rattle.tile.specs.Contracts.{Stands}
 use Rattle.tile.proofs.Rings.{length-front}
 use Rattle.cutting_lines.specs.CuttingLines.{fixed, bound}
-use Rattle.sutherland_hodgman.specs.Clip.{leaveOff, around, pass, passes, finish, clipRing}
-use Rattle.sutherland_hodgman.specs.Growth.{halfGrowth, fourHalfGrowths, B, mostCoordinates}
-use Rattle.sutherland_hodgman.specs.Origins.{lineOrigin, IsPosition, closeOrigins, clipOrigins, Traced, Rises}
+use Rattle.edge_pass.specs.Pass.{leaveOff, around, pass}
+use Rattle.edge_pass.specs.Growth.{halfGrowth}
+use Rattle.edge_pass.specs.Origins.{lineOrigin}
+use Rattle.edge_pass.proofs.LeavingOff.{leaveOff-close}
+use Rattle.edge_pass.proofs.PassGrowth as pass-growth
+use Rattle.sutherland_hodgman.specs.Clip.{passes, finish, clipRing}
+use Rattle.sutherland_hodgman.specs.Growth.{fourHalfGrowths, B, mostCoordinates}
+use Rattle.sutherland_hodgman.specs.Origins.{IsPosition, closeOrigins, clipOrigins, Traced, Rises}
 use Rattle.sutherland_hodgman.specs.Contracts.{Fits16, CutterRoom, OriginRoom, threePasses, threePassesOrigins, topOrigins, RingCut}
 use Rattle.sutherland_hodgman.proofs.GrowthLaws as growth
-use Rattle.sutherland_hodgman.proofs.LeavingOff.{leaveOff-close}
 use Rattle.sutherland_hodgman.proofs.LastPass.{last-pass-cut}
 use Rattle.sutherland_hodgman.proofs.OriginLaws as laws
 use Rattle.sutherland_hodgman.proofs.OriginStages.{origins-last, origins-cut}
@@ -44,8 +48,8 @@ unfolding B fourHalfGrowths
 B-mono zero n h = omega arith
 B-mono (suc m) zero h = absurd (omega arith)
 B-mono (suc m) (suc n) h =
-    let two = growth.halfGrowth-mono (growth.halfGrowth-mono h) in
-    omega (arith, growth.halfGrowth-mono (growth.halfGrowth-mono two))
+    let two = pass-growth.halfGrowth-mono (pass-growth.halfGrowth-mono h) in
+    omega (arith, pass-growth.halfGrowth-mono (pass-growth.halfGrowth-mono two))
 
 -- the room of n coordinates is at most 81/16 n, which is (3/2)^4 n, and 2
 pub B-at-most : (n : ℕ) → 16 * B n ≤ 81 * n + 32
@@ -55,11 +59,11 @@ B-at-most (suc n) =
     let a = halfGrowth (suc n) in
     let b = halfGrowth a in
     let c = halfGrowth b in
-    omega (arith, growth.halfGrowth-le (suc n), growth.halfGrowth-le a, growth.halfGrowth-le b, growth.halfGrowth-le c)
+    omega (arith, pass-growth.halfGrowth-le (suc n), pass-growth.halfGrowth-le a, pass-growth.halfGrowth-le b, pass-growth.halfGrowth-le c)
 
 -- half as many again is at most 3/2 n
 pub halfGrowth-le : (n : ℕ) → 2 * halfGrowth n ≤ 3 * n
-halfGrowth-le = growth.halfGrowth-le
+halfGrowth-le = pass-growth.halfGrowth-le
 
 -- no vertices take no room
 pub B-none : B 0 ≡ 0

@@ -18,27 +18,17 @@ use Rattle.tile.specs.declared.Edge.{Edge}
 use Rattle.tile.specs.declared.Edge.the-variants.{Left, Right, Bottom, Top}
 use Rattle.tile.specs.Ring.{last, closed, close}
 use Rattle.cutting_lines.specs.CuttingLines.{fixed, bound, inside, crossing}
-use Rattle.sutherland_hodgman.specs.Clip.{step, steps, leaveOff, around, pass, passes, finish, clipRing}
-use Rattle.sutherland_hodgman.specs.Origins.{
-  lineOrigin,
-  IsPosition,
-  positionsFrom,
-  stepOrigins,
-  stepsOrigins,
-  aroundOrigins,
-  passOrigins,
-  passesOrigins,
-  closeOrigins,
-  finishOrigins,
-  clipOrigins,
-  Traced,
-  Rises,
-}
+use Rattle.edge_pass.specs.Pass.{step, steps, leaveOff, around, pass}
+use Rattle.edge_pass.specs.Origins.{lineOrigin, stepOrigins, stepsOrigins, aroundOrigins, passOrigins}
+use Rattle.edge_pass.proofs.PassGrowth.{leaveOff-length}
+use Rattle.edge_pass.proofs.LeavingOff.{leaveOff-close}
+use Rattle.edge_pass.proofs.OriginWalking.{step-many, pass-many, pass-enough}
+use Rattle.sutherland_hodgman.specs.Clip.{passes, finish, clipRing}
+use Rattle.sutherland_hodgman.specs.Origins.{IsPosition, positionsFrom, passesOrigins, closeOrigins, finishOrigins}
+use Rattle.sutherland_hodgman.specs.Origins.{clipOrigins, Traced, Rises}
 use Rattle.sutherland_hodgman.specs.Growth.{mostCoordinates}
 use Rattle.sutherland_hodgman.specs.Contracts.{Fits16}
-use Rattle.sutherland_hodgman.proofs.GrowthLaws.{leaveOff-length}
-use Rattle.sutherland_hodgman.proofs.LeavingOff.{leaveOff-close}
-use Rattle.sutherland_hodgman.proofs.OriginWalking.{step-many, pass-many, pass-enough, length-positions}
+use Rattle.sutherland_hodgman.proofs.Positions.{length-positions}
 
 -- ---- as many origins as coordinates
 

@@ -16,13 +16,16 @@ use Rattle.tile.specs.declared.Edge.the-variants.{Top}
 use Rattle.tile.specs.Ring.{coords, closed, close}
 use Rattle.tile.specs.Contracts.{Stands, Written}
 use Rattle.tile.proofs.Rings.{length-front, stands-front, written-front, count-closed, count-open}
-use Rattle.sutherland_hodgman.specs.Clip.{pass, passes, finish}
-use Rattle.sutherland_hodgman.specs.Contracts.{threePasses}
-use Rattle.sutherland_hodgman.specs.Growth.{halfGrowth, B}
-use Rattle.sutherland_hodgman.specs.Origins.{passOrigins, passesOrigins, positionsFrom, closeOrigins, finishOrigins, clipOrigins}
-use Rattle.sutherland_hodgman.specs.Contracts.{threePassesOrigins, topOrigins}
+use Rattle.edge_pass.specs.Pass.{pass}
+use Rattle.edge_pass.specs.Growth.{halfGrowth}
+use Rattle.edge_pass.specs.Origins.{passOrigins}
+use Rattle.edge_pass.proofs.OriginWalking.{pass-many}
+use Rattle.sutherland_hodgman.specs.Clip.{passes, finish}
+use Rattle.sutherland_hodgman.specs.Contracts.{threePasses, threePassesOrigins, topOrigins}
+use Rattle.sutherland_hodgman.specs.Growth.{B}
+use Rattle.sutherland_hodgman.specs.Origins.{passesOrigins, positionsFrom, closeOrigins, finishOrigins, clipOrigins}
 use Rattle.sutherland_hodgman.proofs.Stages.{Stage, stage-room, stage-last}
-use Rattle.sutherland_hodgman.proofs.OriginWalking.{pass-many, length-positions}
+use Rattle.sutherland_hodgman.proofs.Positions.{length-positions}
 use Rattle.sutherland_hodgman.proofs.OriginLaws.{finish-many}
 
 -- the positions, at the front

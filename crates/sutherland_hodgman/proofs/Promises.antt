@@ -24,10 +24,11 @@ use Rattle.tile.specs.declared.Edge.{Edge}
 use Rattle.tile.specs.declared.Edge.the-variants.{Left, Right, Bottom, Top}
 use Rattle.tile.specs.Ring.{coords, close}
 use Rattle.tile.proofs.Rings.{coords-take, length-close}
+use Rattle.cutting_lines.specs.CuttingLines.{fixed, free, place, bound, isLow, inside, crossing}
 use Rattle.cutting_lines.specs.CrossingError.{CoordAtMost256}
 use Rattle.cutting_lines.proofs.CrossingLaws.{FittingBounds, FittingCoord}
-use Rattle.cutting_lines.specs.CuttingLines.{fixed, free, place, bound, isLow, inside, crossing}
-use Rattle.sutherland_hodgman.specs.Clip.{pass, passes, finish, clipRing}
+use Rattle.edge_pass.specs.Pass.{pass}
+use Rattle.sutherland_hodgman.specs.Clip.{passes, finish, clipRing}
 use Rattle.sutherland_hodgman.specs.Promise.{LatitudeInBounds, LongitudeNearBounds, Promise}
 use Rattle.sutherland_hodgman.proofs.GrowthLaws.{clipRing-grows}
 use Rattle.sutherland_hodgman.proofs.Turns.{Turns, every-take, every-finish, every-map, every-both, every-of-all, passed}

@@ -13,10 +13,12 @@ use Rattle.tile.specs.declared.Edge.the-variants.{Left, Right, Bottom}
 use Rattle.tile.specs.Ring.{coords}
 use Rattle.tile.specs.Contracts.{Stands, Written}
 use Rattle.tile.proofs.Rings.{length-front, flat-front, stands-front, written-stands}
-use Rattle.sutherland_hodgman.specs.Clip.{pass}
+use Rattle.edge_pass.specs.Pass.{pass}
+use Rattle.edge_pass.specs.Growth.{halfGrowth}
+use Rattle.edge_pass.proofs.PassGrowth.{pass-grows, halfGrowth-mono}
 use Rattle.sutherland_hodgman.specs.Contracts.{threePasses}
-use Rattle.sutherland_hodgman.specs.Growth.{halfGrowth, B}
-use Rattle.sutherland_hodgman.proofs.GrowthLaws.{pass-grows, halfGrowth-mono, grown, grown-four, room-pass, room-more, grown-some}
+use Rattle.sutherland_hodgman.specs.Growth.{B}
+use Rattle.sutherland_hodgman.proofs.GrowthLaws.{grown, grown-four, room-pass, room-more, grown-some}
 
 -- after j passes over n vertices: the ring r, k vertices long, at the front of d
 pub record Stage (j n : ℕ) (r : List Coord) (d : List Float) (k : ℕ) : Type 0 where

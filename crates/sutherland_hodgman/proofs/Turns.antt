@@ -11,7 +11,8 @@ use Rattle.tile.specs.declared.TileBounds.{TileBounds}
 use Rattle.tile.specs.declared.Edge.{Edge}
 use Rattle.tile.specs.Ring.{last, closed, close}
 use Rattle.cutting_lines.specs.CuttingLines.{inside, crossing}
-use Rattle.sutherland_hodgman.specs.Clip.{step, steps, leaveOff, around, pass, finish}
+use Rattle.edge_pass.specs.Pass.{step, steps, leaveOff, around, pass}
+use Rattle.sutherland_hodgman.specs.Clip.{finish}
 
 -- where the ends of an edge satisfy P, what the line keeps and where it crosses satisfy Q
 pub record Turns (P Q : Coord → Type 0) (l : Edge) (b : TileBounds) : Type 0 where

@@ -1,9 +1,6 @@
--- The room that cutting a ring takes (document 01, "Frames": half-growth and B). Definitions only.
-use Prim.Native.Nat.{ℕ, zero, suc, _+_, _/_}
-
--- "n plus half of n rounded down"
-unfoldable pub halfGrowth : ℕ → ℕ
-halfGrowth n = n + n / 2
+-- The room that cutting a ring takes (document 01, "Frames": B). Definitions only.
+use Prim.Native.Nat.{ℕ, zero, suc, _+_}
+use Rattle.edge_pass.specs.Growth.{halfGrowth}
 
 unfoldable pub fourHalfGrowths : ℕ → ℕ
 fourHalfGrowths n = halfGrowth (halfGrowth (halfGrowth (halfGrowth n)))

@@ -1,5 +1,4 @@
 pub mod Clip
-pub mod Verdicts
 pub mod Growth
 pub mod Origins
 pub mod Promise

@@ -1,30 +1,25 @@
--- Where each vertex of a cut ring came from (document 02, Point 12): folds in step with those of Clip, over the same verdicts.
--- Definitions only.
+-- Where each vertex of a cut ring came from (document 02, Point 12), in step with Clip. Definitions only.
 use mathlib.Core.Path.{_≡_}
 use mathlib.Core.Logic.{_⊎_}
-use mathlib.Core.Bool.{Bool, true, false, cond}
+use mathlib.Core.Bool.{cond}
 use mathlib.Core.List.{List, [], _∷_, _++_}
 use Prim.Native.Nat.{ℕ, zero, suc, _<_}
 use lib.Dec.{leb}
-use lib.ListN.{length, getD, drop}
+use lib.ListN.{length, getD}
 use Rattle.tile.specs.declared.Coord.{Coord}
 use Rattle.tile.specs.declared.TileBounds.{TileBounds}
 use Rattle.tile.specs.declared.Edge.{Edge}
 use Rattle.tile.specs.declared.Edge.the-variants.{Left, Right, Bottom, Top}
-use Rattle.tile.specs.Ring.{last, closed}
-use Rattle.cutting_lines.specs.CuttingLines.{fixed, bound, inside}
-use Rattle.sutherland_hodgman.specs.Clip.{leaveOff, pass, passes}
+use Rattle.tile.specs.Ring.{closed}
+use Rattle.cutting_lines.specs.CuttingLines.{fixed, bound}
+use Rattle.edge_pass.specs.Pass.{pass}
+use Rattle.edge_pass.specs.Origins.{lineOrigin, passOrigins}
+use Rattle.sutherland_hodgman.specs.Clip.{passes}
 
 -- ---- the origins of a cut
 
--- "65,532 to 65,535 for the four lines": "Left, Right, Bottom, Top"
-abbrev pub lineOrigin : Edge → ℕ
-lineOrigin Left = 65532
-lineOrigin Right = 65533
-lineOrigin Bottom = 65534
-lineOrigin Top = 65535
-
--- The positions are below: a ring call and a slice call refuse "over 65,532 coordinates" (20), and no frame has so many.
+-- The positions are below the numbers of the lines: a ring call and a slice call refuse "over 65,532 coordinates" (20), and no frame has
+-- so many.
 abbrev pub IsPosition : ℕ → Type 0
 IsPosition o = o < lineOrigin Left
 
@@ -33,32 +28,8 @@ unfoldable pub positionsFrom : ℕ → ℕ → List ℕ
 positionsFrom i zero = []
 positionsFrom i (suc n) = i ∷ positionsFrom (suc i) n
 
--- the origins of what `step` gives: a crossing has "the line that made it", an end keeps its own
-abbrev pub stepOrigins : Bool → Bool → ℕ → ℕ → List ℕ
-stepOrigins true true line end = end ∷ []
-stepOrigins true false line end = line ∷ []
-stepOrigins false true line end = line ∷ end ∷ []
-stepOrigins false false line end = []
-
--- of what `steps` gives from a vertex whose verdict is v along the vertices that follow, which have the origins os. No 0 stands for a
--- missing origin: a ring has as many positions as vertices, and each pass gives as many origins as vertices to the next (`length-positions`
--- and `pass-many` in proofs/OriginWalking.antt).
-unfoldable pub stepsOrigins : Edge → TileBounds → Bool → List Coord → List ℕ → List ℕ
-stepsOrigins l b v [] os = []
-stepsOrigins l b v (e ∷ r) os =
-    stepOrigins v (inside l b e) (lineOrigin l) (getD os 0 0) ++ stepsOrigins l b (inside l b e) r (drop 1 os)
-
--- of what `around` gives
-unfoldable pub aroundOrigins : Edge → TileBounds → List Coord → List ℕ → List ℕ
-aroundOrigins l b [] os = []
-aroundOrigins l b (p ∷ r) os = stepsOrigins l b (inside l b (last p r)) (p ∷ r) os
-
--- of what a pass makes of a ring that has the origins os; the vertex that is left off is the last one, and its origin goes with it
-unfoldable pub passOrigins : Edge → TileBounds → List Coord → List ℕ → List ℕ
-passOrigins l b r os = aroundOrigins l b (leaveOff r) os
-
--- of what the four passes make of a ring, in which each vertex has its position: "A vertex made by an earlier line and kept by later ones
--- keeps that origin"
+-- the origins of what the four passes make of a ring, in which each vertex has its position: "A vertex made by an earlier line and kept by
+-- later ones keeps that origin"
 unfoldable pub passesOrigins : TileBounds → List Coord → List ℕ
 passesOrigins b r =
     let left = pass Left b r in

@@ -1,7 +1,8 @@
 // The room that cutting a ring takes, by its count of vertices.
 ghost use mathlib.Core.Path.{_≡_};
 ghost use Prim.Native.Nat.{_*_, _≤_};
-ghost use Rattle.sutherland_hodgman.specs.Growth.{halfGrowth, B, mostCoordinates};
+ghost use Rattle.edge_pass.specs.Growth.{halfGrowth};
+ghost use Rattle.sutherland_hodgman.specs.Growth.{B, mostCoordinates};
 
 pub const MOST_COORDINATES: usize = 65532;
 

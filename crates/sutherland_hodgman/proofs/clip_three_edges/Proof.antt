@@ -5,8 +5,7 @@ use denote.Ref.{now}
 use borrow.Author.Needs.{needs}
 use Rattle.tile.specs.declared.Edge.the-variants.{Left, Right, Bottom}
 use Rattle.tile.proofs.Rings.{length-front}
-use Rattle.sutherland_hodgman.specs.Contracts.{threePasses}
-use Rattle.sutherland_hodgman.specs.Contracts.{threePassesOrigins}
+use Rattle.sutherland_hodgman.specs.Contracts.{threePasses, threePassesOrigins}
 use Rattle.sutherland_hodgman.proofs.Offered.{le-B}
 use Rattle.sutherland_hodgman.proofs.Stages.{stage-start, stage-next, stage-room}
 use Rattle.sutherland_hodgman.proofs.OriginStages.{numbered, origins-next, origins-room}

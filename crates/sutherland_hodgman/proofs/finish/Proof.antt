@@ -2,7 +2,7 @@
 use denote.Ref.{now}
 use lib.ListN.{take}
 use borrow.Author.Needs.{needs}
-use Rattle.sutherland_hodgman.proofs.LeavingOff.{finish-few, finish-close}
+use Rattle.sutherland_hodgman.proofs.Finishing.{finish-few, finish-close}
 use Rattle.sutherland_hodgman.proofs.OriginStages.{finish-origins-few, finish-origins-close}
 use Rattle.sutherland_hodgman.proofs.finish.Statement.{statement}
 use Rattle.sutherland_hodgman.proofs.finish.Tie as tie

@@ -1,7 +1,7 @@
 -- `half_growth` meets its contract. Assumes nothing.
 use mathlib.Core.Path.{refl}
 use borrow.Author.Needs.{needs}
-use Rattle.sutherland_hodgman.specs.Growth.{halfGrowth}
+use Rattle.edge_pass.specs.Growth.{halfGrowth}
 use Rattle.sutherland_hodgman.proofs.growth.half_growth.Statement.{statement}
 use Rattle.sutherland_hodgman.proofs.growth.half_growth.Tie as tie
 

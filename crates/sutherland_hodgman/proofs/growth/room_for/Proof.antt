@@ -3,8 +3,10 @@ use mathlib.Core.Path.{_∙_, ap}
 use native.Mathlib.Omega.{arith}
 use Prim.Native.Nat.{ℕ, _+_}
 use borrow.Author.Needs.{needs}
-use Rattle.sutherland_hodgman.specs.Growth.{halfGrowth, fourHalfGrowths, B}
-use Rattle.sutherland_hodgman.proofs.GrowthLaws.{halfGrowth-le, B-positive}
+use Rattle.edge_pass.specs.Growth.{halfGrowth}
+use Rattle.edge_pass.proofs.PassGrowth.{halfGrowth-le}
+use Rattle.sutherland_hodgman.specs.Growth.{fourHalfGrowths, B}
+use Rattle.sutherland_hodgman.proofs.GrowthLaws.{B-positive}
 use Rattle.sutherland_hodgman.proofs.growth.room_for.Statement.{statement}
 use Rattle.sutherland_hodgman.proofs.growth.room_for.Tie as tie
 

@@ -6,7 +6,7 @@ use borrow.Author.Needs.{needs}
 use denote.Ref.{now}
 use Rattle.binary64.proofs.Fill.{Upto, upto-start, upto-step, upto-end}
 use Rattle.sutherland_hodgman.specs.Origins.{positionsFrom}
-use Rattle.sutherland_hodgman.proofs.OriginWalking.{length-positions, the-position}
+use Rattle.sutherland_hodgman.proofs.Positions.{length-positions, the-position}
 use Rattle.sutherland_hodgman.proofs.origins.put_positions.Statement.{statement}
 use Rattle.sutherland_hodgman.proofs.origins.put_positions.Tie as tie
 

@@ -7,11 +7,11 @@ use borrow.Author.Needs.{needs, fits-under}
 use denote.Ref.{now}
 use lib.ListN.{length, take}
 use Rattle.tile.specs.Ring.{coords}
-use Rattle.sutherland_hodgman.specs.Contracts.{stepsLeft}
-use Rattle.sutherland_hodgman.proofs.Walking.{rest-then, rest-end, rest-skip, out-in, out-in-room, past-end}
-use Rattle.sutherland_hodgman.proofs.OriginWalking.{origins-end, origins-skip, out-in-origin}
-use Rattle.sutherland_hodgman.proofs.enter.Statement.{statement}
-use Rattle.sutherland_hodgman.proofs.enter.Tie as tie
+use Rattle.edge_pass.specs.Contracts.{stepsLeft}
+use Rattle.edge_pass.proofs.Walking.{rest-then, rest-end, rest-skip, out-in, out-in-room, past-end}
+use Rattle.edge_pass.proofs.OriginWalking.{origins-end, origins-skip, out-in-origin}
+use Rattle.edge_pass.proofs.enter.Statement.{statement}
+use Rattle.edge_pass.proofs.enter.Tie as tie
 
 -- where the line is crossed there is room for two more vertices and their origins
 room : (c : tie.Else1) → (2 * (c .before .before .skip-outside .result .len + 2) ≤ length (now

@@ -17,11 +17,10 @@ use Rattle.tile.specs.Ring.{coords, last}
 use Rattle.tile.specs.Contracts.{coordAt}
 use Rattle.tile.proofs.Rings.{length-front, front-at, last-at}
 use Rattle.cutting_lines.specs.CuttingLines.{inside, crossing}
-use Rattle.sutherland_hodgman.specs.Clip.{step, steps, leaveOff, around, pass}
-use Rattle.sutherland_hodgman.specs.Contracts.{noVertex}
-use Rattle.sutherland_hodgman.specs.Origins.{lineOrigin, positionsFrom, stepOrigins, stepsOrigins, aroundOrigins, passOrigins}
-use Rattle.sutherland_hodgman.specs.Contracts.{originsLeft, SameOrigins, CopiedOrigins}
-use Rattle.sutherland_hodgman.proofs.GrowthLaws.{leaveOff-length}
+use Rattle.edge_pass.specs.Pass.{step, steps, leaveOff, around, pass}
+use Rattle.edge_pass.specs.Contracts.{noVertex, originsLeft, SameOrigins, CopiedOrigins}
+use Rattle.edge_pass.specs.Origins.{lineOrigin, stepOrigins, stepsOrigins, aroundOrigins, passOrigins}
+use Rattle.edge_pass.proofs.PassGrowth.{leaveOff-length}
 
 -- ---- a pass gives as many origins as vertices
 
@@ -215,19 +214,3 @@ module _ (l : Edge) (b : TileBounds) (r kept : List Coord) (h : kept ≡ leaveOf
   pub pass-origins-none : (n : ℕ) (os d : List ℕ) → length r ≤ n → kept ≡ [] → d ≡ passOrigins l b r (take n os) ++ drop 0 d
   unfolding aroundOrigins
   pass-origins-none n os d k e = let q : passOrigins l b r (take n os) ≡ [] = pass-origins-around n os k ∙ rw e in rw q
-
--- ---- positions
-
-pub length-positions : (i n : ℕ) → length (positionsFrom i n) ≡ n
-unfolding positionsFrom
-length-positions i zero = refl
-length-positions i (suc n) = ap suc (length-positions (suc i) n)
-
-position-at : (i n j : ℕ) → j < n → getD (positionsFrom i n) j 0 ≡ i + j
-unfolding positionsFrom
-position-at i zero j h = absurd (omega arith)
-position-at i (suc n) zero h = omega arith
-position-at i (suc n) (suc j) h = omega (arith, position-at (suc i) n j (omega arith))
-
-pub the-position : (n j : ℕ) → j < n → j ≡ getD (positionsFrom 0 n) j 0
-the-position n j h = omega (arith, position-at 0 n j h)

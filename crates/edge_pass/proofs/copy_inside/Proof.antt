@@ -8,11 +8,11 @@ use borrow.Author.Tests.{not-true, not-false}
 use denote.Ref.{now}
 use lib.ListN.{length, take}
 use Rattle.tile.specs.Ring.{coords}
-use Rattle.sutherland_hodgman.specs.Contracts.{stepsLeft, SameRest, CopiedOrigins}
-use Rattle.sutherland_hodgman.proofs.Walking.{rest-here, rest-then, in-in, in-in-room, judged, wrote}
-use Rattle.sutherland_hodgman.proofs.OriginWalking.{copied-none, in-in-origin}
-use Rattle.sutherland_hodgman.proofs.copy_inside.Statement.{statement}
-use Rattle.sutherland_hodgman.proofs.copy_inside.Tie as tie
+use Rattle.edge_pass.specs.Contracts.{stepsLeft, SameRest, CopiedOrigins}
+use Rattle.edge_pass.proofs.Walking.{rest-here, rest-then, in-in, in-in-room, judged, wrote}
+use Rattle.edge_pass.proofs.OriginWalking.{copied-none, in-in-origin}
+use Rattle.edge_pass.proofs.copy_inside.Statement.{statement}
+use Rattle.edge_pass.proofs.copy_inside.Tie as tie
 
 abbrev Inv-loop : tie.InvT-loop
 Inv-loop ring m edge bounds out₀ i₀ len₀ verdicts₀ out i len verdicts =

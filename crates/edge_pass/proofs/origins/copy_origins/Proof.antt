@@ -6,9 +6,9 @@ use borrow.Author.Needs.{needs}
 use denote.Ref.{now}
 use lib.ListN.{length, take, drop, length-set}
 use lib.Seq.{sets}
-use Rattle.sutherland_hodgman.proofs.OriginWalking.{copied-more}
-use Rattle.sutherland_hodgman.proofs.origins.copy_origins.Statement.{statement}
-use Rattle.sutherland_hodgman.proofs.origins.copy_origins.Tie as tie
+use Rattle.edge_pass.proofs.OriginWalking.{copied-more}
+use Rattle.edge_pass.proofs.origins.copy_origins.Statement.{statement}
+use Rattle.edge_pass.proofs.origins.copy_origins.Tie as tie
 
 abbrev Inv-loop : tie.InvT-loop
 Inv-loop origins i out₀ len count k₀ out k =

@@ -17,10 +17,10 @@ use Rattle.tile.specs.Ring.{coords, flat, last}
 use Rattle.tile.specs.Contracts.{coordAt, Written}
 use Rattle.tile.proofs.Rings.{flat-append, length-flat, last-at, length-front, front-at}
 use Rattle.cutting_lines.specs.CuttingLines.{inside, crossing}
-use Rattle.sutherland_hodgman.specs.Clip.{step, steps, leaveOff, around, pass}
-use Rattle.sutherland_hodgman.specs.Contracts.{noVertex, vertexBefore, stepsLeft, SameRest}
-use Rattle.sutherland_hodgman.specs.Growth.{halfGrowth}
-use Rattle.sutherland_hodgman.proofs.GrowthLaws.{pass-grows}
+use Rattle.edge_pass.specs.Pass.{step, steps, leaveOff, around, pass}
+use Rattle.edge_pass.specs.Contracts.{noVertex, vertexBefore, stepsLeft, SameRest}
+use Rattle.edge_pass.specs.Growth.{halfGrowth}
+use Rattle.edge_pass.proofs.PassGrowth.{pass-grows}
 
 module _ (l : Edge) (b : TileBounds) (ring : List Coord) where
   pub rest-here : (v : Bool) (i k : ℕ) (d : List Float) → SameRest l b ring v i k d v i k d

@@ -3,9 +3,9 @@ use mathlib.Core.Path.{_∙_}
 use native.Mathlib.Omega.{arith}
 use borrow.Author.Needs.{needs}
 use denote.Ref.{now}
-use Rattle.sutherland_hodgman.proofs.Walking.{first-before, later-before}
-use Rattle.sutherland_hodgman.proofs.previous.Statement.{statement}
-use Rattle.sutherland_hodgman.proofs.previous.Tie as tie
+use Rattle.edge_pass.proofs.Walking.{first-before, later-before}
+use Rattle.edge_pass.proofs.previous.Statement.{statement}
+use Rattle.edge_pass.proofs.previous.Tie as tie
 
 sub-coord-at : tie.Need-sub-coord-at
 sub-coord-at c = search needs

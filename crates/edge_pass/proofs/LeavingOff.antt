@@ -1,4 +1,4 @@
--- Leaving off the closing vertex, and finishing a ring after the four passes, by the tests that the code makes. Assumes nothing.
+-- Leaving off the closing vertex, by the tests that the code makes. Assumes nothing.
 use mathlib.Core.Path.{_≡_, refl, sym, _∙_}
 use mathlib.Core.Bool.{Bool, true, false, true≢false}
 use mathlib.Core.List.{List, [], _∷_, _++_}
@@ -7,12 +7,10 @@ use native.Mathlib.Omega.{arith}
 use lib.Ieee.{Float, nan}
 use lib.ListN.{length, getD, take, length-append}
 use lib.Seq.{take-at}
-use borrow.Author.Tests.{le-leb, lt-leb}
 use Rattle.tile.specs.declared.Coord.{Coord}
-use Rattle.tile.specs.Ring.{coords, flat, closed, close}
-use Rattle.tile.specs.Contracts.{Written}
+use Rattle.tile.specs.Ring.{coords, closed, close}
 use Rattle.tile.proofs.Rings.{front-front, length-front, close-closed, close-open}
-use Rattle.sutherland_hodgman.specs.Clip.{leaveOff, finish}
+use Rattle.edge_pass.specs.Pass.{leaveOff}
 
 leaveOff-few : (r : List Coord) → length r < 2 → leaveOff r ≡ r
 unfolding leaveOff
@@ -44,15 +42,6 @@ module _ (s : List Float) (n : ℕ) (h : 2 * n ≤ length s) where
 
   pub left-open : closed (coords (take (2 * n) s)) ≡ false → coords (take (2 * n) s) ≡ leaveOff (coords (take (2 * n) s))
   left-open e = sym (leaveOff-open (coords (take (2 * n) s)) e)
-
-  pub finish-few : n < 3 → Written (finish (coords (take (2 * n) s))) s 0 s
-  unfolding finish flat
-  finish-few l =
-      let t = lt-leb 3 (length (coords (take (2 * n) s))) (omega (arith, length-front s n h)) in record { count = rw t; numbers = rw t }
-
-  pub finish-close : 3 ≤ n → finish (coords (take (2 * n) s)) ≡ close (coords (take (2 * n) s))
-  unfolding finish
-  finish-close l = rw (le-leb 3 (length (coords (take (2 * n) s))) (omega (arith, length-front s n h)))
 
 -- ---- what closing appends is left off again
 

@@ -5,8 +5,8 @@ use Prim.Native.Nat.{ℕ, _+_, _<_}
 use native.Mathlib.Omega.{arith}
 use lib.ListN.{length}
 use Rattle.tile.specs.declared.Coord.{Coord}
-use Rattle.sutherland_hodgman.specs.Clip.{leaveOff}
-use Rattle.sutherland_hodgman.specs.Verdicts.{verdictsAround, verdicts}
+use Rattle.edge_pass.specs.Pass.{leaveOff}
+use Rattle.edge_pass.specs.Verdicts.{verdictsAround, verdicts}
 
 around-some : (kept : List Coord) → 0 < length kept → verdictsAround kept ≡ length kept + 1
 around-some [] h = absurd (omega arith)

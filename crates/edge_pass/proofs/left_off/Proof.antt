@@ -3,9 +3,9 @@ use mathlib.Core.Path.{sym, _∙_}
 use native.Mathlib.Nat.{le-refl}
 use denote.Ref.{now}
 use borrow.Author.Needs.{needs}
-use Rattle.sutherland_hodgman.proofs.LeavingOff.{left-few, left-closed, left-open}
-use Rattle.sutherland_hodgman.proofs.left_off.Statement.{statement}
-use Rattle.sutherland_hodgman.proofs.left_off.Tie as tie
+use Rattle.edge_pass.proofs.LeavingOff.{left-few, left-closed, left-open}
+use Rattle.edge_pass.proofs.left_off.Statement.{statement}
+use Rattle.edge_pass.proofs.left_off.Tie as tie
 
 returns : tie.Need-returns
 returns c = let a = c .before .before in (le-refl (a .args .n), left-few (now (a .args .ring)) (a .args .n) (a .pre) (c .if1 .taken))

@@ -3,7 +3,7 @@ use mathlib.Core.List.{List, [], _∷_}
 use Prim.Native.Nat.{ℕ, suc}
 use lib.ListN.{length}
 use Rattle.tile.specs.declared.Coord.{Coord}
-use Rattle.sutherland_hodgman.specs.Clip.{leaveOff}
+use Rattle.edge_pass.specs.Pass.{leaveOff}
 
 -- around the vertices that are left: one on the vertex to start from, and one on the end of each edge
 abbrev pub verdictsAround : List Coord → ℕ

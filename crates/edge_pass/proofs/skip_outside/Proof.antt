@@ -7,11 +7,11 @@ use borrow.Author.Needs.{needs}
 use denote.Ref.{now}
 use lib.ListN.{take}
 use Rattle.tile.specs.Ring.{coords}
-use Rattle.sutherland_hodgman.specs.Contracts.{stepsLeft, SkippedOrigins}
-use Rattle.sutherland_hodgman.proofs.Walking.{out-out, judged}
-use Rattle.sutherland_hodgman.proofs.OriginWalking.{out-out-origin}
-use Rattle.sutherland_hodgman.proofs.skip_outside.Statement.{statement}
-use Rattle.sutherland_hodgman.proofs.skip_outside.Tie as tie
+use Rattle.edge_pass.specs.Contracts.{stepsLeft, SkippedOrigins}
+use Rattle.edge_pass.proofs.Walking.{out-out, judged}
+use Rattle.edge_pass.proofs.OriginWalking.{out-out-origin}
+use Rattle.edge_pass.proofs.skip_outside.Statement.{statement}
+use Rattle.edge_pass.proofs.skip_outside.Tie as tie
 
 abbrev Inv-loop : tie.InvT-loop
 Inv-loop ring m edge bounds at i₀ verdicts₀ i verdicts =

@@ -1,7 +1,7 @@
 -- `turn` meets its contract: by the verdict it is leaving or entering. Assumes nothing.
 use borrow.Author.Needs.{needs}
-use Rattle.sutherland_hodgman.proofs.turn.Statement.{statement}
-use Rattle.sutherland_hodgman.proofs.turn.Tie as tie
+use Rattle.edge_pass.proofs.turn.Statement.{statement}
+use Rattle.edge_pass.proofs.turn.Tie as tie
 
 leave-requires : tie.Need-leave-requires
 leave-requires c κs =

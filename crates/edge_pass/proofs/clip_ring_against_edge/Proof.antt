@@ -10,24 +10,13 @@ use denote.Ref.{now}
 use lib.ListN.{length, take}
 use Rattle.tile.specs.Ring.{coords}
 use Rattle.tile.proofs.Rings.{length-front}
-use Rattle.sutherland_hodgman.specs.Contracts.{SameRest}
-use Rattle.sutherland_hodgman.specs.Contracts.{SameOrigins}
-use Rattle.sutherland_hodgman.proofs.Walking.{
-  rest-here,
-  rest-then,
-  starts,
-  begun,
-  judged,
-  walk-end,
-  past-end,
-  pass-around,
-  pass-room,
-  pass-none,
-}
-use Rattle.sutherland_hodgman.proofs.OriginWalking.{starts-origins, origins-walked, pass-origins-around, pass-origins-none}
-use Rattle.sutherland_hodgman.proofs.Verdicts.{verdicts-none, verdicts-some}
-use Rattle.sutherland_hodgman.proofs.clip_ring_against_edge.Statement.{statement}
-use Rattle.sutherland_hodgman.proofs.clip_ring_against_edge.Tie as tie
+use Rattle.edge_pass.specs.Contracts.{SameRest, SameOrigins}
+use Rattle.edge_pass.proofs.Walking.{rest-here, rest-then, starts, begun, judged, walk-end, past-end}
+use Rattle.edge_pass.proofs.Walking.{pass-around, pass-room, pass-none}
+use Rattle.edge_pass.proofs.OriginWalking.{starts-origins, origins-walked, pass-origins-around, pass-origins-none}
+use Rattle.edge_pass.proofs.Verdicts.{verdicts-none, verdicts-some}
+use Rattle.edge_pass.proofs.clip_ring_against_edge.Statement.{statement}
+use Rattle.edge_pass.proofs.clip_ring_against_edge.Tie as tie
 
 abbrev Inv-loop : tie.InvT-loop
 Inv-loop ring origins n edge bounds out₀ out-origins₀ m inside₀ at₀ out out-origins inside at =

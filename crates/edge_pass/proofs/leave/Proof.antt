@@ -7,11 +7,11 @@ use borrow.Author.Needs.{needs, fits-under}
 use denote.Ref.{now}
 use lib.ListN.{length, take}
 use Rattle.tile.specs.Ring.{coords}
-use Rattle.sutherland_hodgman.specs.Contracts.{stepsLeft}
-use Rattle.sutherland_hodgman.proofs.Walking.{rest-then, rest-end, in-out, in-out-room, past-end}
-use Rattle.sutherland_hodgman.proofs.OriginWalking.{origins-copied, origins-end, in-out-origin}
-use Rattle.sutherland_hodgman.proofs.leave.Statement.{statement}
-use Rattle.sutherland_hodgman.proofs.leave.Tie as tie
+use Rattle.edge_pass.specs.Contracts.{stepsLeft}
+use Rattle.edge_pass.proofs.Walking.{rest-then, rest-end, in-out, in-out-room, past-end}
+use Rattle.edge_pass.proofs.OriginWalking.{origins-copied, origins-end, in-out-origin}
+use Rattle.edge_pass.proofs.leave.Statement.{statement}
+use Rattle.edge_pass.proofs.leave.Tie as tie
 
 -- where the line is crossed: the room for one more
 room : (c : tie.Else1) → (2 * (c .before .before .before .before .before .before .before .before .before .before .copy-inside .result .len

@@ -1,0 +1,5 @@
+pub mod LeavingOff
+pub mod OriginWalking
+pub mod PassGrowth
+mod Verdicts
+mod Walking

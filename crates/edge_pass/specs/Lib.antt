@@ -1,0 +1,5 @@
+pub mod Pass
+pub mod Growth
+pub mod Verdicts
+pub mod Origins
+pub mod Contracts
