@@ -14,8 +14,9 @@ use Rattle.tile.specs.declared.Coord.{Coord}
 use Rattle.tile.specs.declared.TileBounds.{TileBounds}
 use Rattle.tile.specs.declared.Edge.{Edge}
 use Rattle.tile.specs.declared.Edge.the-variants.{Left, Right, Bottom}
+use Rattle.tile.specs.Magnitude.{CoordAtMost256}
 use Rattle.cutting_lines.specs.CuttingLines.{free, bound, inside, crossing}
-use Rattle.cutting_lines.specs.CrossingError.{CoordAtMost256, exactFree}
+use Rattle.cutting_lines.specs.CrossingError.{exactFree}
 
 -- a / c as a double, and its negative
 value : ℕ → ℕ → Float

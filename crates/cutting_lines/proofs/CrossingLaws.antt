@@ -16,8 +16,9 @@ use Rattle.tile.specs.declared.Coord.{Coord}
 use Rattle.tile.specs.declared.TileBounds.{TileBounds}
 use Rattle.tile.specs.declared.Edge.{Edge}
 use Rattle.tile.specs.declared.Edge.the-variants.{Left, Right, Bottom, Top}
+use Rattle.tile.specs.Magnitude.{CoordAtMost256}
 use Rattle.cutting_lines.specs.CuttingLines.{fixed, free, place, bound, isLow, inside, crossing}
-use Rattle.cutting_lines.specs.CrossingError.{CoordAtMost256, exactFree, NearExact}
+use Rattle.cutting_lines.specs.CrossingError.{exactFree, NearExact}
 
 -- bounds and a coordinate whose numbers are doubles
 abbrev pub FittingBounds : TileBounds → Type 0

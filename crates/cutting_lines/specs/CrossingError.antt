@@ -10,10 +10,8 @@ use Rattle.binary64.specs.ExactCrossing.{Fraction, exactCrossing, OffAtMost}
 use Rattle.tile.specs.declared.Coord.{Coord}
 use Rattle.tile.specs.declared.TileBounds.{TileBounds}
 use Rattle.tile.specs.declared.Edge.{Edge}
+use Rattle.tile.specs.Magnitude.{CoordAtMost256}
 use Rattle.cutting_lines.specs.CuttingLines.{fixed, free, bound, inside}
-
-abbrev pub CoordAtMost256 : Coord → Type 0
-CoordAtMost256 p = T (atMost256 (p .x)) × T (atMost256 (p .y))
 
 -- the exact crossing of the edge from s to e with a line, in the coordinate that the line leaves free
 abbrev pub exactFree : Edge → TileBounds → Coord → Coord → Fraction

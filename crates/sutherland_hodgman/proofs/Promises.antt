@@ -22,10 +22,10 @@ use Rattle.tile.specs.declared.Coord.{Coord}
 use Rattle.tile.specs.declared.TileBounds.{TileBounds}
 use Rattle.tile.specs.declared.Edge.{Edge}
 use Rattle.tile.specs.declared.Edge.the-variants.{Left, Right, Bottom, Top}
+use Rattle.tile.specs.Magnitude.{CoordAtMost256}
 use Rattle.tile.specs.Ring.{coords, close}
 use Rattle.tile.proofs.Rings.{coords-take, length-close}
 use Rattle.cutting_lines.specs.CuttingLines.{fixed, free, place, bound, isLow, inside, crossing}
-use Rattle.cutting_lines.specs.CrossingError.{CoordAtMost256}
 use Rattle.cutting_lines.proofs.CrossingLaws.{FittingBounds, FittingCoord}
 use Rattle.edge_pass.specs.Pass.{pass}
 use Rattle.sutherland_hodgman.specs.Clip.{passes, finish, clipRing}

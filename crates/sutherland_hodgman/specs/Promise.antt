@@ -7,22 +7,16 @@ use lib.Dec.{T}
 use lib.Ieee.{binary64, le}
 use lib.Ieee.Scale.{finite}
 use lib.ListN.{length}
-use Rattle.binary64.specs.Compare.{atMost256}
 use Rattle.binary64.specs.Scaled.{LessAtMost}
 use Rattle.binary64.specs.Lists.{Every}
 use Rattle.tile.specs.declared.Coord.{Coord}
 use Rattle.tile.specs.declared.TileBounds.{TileBounds}
-use Rattle.cutting_lines.specs.CrossingError.{CoordAtMost256}
+use Rattle.tile.specs.Magnitude.{BoundsAtMost256, CoordAtMost256}
 use Rattle.sutherland_hodgman.specs.Growth.{fourHalfGrowths}
 
 -- the latitude lies from south to north
 abbrev pub LatitudeInBounds : TileBounds → Coord → Type 0
 LatitudeInBounds b p = T (le (b .«lat_min») (p .y)) × T (le (p .y) (b .«lat_max»))
-
--- finite, and at most 256 in magnitude; so is a coordinate that is `CoordAtMost256`
-abbrev pub BoundsAtMost256 : TileBounds → Type 0
-BoundsAtMost256 b =
-    T (atMost256 (b .«lng_min»)) × T (atMost256 (b .«lat_min»)) × T (atMost256 (b .«lng_max»)) × T (atMost256 (b .«lat_max»))
 
 -- 1/2^42, times 2^1074
 abbrev pub overrun : ℕ
