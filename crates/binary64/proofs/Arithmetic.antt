@@ -15,7 +15,8 @@ use lib.Ieee.Bits.{cond-no}
 use lib.Ieee.Fits.{down-pos, neg-fits}
 use lib.Ieee.Positive.{num, den, first-pos}
 use lib.Ieee.Scale.{grid, overflow, round-same}
-use Rattle.binary64.specs.Scaled.{mag, aboveZero, belowZero, distance}
+use Rattle.binary64.specs.Scaled.{mag, aboveZero, belowZero}
+use Rattle.binary64.specs.ExactCrossing.{distance}
 use Rattle.binary64.proofs.Order.{above, under}
 use Rattle.binary64.proofs.Value.{Number, Parts, InFormat, in-format-zero, mag-whole, mag-parts}
 use Rattle.binary64.proofs.Rounding.{rnd, rnd-zero, round-parts, round-units, in-format-power, grid-le-in-format}

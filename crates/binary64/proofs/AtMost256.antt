@@ -8,7 +8,8 @@ use lib.IntN.{pos}
 use lib.Ieee.{Float, fin, binary64, fits, le}
 use lib.Ieee.Fits.{and-l, and-r}
 use Rattle.binary64.specs.Compare.{atMost256}
-use Rattle.binary64.specs.Scaled.{mag, aboveZero, belowZero, distance}
+use Rattle.binary64.specs.Scaled.{mag, aboveZero, belowZero}
+use Rattle.binary64.specs.ExactCrossing.{distance}
 use Rattle.binary64.proofs.Order.{finite-between}
 use Rattle.binary64.proofs.Value.{Number, mag-parts, Le-of-le}
 use Rattle.binary64.proofs.Cut.{Small}

@@ -15,8 +15,8 @@ use lib.Pow.{pow-add, pow-pos, pow-lt}
 use lib.Ieee.{Float, Format, binary32, binary64, prec, low, add, sub, mul, div}
 use lib.Ieee.Scale.{overflow}
 use Rattle.binary64.specs.Interpolation.{interpolate}
-use Rattle.binary64.specs.Scaled.{mag, aboveZero, belowZero, unitsApart}
-use Rattle.binary64.specs.ExactCrossing.{Fraction, exactCrossing, OffAtMost}
+use Rattle.binary64.specs.Scaled.{mag, aboveZero, belowZero}
+use Rattle.binary64.specs.ExactCrossing.{unitsApart, Fraction, exactCrossing, OffAtMost}
 use Rattle.binary64.proofs.Value.{mag-parts}
 use Rattle.binary64.proofs.Rounding.{rnd, rnd-zero, rnd-mono, rnd-small, rnd-le, rnd-pos, in-format-power, Off, Room, rnd-off}
 use Rattle.binary64.proofs.Arithmetic.{rounded-mag, mul-shrinks}

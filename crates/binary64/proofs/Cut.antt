@@ -10,7 +10,8 @@ use lib.Pow.{pow-mono}
 use lib.Ieee.{Float, Format, prec, add, sub, mul, div}
 use lib.Ieee.Scale.{overflow}
 use Rattle.binary64.specs.Interpolation.{interpolate}
-use Rattle.binary64.specs.Scaled.{mag, aboveZero, belowZero, distance, unitsApart}
+use Rattle.binary64.specs.Scaled.{mag, aboveZero, belowZero}
+use Rattle.binary64.specs.ExactCrossing.{distance, unitsApart}
 use Rattle.binary64.proofs.Value.{Le, Lt}
 use Rattle.binary64.proofs.Value.{Number, mag-whole, mag-parts}
 use Rattle.binary64.proofs.Rounding.{rnd, rnd-zero, rnd-mono, rnd-small, rnd-pos, Off, Room, rnd-off}

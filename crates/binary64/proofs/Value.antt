@@ -16,7 +16,8 @@ use lib.Ieee.Exact.{HasValue}
 use lib.Ieee.Fits.{down-pos, and-l, and-r}
 use lib.Ieee.Positive.{num, den, den-pos}
 use lib.Ieee.Scale.{overflow, finite}
-use Rattle.binary64.specs.Scaled.{sign, mag, aboveZero, belowZero, distance}
+use Rattle.binary64.specs.Scaled.{sign, mag, aboveZero, belowZero}
+use Rattle.binary64.specs.ExactCrossing.{distance}
 use Rattle.binary64.proofs.Order.{above, under, plusNum, minusNum, le-is-fractions}
 
 -- x ≤ y and x < y, of the whole numbers

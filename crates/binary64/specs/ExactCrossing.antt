@@ -1,10 +1,17 @@
 -- The exact crossing, and how far a number is from it (document 02, Point 8): "the exact one being a fraction of whole numbers scaled from
 -- the doubles". Numbers are whole here (specs/Scaled.antt), so nothing is rounded, and nothing is divided. Definitions only.
-use Prim.Native.Nat.{ℕ, _+_, _*_, _≤_, _<_}
+use Prim.Native.Nat.{ℕ, _+_, _-_, _*_, _≤_, _<_}
 use lib.Dec.{T}
 use lib.Ieee.{Float, Format}
 use lib.Ieee.Scale.{finite}
-use Rattle.binary64.specs.Scaled.{aboveZero, belowZero, unitsApart}
+use Rattle.binary64.specs.Scaled.{aboveZero, belowZero}
+
+-- how far apart two whole numbers are, and two numbers as whole numbers
+abbrev pub distance : ℕ → ℕ → ℕ
+distance a b = a - b + (b - a)
+
+abbrev pub unitsApart : Format → Float → Float → ℕ
+unitsApart f a b = distance (aboveZero f a + belowZero f b) (belowZero f a + aboveZero f b)
 
 -- (above − below) ÷ over
 pub record Fraction : Type 0 where

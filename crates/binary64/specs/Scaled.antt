@@ -1,6 +1,6 @@
 -- A finite number as a whole number: each taken times 2 ^ low, which for a double is 2 ^ 1074 (document 01, "Cut rings"). Every number of
 -- the format is whole then. Definitions only.
-use Prim.Native.Nat.{ℕ, _+_, _-_, _*_, _/_, _^_, _≤_}
+use Prim.Native.Nat.{ℕ, _+_, _*_, _/_, _^_, _≤_}
 use mathlib.Core.Bool.{Bool, false, cond}
 use lib.Ieee.{Float, nan, inf, fin, Format, low, up, down}
 
@@ -26,10 +26,3 @@ belowZero f x = cond (sign x) (mag f x) 0
 -- a less b is at most e
 abbrev pub LessAtMost : Format → Float → Float → ℕ → Type 0
 LessAtMost f a b e = aboveZero f a + belowZero f b ≤ aboveZero f b + belowZero f a + e
-
--- how far apart two whole numbers are, and two numbers as whole numbers
-abbrev pub distance : ℕ → ℕ → ℕ
-distance a b = a - b + (b - a)
-
-abbrev pub unitsApart : Format → Float → Float → ℕ
-unitsApart f a b = distance (aboveZero f a + belowZero f b) (belowZero f a + aboveZero f b)
