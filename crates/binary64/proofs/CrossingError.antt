@@ -26,7 +26,7 @@ use Rattle.binary64.proofs.Errors.{rnd-part, div-off, mul-off}
 -- what is off by at most d is off by at most e, if that is more
 pub off-wider : {f : Format} {x : Float} {q : Fraction} {d e : ℕ} → d ≤ e → OffAtMost f x q d → OffAtMost f x q e
 off-wider {q = q} h o =
-    let more = mul-le-mul-left (q .over) h in
+    let more = mul-le-mul-left (q .divisor) h in
     record { is-finite = o .is-finite; is-fraction = o .is-fraction; above-by = omega arith; below-by = omega arith }
 
 -- ---- in whole numbers: n / m is the exact ratio, N / M that of the rounded differences, and t / L the computed one

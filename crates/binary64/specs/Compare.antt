@@ -1,5 +1,5 @@
 -- Comparisons of doubles as document 01 uses them: minimum and maximum (its head), nearness ("Unchanged", "Overlay wanted"), size ("Overlay
--- wanted", demand 3). That a number is neither NaN nor infinite is `finite` of `lib.Ieee.Scale`. Definitions only.
+-- wanted"; demand 3 and document 02, Point 8). That a number is neither NaN nor infinite is `finite` of `lib.Ieee.Scale`. Definitions only.
 use mathlib.Core.Bool.{Bool, true, false, _&&_, _||_, cond}
 use Prim.Native.Nat.{_^_}
 use lib.IntN.{pos}

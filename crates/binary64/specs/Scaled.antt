@@ -9,7 +9,7 @@ sign nan = false
 sign (inf s) = s
 sign (fin s m e) = s
 
--- the size, and 0 for what is not finite
+-- the size, and 0 for what is not finite; of a number of the format nothing is rounded off, since `down e` divides 2 ^ low there
 abbrev pub mag : Format → Float → ℕ
 mag f nan = 0
 mag f (inf s) = 0

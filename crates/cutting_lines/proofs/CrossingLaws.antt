@@ -1,11 +1,9 @@
--- The crossing is near the exact one (specs/CrossingError.antt), the line as a parameter: within 1 / 2 ^ 42, and so within 1 / 2 ^ 40, as
--- is asked for. Assumes nothing.
+-- The crossing is close to the exact one (specs/CrossingError.antt), the line as a parameter: within 1 / 2 ^ 42, and so within 1 / 2 ^ 40,
+-- as is asked for. Assumes nothing.
 use mathlib.Core.Path.{_≡_, refl}
-use mathlib.Core.Bool.{not}
 use Prim.Native.Nat.{_^_}
 use lib.Dec.{T, lit≤, lit<}
 use lib.Ieee.{Float, binary64, fits}
-use Rattle.binary64.specs.Compare.{atMost256}
 use Rattle.binary64.specs.Interpolation.{interpolate}
 use Rattle.binary64.specs.ExactCrossing.{OffAtMost}
 use Rattle.binary64.proofs.AtMost256.{at-most-small}
@@ -18,7 +16,7 @@ use Rattle.tile.specs.declared.Edge.{Edge}
 use Rattle.tile.specs.declared.Edge.the-variants.{Left, Right, Bottom, Top}
 use Rattle.tile.specs.Magnitude.{CoordAtMost256}
 use Rattle.cutting_lines.specs.CuttingLines.{fixed, free, place, bound, isLow, inside, crossing}
-use Rattle.cutting_lines.specs.CrossingError.{exactFree, NearExact}
+use Rattle.cutting_lines.specs.CrossingError.{OneCut, exactFree, WithinError}
 
 -- bounds and a coordinate whose numbers are doubles
 abbrev pub FittingBounds : TileBounds → Type 0
@@ -54,19 +52,18 @@ free-place Top v u = refl
 
 -- ---- one cut
 -- within 1 / 2 ^ 42, as near as demand 3 has the overrun
-pub crossing-off : (l : Edge) (b : TileBounds) (s e : Coord) → FittingBounds b → FittingCoord s → FittingCoord e
-    → inside l b e ≡ not (inside l b s) → T (atMost256 (bound l b)) → CoordAtMost256 s → CoordAtMost256 e
+pub crossing-off : (l : Edge) (b : TileBounds) (s e : Coord) → FittingBounds b → FittingCoord s → FittingCoord e → OneCut l b s e
     → OffAtMost binary64 (free l (crossing l b s e)) (exactFree l b s e) (2 ^ 1032)
 unfolding inside crossing
-crossing-off l b s e fb fs fe ends hb hs he =
-    let c = at-most-small (bound-fits l b fb, hb) in
-    let vs = small l s fs hs in
-    let ve = small l e fe he in
+crossing-off l b s e fb fs fe cut =
+    let c = at-most-small (bound-fits l b fb, cut .1) in
+    let vs = small l s fs (cut .2) in
+    let ve = small l e fe (cut .3) in
     rw (free-place l (bound l b) (interpolate binary64 (bound l b) (fixed l s) (fixed l e) (free l s) (free l e)))
     (interpolate-off binary64 1029 (lit< tt) c (vs .0) (ve .0) (vs .1) (ve .1)
-    (between (isLow l) (inside l b s) (c .number) (vs .0 .number) (ve .0 .number) refl ends))
+    (between (isLow l) (inside l b s) (c .number) (vs .0 .number) (ve .0 .number) refl (cut .0)))
 
 -- Point 8
-pub crossing-near : (l : Edge) (b : TileBounds) (s e : Coord) → FittingBounds b → FittingCoord s → FittingCoord e
-    → NearExact l b s e (crossing l b s e)
-crossing-near l b s e fb fs fe ends hb hs he = off-wider (lit≤ tt) (crossing-off l b s e fb fs fe ends hb hs he)
+pub crossing-error : (l : Edge) (b : TileBounds) (s e : Coord) → FittingBounds b → FittingCoord s → FittingCoord e
+    → WithinError l b s e (crossing l b s e)
+crossing-error l b s e fb fs fe cut = off-wider (lit≤ tt) (crossing-off l b s e fb fs fe cut)

@@ -13,7 +13,7 @@ pub struct Verdict {
     pub verdicts: usize,
 }
 
-// Whether a vertex is in by one edge: on the edge counts as in, and NaN is out.
+// Whether a vertex is in by one line: on the line counts as in, and NaN is out.
 fn is_inside(coord: Coord, edge: Edge, bounds: TileBounds) -> bool
     ensures { λ r. ⌜ r ≡ CuttingLines.inside edge bounds coord ⌝ }
 {

@@ -18,7 +18,7 @@ use Rattle.sutherland_hodgman.specs.Growth.{fourHalfGrowths}
 abbrev pub LatitudeInBounds : TileBounds → Coord → Type 0
 LatitudeInBounds b p = T (le (b .«lat_min») (p .y)) × T (le (p .y) (b .«lat_max»))
 
--- 1/2^42, times 2^1074
+-- 1/2^42, times 2^1074: of a ring behind four passes. How far one crossing is from the exact one, `CrossingError` of `cutting_lines` says.
 abbrev pub overrun : ℕ
 overrun = 2 ^ 1032
 

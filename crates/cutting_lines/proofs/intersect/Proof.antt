@@ -1,19 +1,19 @@
--- `intersect` meets its contract: each arm knows its edge, and the crossing is near the exact one. Assumes nothing.
+-- `intersect` meets its contract: each arm knows its edge, and the crossing is within the error of the exact one. Assumes nothing.
 use mathlib.Core.Path.{_≡_}
 use borrow.Author.Needs.{needs}
 use Rattle.tile.specs.declared.Coord.{Coord}
 use Rattle.tile.specs.declared.TileBounds.{TileBounds}
 use Rattle.tile.specs.declared.Edge.{Edge}
 use Rattle.cutting_lines.specs.CuttingLines.{crossing}
-use Rattle.cutting_lines.specs.CrossingError.{NearExact}
-use Rattle.cutting_lines.proofs.CrossingLaws.{FittingBounds, FittingCoord, crossing-near}
+use Rattle.cutting_lines.specs.CrossingError.{WithinError}
+use Rattle.cutting_lines.proofs.CrossingLaws.{FittingBounds, FittingCoord, crossing-error}
 use Rattle.cutting_lines.proofs.intersect.Statement.{statement}
 use Rattle.cutting_lines.proofs.intersect.Tie as tie
 
--- what is answered is the crossing, so it is near the exact one
+-- what is answered is the crossing, so it is within the error
 told : (l : Edge) (b : TileBounds) (s e : Coord) {r : Coord} → r ≡ crossing l b s e → FittingBounds b → FittingCoord s → FittingCoord e
-    → (r ≡ crossing l b s e) × NearExact l b s e r
-told l b s e is fb fs fe = (is, rw is (crossing-near l b s e fb fs fe))
+    → (r ≡ crossing l b s e) × WithinError l b s e r
+told l b s e is fb fs fe = (is, rw is (crossing-error l b s e fb fs fe))
 
 enum-told : tie.Need-enum-told
 enum-told c = search needs
