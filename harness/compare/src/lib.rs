@@ -1,8 +1,10 @@
-//! Compares the oracle with the second reading on what the generator makes, and shows that a mistaken reading is found.
+//! Compares the oracle with the second reading on what the generator makes, judges single cuts by it, and shows that a mistaken reading
+//! is found.
 
 pub mod calls;
 pub mod campaign;
 pub mod command;
+pub mod cuts;
 pub mod frames;
 pub mod lines;
 pub mod mistakes;

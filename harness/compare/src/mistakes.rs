@@ -1,13 +1,14 @@
-//! Shows that what the generator makes tells a mistaken reading from the Rust.
+//! Shows that what the generator makes tells a mistaken reading from the Rust, and the single cuts of one from exact crossings.
 
 use std::fmt;
 use std::sync::atomic::{AtomicU64, Ordering};
 
-use generator::{Kind, Style};
+use generator::{CutKind, Kind, Style};
 use reading::{Mistake, Place, Reading};
 
 use crate::calls::{ring_call, slice_call, styles};
 use crate::campaign::{self, Campaign};
+use crate::cuts::{self, crossing, judge};
 use crate::frames;
 use crate::passes::pass;
 
@@ -18,6 +19,7 @@ enum Source {
     RingCalls(Style),
     SliceCalls(Style),
     Passes(Style),
+    Cuts(CutKind),
 }
 
 impl Source {
@@ -28,11 +30,12 @@ impl Source {
             Source::RingCalls(_) => Place::RingCalls,
             Source::SliceCalls(_) => Place::SliceCalls,
             Source::Passes(_) => Place::Passes,
+            Source::Cuts(_) => Place::Cuts,
         }
     }
 }
 
-/// How often each mistake, in each place that it shows in, gave another answer than the Rust.
+/// How often each mistake, in each place that it shows in, gave another answer than the Rust, or a cut that breaks what is promised of it.
 pub struct Search {
     campaign: Campaign,
     found: Vec<(Place, Mistake, u64)>,
@@ -52,9 +55,9 @@ pub fn search(seed: u64, count: u64, enough: u64) -> Search {
         if looked_for.peek().is_none() {
             return Ok("passed over");
         }
-        let differs = differs_from_oracle(source, seed, index);
+        let differs = differs(source, seed, index);
         if differs(&Reading::RIGHT) {
-            return Err(format!("in {:?}, the reading without a mistake differs from the Rust", source.place()));
+            return Err(format!("in {:?}, the reading without a mistake is told from what is right", source.place()));
         }
         for (_, mistake, times) in looked_for {
             times.fetch_add(u64::from(differs(&Reading::with(*mistake))), Ordering::Relaxed);
@@ -75,11 +78,13 @@ fn sources() -> Vec<(&'static str, Source)> {
     sources.extend(styles().into_iter().map(|(name, style)| (name, Source::RingCalls(style))));
     sources.extend(styles().into_iter().map(|(name, style)| (name, Source::SliceCalls(style))));
     sources.extend(styles().into_iter().map(|(name, style)| (name, Source::Passes(style))));
+    sources.extend(cuts::kinds().into_iter().map(|(name, kind)| (name, Source::Cuts(kind))));
     sources
 }
 
-/// Whether a reading answers the specimen otherwise than the Rust, counts otherwise, or leaves lent slices otherwise.
-fn differs_from_oracle(source: Source, seed: u64, index: u64) -> Box<dyn Fn(&Reading) -> bool> {
+/// Whether a reading answers the specimen otherwise than the Rust, counts otherwise, or leaves lent slices otherwise; of a cut, whether
+/// the crossing that it computes is not what it promises of one, as it reckons that itself.
+fn differs(source: Source, seed: u64, index: u64) -> Box<dyn Fn(&Reading) -> bool> {
     match source {
         Source::Frames(kind) => {
             let specimen = generator::frame(kind, seed, index);
@@ -105,6 +110,10 @@ fn differs_from_oracle(source: Source, seed: u64, index: u64) -> Box<dyn Fn(&Rea
             let call = generator::pass(style, seed, index);
             let oracle = call.after(oracle::pass(&call).as_ref());
             Box::new(move |reading| pass(reading, &call).difference(&oracle).is_some())
+        }
+        Source::Cuts(kind) => {
+            let cut = generator::cut(kind, seed, index);
+            Box::new(move |reading| judge(reading, &cut, crossing(reading, &cut)).is_err())
         }
     }
 }

@@ -1,10 +1,12 @@
 //! Document 01's added formats as the oracle reads them: frames, ring calls and slice calls, their refusals, and what a
-//! call leaves in the slices lent to it; and single passes of the ring cutter. Vertices of cuts have document 02's origins. The second
-//! reading works all of this out by itself; what it leaves is held in `RingAfter`, `SliceAfter` and `PassAfter` only to be compared.
+//! call leaves in the slices lent to it; single passes of the ring cutter, and single cuts. Vertices of cuts have document 02's origins.
+//! The second reading works all of this out by itself; what it leaves is held in `RingAfter`, `SliceAfter` and `PassAfter` only to be
+//! compared.
 
 pub mod answer;
 pub mod calls;
 mod cursor;
+pub mod cuts;
 pub mod frame;
 pub mod origins;
 pub mod passes;

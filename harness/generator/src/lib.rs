@@ -1,10 +1,11 @@
-//! The seeded generator: frames, program input, ring calls, slice calls, passes, pairs of edges and bounds. The same seed, kind and
-//! index give the same specimen always, so a difference is found again from three numbers.
+//! The seeded generator: frames, program input, ring calls, slice calls, passes, single cuts, pairs of edges and bounds. The same seed,
+//! kind and index give the same specimen always, so a difference is found again from three numbers.
 
 mod bounds;
 mod calls;
 mod collinear;
 mod corners;
+mod cuts;
 mod damage;
 mod exteriors;
 mod frames;
@@ -23,6 +24,7 @@ mod tangles;
 
 pub use bounds::bounds;
 pub use calls::{ring_call, slice_call};
+pub use cuts::{cut, CutKind};
 pub use exteriors::exterior;
 pub use frames::{frame, Kind, Specimen};
 pub use lines::lines;

@@ -44,7 +44,7 @@ fn around_1e150(rng: &mut Rng) -> f64 {
     rng.pick(&[9e149, 1e150, 1e150_f64.next_down(), 1e150_f64.next_up(), 3e150])
 }
 
-fn either_sign(magnitude: f64, rng: &mut Rng) -> f64 {
+pub fn either_sign(magnitude: f64, rng: &mut Rng) -> f64 {
     if rng.once_in(2) {
         -magnitude
     } else {

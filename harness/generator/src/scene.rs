@@ -230,7 +230,7 @@ fn bits_bounds(finite: bool, rng: &mut Rng) -> (Bounds, f64) {
 }
 
 /// A tile of the web-mercator grid, and a buffer in its pixels.
-fn tile_bounds(rng: &mut Rng) -> (Bounds, f64) {
+pub fn tile_bounds(rng: &mut Rng) -> (Bounds, f64) {
     let zoom = rng.between(0, 22);
     let tiles = 1_i64 << zoom;
     let (x, y) = (rng.between(0, tiles - 1) as f64, rng.between(0, tiles - 1) as f64);
@@ -243,7 +243,7 @@ fn tile_bounds(rng: &mut Rng) -> (Bounds, f64) {
 }
 
 /// Seven decimal places, as areas are often published.
-fn rounded(degrees: f64) -> f64 {
+pub fn rounded(degrees: f64) -> f64 {
     (degrees * 1e7).round() / 1e7
 }
 

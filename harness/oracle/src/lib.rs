@@ -1,7 +1,7 @@
 //! The oracle: what the unchanged Rust answers to document 01's calls. Result, coordinates, guard count and overlay calls
 //! come from one run of `clip_geometry_simple` on the whole geometry; only part numbers and reasons with their positions, which
-//! the Rust doesn't give, are asked of its predicates part by part. Single passes come from its `clip_ring_against_edge`. Origins,
-//! which it doesn't give either, come from a walk of its passes by its own verdicts and crossings.
+//! the Rust doesn't give, are asked of its predicates part by part. Single passes come from its `clip_ring_against_edge`, single
+//! cuts from its `intersect`. Origins, which it doesn't give either, come from a walk of its passes by its own verdicts and crossings.
 
 mod answer;
 mod convert;
@@ -26,7 +26,7 @@ use run::Hints;
 
 pub use issue::Issue;
 pub use lines::lines;
-pub use pass::pass;
+pub use pass::{crossing, pass};
 pub use tylertoo::tile::TileBounds;
 
 /// The frame call with `room` bytes of output.

@@ -1,6 +1,7 @@
 //! One pass: the vertices from the unchanged Rust, the count of verdicts from its traced copy, the origins from a walk. Where these
-//! cut differently the harness stops: then the copy is not the Rust, and its verdicts would not count.
+//! cut differently the harness stops: then the copy is not the Rust, and its verdicts would not count. And one cut of a pass.
 
+use formats::cuts::Cut;
 use formats::passes::{PassCall, Passed};
 use formats::shown::shortened;
 use formats::{flat, pairs, same_numbers};
@@ -25,6 +26,13 @@ pub fn pass(call: &PassCall) -> Option<Passed> {
     let vertices: Vec<Vertex> = ring.iter().zip(&call.origins).map(|(&at, &origin)| Vertex { at, origin }).collect();
     let cut = cut_ring_of(&walked_pass(&vertices, call.edge, &bounds));
     Some(Passed { cut, verdicts: verdicts_with_last_kept(&judged) })
+}
+
+/// Where the Rust's `intersect` cuts an edge.
+pub fn crossing(cut: &Cut) -> formats::Coord {
+    let [start, end] = [cut.start, cut.end].map(|(x, y)| Coord { x, y });
+    let Coord { x, y } = unchanged::opened::intersect(&start, &end, cut.edge as usize, &bounds_of(cut.bounds()));
+    (x, y)
 }
 
 fn numbers_of(coords: &[Coord<f64>]) -> Vec<f64> {

@@ -5,7 +5,10 @@ use crate::origins::{Closing, Made};
 use crate::polygon::Box4;
 use crate::{Mistake, Reading, Vertex};
 
-#[derive(Clone, Copy, PartialEq)]
+/// How far a mistaken reading moves a crossing: 1/2^39, twice what document 02's point 8 allows.
+const MOVED: f64 = 1.0 / (1u64 << 39) as f64;
+
+#[derive(Clone, Copy, Debug, PartialEq)]
 pub enum Side {
     Left,
     Right,
@@ -34,12 +37,29 @@ impl Side {
         }
     }
 
+    /// Whether a coordinate across the line is in: on the line is in, and a NaN is out.
+    pub fn holds(self, across: f64, bound: f64) -> bool {
+        match self {
+            Side::Left | Side::Bottom => across >= bound,
+            Side::Right | Side::Top => across <= bound,
+        }
+    }
+
     fn vertex(self, across: f64, along: f64) -> Vertex {
         match self {
             Side::Left | Side::Right => Vertex { x: across, y: along },
             Side::Bottom | Side::Top => Vertex { x: along, y: across },
         }
     }
+}
+
+/// One cut: the line, by its side and where it is, and the edge that it cuts, from start to end.
+#[derive(Clone, Copy, Debug)]
+pub struct Cut {
+    pub side: Side,
+    pub bound: f64,
+    pub start: Vertex,
+    pub end: Vertex,
 }
 
 /// What a pass gives: its vertices, and how many verdicts it worked out.
@@ -61,13 +81,8 @@ impl Judge<'_> {
         self.verdicts += 1;
         let (across, _) = self.side.across_and_along(v);
         let bound = self.side.bound(self.bounds);
-        if self.reading.makes(Mistake::OnLineIsOut) && across == bound {
-            return false;
-        }
-        match self.side {
-            Side::Left | Side::Bottom => across >= bound,
-            Side::Right | Side::Top => across <= bound,
-        }
+        let left_out = self.reading.makes(Mistake::OnLineIsOut) && across == bound;
+        self.side.holds(across, bound) && !left_out
     }
 
     /// One verdict more, which only this mistake works out, and which decides nothing.
@@ -125,8 +140,8 @@ impl Reading {
             let end_in = judge.is_in(end.vertex);
             if start_in != end_in {
                 judge.needlessly(Mistake::JudgesAgainAtCrossing, start.vertex);
-                let vertex = self.crossing(start.vertex, end.vertex, side, bounds);
-                vertices.push(Made { vertex, origin: self.crossing_origin(start, end, side) });
+                let cut = Cut { side, bound: side.bound(bounds), start: start.vertex, end: end.vertex };
+                vertices.push(Made { vertex: self.crossing(&cut), origin: self.crossing_origin(start, end, side) });
             }
             if end_in {
                 vertices.push(Made { vertex: end.vertex, origin: self.kept_origin(end, k, side, bounds) });
@@ -136,19 +151,32 @@ impl Reading {
         Passed { vertices, verdicts: judge.verdicts }
     }
 
-    fn crossing(&self, start: Vertex, end: Vertex, side: Side, bounds: &Box4) -> Vertex {
+    /// Where the line crosses the edge, as a pass works it out.
+    pub fn crossing(&self, &Cut { side, bound, start, end }: &Cut) -> Vertex {
         let (start, end) = if self.makes(Mistake::CrossingFromEnd) { (end, start) } else { (start, end) };
-        let bound = side.bound(bounds);
         let (from, from_along) = side.across_and_along(start);
         let (to, to_along) = side.across_and_along(end);
-        let t = (bound - from) / (to - from);
-        let along = if self.makes(Mistake::FusesCrossing) {
-            t.mul_add(to_along - from_along, from_along)
-        } else {
-            from_along + t * (to_along - from_along)
+        let t = self.share(bound, from, to);
+        let interpolated = from_along + t * (to_along - from_along);
+        let along = match self.mistake {
+            Some(Mistake::FusesCrossing) => t.mul_add(to_along - from_along, from_along),
+            Some(Mistake::CrossingTurnsAway) => from_along + t * (from_along - to_along),
+            Some(Mistake::FreeIsAcross) => from + t * (to - from),
+            Some(Mistake::CrossingMoved) => interpolated + MOVED,
+            Some(Mistake::NanForZero) if interpolated == 0.0 => f64::NAN,
+            _ => interpolated,
         };
         let across = if self.makes(Mistake::CrossingMissesBound) { from + t * (to - from) } else { bound };
         side.vertex(across, along)
+    }
+
+    /// How much of the way from the one end to the other the line is at.
+    fn share(&self, bound: f64, from: f64, to: f64) -> f64 {
+        match self.mistake {
+            Some(Mistake::DivisorTurnedRound) => (bound - from) / (from - to),
+            Some(Mistake::ShareOf32Bits) => f64::from((bound - from) as f32 / (to - from) as f32),
+            _ => (bound - from) / (to - from),
+        }
     }
 }
 

@@ -1,8 +1,9 @@
-//! A second reading of document 01 and of document 02's points 1, 3, 4, 5 and 12, written from their text alone: it shares no
+//! A second reading of document 01 and of document 02's points 1, 3, 4, 5, 8 and 12, written from their text alone: it shares no
 //! code with the oracle. It can make one deliberate mistake, so that the generator can be shown to find it.
 
 mod calls;
 mod cut;
+mod exact_crossing;
 mod frame;
 mod issues;
 mod mistake;
@@ -13,9 +14,11 @@ mod program;
 mod reason;
 mod ring;
 mod shared_point;
+mod whole;
 
 pub use calls::{Lent, PassCounts, PassInput, Slices};
-pub use cut::Side;
+pub use cut::{Cut, Side};
+pub use exact_crossing::{Distance, PROMISED};
 pub use issues::Issue;
 pub use mistake::{Mistake, Place};
 pub use origins::Made;

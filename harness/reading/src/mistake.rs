@@ -1,6 +1,6 @@
 //! The deliberate mistakes.
 
-use Place::{Frames, Lines, Passes, RingCalls, SliceCalls};
+use Place::{Cuts, Frames, Lines, Passes, RingCalls, SliceCalls};
 
 /// What a mistake shows in.
 #[derive(Clone, Copy, Debug, PartialEq, Eq)]
@@ -10,10 +10,11 @@ pub enum Place {
     RingCalls,
     SliceCalls,
     Passes,
+    Cuts,
 }
 
 impl Place {
-    pub const ALL: [Place; 5] = [Frames, Lines, RingCalls, SliceCalls, Passes];
+    pub const ALL: [Place; 6] = [Frames, Lines, RingCalls, SliceCalls, Passes, Cuts];
 }
 
 /// Declares the mistakes, their list, and the places that each of them shows in.
@@ -160,8 +161,31 @@ mistakes! {
         CrossingFromEnd,
         /// Fuses product and sum of the crossing.
         FusesCrossing,
+    }
+
+    [Frames, Passes, Cuts] {
         /// Computes the bound's own coordinate of a crossing too.
         CrossingMissesBound,
+    }
+
+    [Cuts] {
+        // How the free coordinate of a crossing is worked out.
+        /// Runs from the start away from the end.
+        CrossingTurnsAway,
+        /// Divides by the way from the end to the start.
+        DivisorTurnedRound,
+        /// Works out the share of the way in numbers of 32 bits.
+        ShareOf32Bits,
+        /// Interpolates the coordinate that the line bounds instead of the other one.
+        FreeIsAcross,
+        /// Moves it by 1/2^39.
+        CrossingMoved,
+        /// Answers a NaN for 0.
+        NanForZero,
+
+        // What the exact crossing is.
+        /// Weights each end by its own distance from the line.
+        WeightsExchanged,
     }
 
     [Frames, RingCalls, SliceCalls, Passes] {
