@@ -2,6 +2,7 @@
 
 pub mod bounds;
 pub mod calls;
+pub mod cuts;
 pub mod frames;
 pub mod issues;
 pub mod lines;

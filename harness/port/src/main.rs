@@ -5,15 +5,18 @@ use std::io::{stdin, Read};
 use std::process::exit;
 
 use compare::command::Command;
+use port::cuts::Comparison;
 use port::replay::{self, Replay};
 
-const USAGE: &str = "usage: port bounds|frames|issues|lines|pairs|passes|reader|rings|slices [--seed S] [--count N]
+const USAGE: &str =
+    "usage: port bounds|cuts|frames|issues|lines|pairs|passes|reader|rings|slices [--seed S] [--count N]
        port replay-rings|replay-slices <vectors";
 
 fn main() {
     let Command { what, seed, count } = Command::read(USAGE);
     let campaign = match what.as_str() {
         "bounds" => port::bounds::compare(seed, count),
+        "cuts" => report_cuts(&port::cuts::compare(seed, count)),
         "frames" => port::frames::compare(seed, count),
         "issues" => port::issues::compare(seed, count),
         "lines" => port::lines::compare(seed, count),
@@ -31,6 +34,11 @@ fn main() {
     };
     println!("{campaign}");
     exit(i32::from(campaign.difference().is_some()));
+}
+
+fn report_cuts(comparison: &Comparison) -> ! {
+    println!("{comparison}");
+    exit(i32::from(comparison.difference().is_some()));
 }
 
 fn input() -> Vec<u8> {
