@@ -160,7 +160,7 @@ impl Reading {
         let interpolated = from_along + t * (to_along - from_along);
         let along = match self.mistake {
             Some(Mistake::FusesCrossing) => t.mul_add(to_along - from_along, from_along),
-            Some(Mistake::CrossingTurnsAway) => from_along + t * (from_along - to_along),
+            Some(Mistake::ShareFromEnd) => to_along + t * (from_along - to_along),
             Some(Mistake::FreeIsAcross) => from + t * (to - from),
             Some(Mistake::CrossingMoved) => interpolated + MOVED,
             Some(Mistake::NanForZero) if interpolated == 0.0 => f64::NAN,

@@ -278,7 +278,7 @@ mod tests {
         };
         assert!(keeps_promise(Reading::RIGHT, &at_a_third) && keeps_promise(Reading::RIGHT, &at_zero));
         for mistake in [
-            Mistake::CrossingTurnsAway,
+            Mistake::ShareFromEnd,
             Mistake::DivisorTurnedRound,
             Mistake::ShareOf32Bits,
             Mistake::FreeIsAcross,

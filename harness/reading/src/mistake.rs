@@ -170,8 +170,8 @@ mistakes! {
 
     [Cuts] {
         // How the free coordinate of a crossing is worked out.
-        /// Runs from the start away from the end.
-        CrossingTurnsAway,
+        /// Goes the share of the way from the end.
+        ShareFromEnd,
         /// Divides by the way from the end to the start.
         DivisorTurnedRound,
         /// Works out the share of the way in numbers of 32 bits.
