@@ -24,7 +24,7 @@ use tile::ring::coord_at;
 use tile::ring::is_closed;
 use tile::ring::put;
 
-pub mod origins;
+mod origins;
 
 // What one pass answers: how many vertices it wrote, and how many verdicts it worked out.
 pub struct Pass {

@@ -13,8 +13,8 @@ pub fn kinds() -> [(&'static str, CutKind); CutKind::ALL.len()] {
     CutKind::ALL.map(|kind| (kind.name(), kind))
 }
 
-/// How far a crossing is from the exact one by this reading, or what of the promise it breaks: the bound itself is its fixed coordinate,
-/// and the free one is finite and near.
+/// How far a crossing is from the exact one by this reading, or what is wrong with it: its fixed coordinate is not the bound itself, or the
+/// free one is not finite, or not as near as is promised and proved.
 pub fn judge(reading: &Reading, cut: &Cut, crossing: Coord) -> Result<Distance, String> {
     let asked = read(cut);
     if !asked.is_covered() {

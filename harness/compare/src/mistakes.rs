@@ -35,7 +35,7 @@ impl Source {
     }
 }
 
-/// How often each mistake, in each place that it shows in, gave another answer than the Rust, or a cut that breaks what is promised of it.
+/// How often each mistake, in each place that it shows in, gave another answer than the Rust, or a crossing that is not as it should be.
 pub struct Search {
     campaign: Campaign,
     found: Vec<(Place, Mistake, u64)>,
@@ -83,7 +83,7 @@ fn sources() -> Vec<(&'static str, Source)> {
 }
 
 /// Whether a reading answers the specimen otherwise than the Rust, counts otherwise, or leaves lent slices otherwise; of a cut, whether
-/// the crossing that it computes is not what it promises of one, as it reckons that itself.
+/// the crossing that it computes is not on the bound or not as near to the exact one as is proved, as it reckons that itself.
 fn differs(source: Source, seed: u64, index: u64) -> Box<dyn Fn(&Reading) -> bool> {
     match source {
         Source::Frames(kind) => {

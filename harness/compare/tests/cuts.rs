@@ -6,6 +6,7 @@ use compare::cuts::{crossing, judge, kinds, PROVED};
 use formats::cuts::Cut;
 use formats::passes::Edge;
 use formats::same_numbers;
+use generator::CutKind;
 use reading::{Mistake, Reading};
 
 /// Its exact crossing is (10, 6.5).
@@ -94,6 +95,56 @@ fn the_generator_meets_every_shape_at_every_edge() {
     assert_eq!(met.len(), 4 * 20);
     let missed: Vec<_> = met.iter().filter(|(_, is_met)| !**is_met).collect();
     assert_eq!(missed, []);
+}
+
+#[test]
+fn every_cut_is_of_its_kind() {
+    for (name, kind) in kinds() {
+        for index in 0..5_000 {
+            let cut = generator::cut(kind, 1, index);
+            assert!(is_of_kind(kind, &cut), "{name}: {cut}");
+        }
+    }
+}
+
+/// Whether a cut has what every one of its kind has. Of cuts that are scattered, at tiles, of any bits or far off there is nothing to ask.
+fn is_of_kind(kind: CutKind, cut: &Cut) -> bool {
+    let [(from, from_free), (to, to_free)] = [cut.start, cut.end].map(|vertex| cut.fixed_and_free(vertex));
+    let (across, free) = ([cut.bound, from, to], [from_free, to_free]);
+    match kind {
+        CutKind::Scattered | CutKind::Tiles | CutKind::Bits | CutKind::FarOff => true,
+        CutKind::BesideLine => [from, to].iter().any(|&end| digits_apart(end, cut.bound) <= 4),
+        CutKind::OnLine => [from, to].contains(&cut.bound),
+        CutKind::Largest => free.iter().all(|free| digits_apart(free.abs(), 256.0) <= 8),
+        CutKind::PowersOfTwo => across.into_iter().filter(|&number| is_near_power_of_two(number)).count() >= 2,
+        CutKind::Subnormal => across.iter().all(|number| number.abs() < 2.0 * f64::MIN_POSITIVE),
+        CutKind::FreeAlike => {
+            let is_small = |number: f64| number.abs() < 2.0 * f64::MIN_POSITIVE;
+            digits_apart(from_free.abs(), to_free.abs()) <= 3 || free.into_iter().any(is_small)
+        }
+        CutKind::AlongLine => (to - from).abs() <= 0.125,
+        CutKind::StraightAcross => (to_free - from_free).abs() <= 1.0 / 256.0,
+    }
+}
+
+/// How many doubles lie from the one to the other, of which the zeros are one.
+fn digits_apart(a: f64, b: f64) -> u64 {
+    let place = |number: f64| {
+        let magnitude = number.abs().to_bits() as i64;
+        if number < 0.0 {
+            -magnitude
+        } else {
+            magnitude
+        }
+    };
+    place(a).abs_diff(place(b))
+}
+
+/// Up to seven last digits from one: six, and one more where two numbers of a cut must not be the same.
+fn is_near_power_of_two(number: f64) -> bool {
+    let near = |power: f64| digits_apart(number.abs(), power) <= 7;
+    let below = f64::from_bits(number.to_bits() & f64::INFINITY.to_bits());
+    near(below) || near(2.0 * below)
 }
 
 /// Whether a cut has each of these.

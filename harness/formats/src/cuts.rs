@@ -27,7 +27,7 @@ impl Cut {
         [west, south, east, north]
     }
 
-    /// The coordinate that the line fixes, and the free one.
+    /// The coordinate that the line fixes, and the free one: `vertex` the other way round.
     pub fn fixed_and_free(&self, (x, y): Coord) -> (f64, f64) {
         match self.edge {
             Edge::Left | Edge::Right => (x, y),
@@ -56,6 +56,14 @@ impl Cut {
         } else {
             self.turned()
         }
+    }
+}
+
+/// The vertex with these coordinates, the one that a line fixes and the free one.
+pub fn vertex(edge: Edge, fixed: f64, free: f64) -> Coord {
+    match edge {
+        Edge::Left | Edge::Right => (fixed, free),
+        Edge::Bottom | Edge::Top => (free, fixed),
     }
 }
 
@@ -94,6 +102,16 @@ mod tests {
             let on_line = Cut { bound: inner.0, ..outward };
             assert_eq!(on_line.turned().outward(), on_line);
         }
+    }
+
+    #[test]
+    fn a_vertex_has_the_coordinates_that_it_is_made_of() {
+        for edge in Edge::ALL {
+            let start = vertex(edge, 1.0, 2.0);
+            let cut = Cut { edge, bound: 7.0, start, end: (9.0, 9.0) };
+            assert_eq!(cut.fixed_and_free(start), (1.0, 2.0));
+        }
+        assert_eq!([vertex(Edge::Right, 1.0, 2.0), vertex(Edge::Bottom, 1.0, 2.0)], [(1.0, 2.0), (2.0, 1.0)]);
     }
 
     #[test]

@@ -1,7 +1,7 @@
 //! One cut at a time: a line and two ends, one in and the other out, of numbers up to 256, as document 02's point 8 has them. They are
 //! drawn at a line that has its inner side above it, and mirrored for Right and Top.
 
-use formats::cuts::Cut;
+use formats::cuts::{vertex, Cut};
 use formats::passes::Edge;
 
 use crate::numbers::either_sign;
@@ -19,7 +19,7 @@ pub enum CutKind {
     Bits,
     /// Lines of real web-mercator tiles, and ends about these in degrees.
     Tiles,
-    /// One end or both a few last digits from the line.
+    /// One end or both a few last digits from the line, or on it.
     BesideLine,
     /// One end on the line.
     OnLine,
@@ -27,9 +27,9 @@ pub enum CutKind {
     Largest,
     /// A few last digits from powers of two, where a rounding weighs most, and ends that make differences so.
     PowersOfTwo,
-    /// Subnormal numbers and zeros across the line.
+    /// Subnormal numbers, the least normal ones and zeros across the line: so are the differences.
     Subnormal,
-    /// Free coordinates that are equal, opposite, subnormal, or zeros of either sign.
+    /// Free coordinates that are equal or nearly, opposite, subnormal, or zeros of either sign.
     FreeAlike,
     /// The edge runs almost along the line, from far to far.
     AlongLine,
@@ -133,11 +133,8 @@ impl Drawn {
     fn at(&self, edge: Edge) -> Cut {
         let Across { bound, inner, outer } = self.across;
         let sign = if matches!(edge, Edge::Left | Edge::Bottom) { 1.0 } else { -1.0 };
-        let vertex = |fixed: f64, free: f64| match edge {
-            Edge::Left | Edge::Right => (sign * fixed, free),
-            Edge::Bottom | Edge::Top => (free, sign * fixed),
-        };
-        Cut { edge, bound: sign * bound, start: vertex(inner, self.free[0]), end: vertex(outer, self.free[1]) }
+        let end = |fixed: f64, free: f64| vertex(edge, sign * fixed, free);
+        Cut { edge, bound: sign * bound, start: end(inner, self.free[0]), end: end(outer, self.free[1]) }
     }
 }
 
@@ -172,9 +169,9 @@ fn bits(rng: &mut Rng) -> f64 {
     either_sign(f64::from_bits(rng.bits() % (LARGEST.to_bits() + 1)), rng)
 }
 
-/// Zero, a few of the least numbers, or any subnormal one.
+/// Zero, a few of the least numbers, any subnormal one, or one with the last digit of these.
 fn subnormal(rng: &mut Rng) -> f64 {
-    either_sign(f64::from_bits(rng.bits() >> rng.pick(&[12, 12, 30, 58, 61, 62, 63])), rng)
+    either_sign(f64::from_bits(rng.bits() >> rng.pick(&[11, 12, 30, 58, 61, 62, 63])), rng)
 }
 
 /// Up to so many last digits more or less.

@@ -6,8 +6,7 @@ use std::sync::Mutex;
 
 use compare::campaign::{self, Campaign};
 use compare::cuts::{judge, kinds, PROVED};
-use formats::cuts::Cut;
-use formats::passes::Edge;
+use formats::cuts::{vertex, Cut};
 use formats::room::{most_cut, most_passed};
 use formats::{flat, pairs, same_numbers, Coord, Ring};
 use generator::CutKind;
@@ -104,15 +103,11 @@ pub struct Given {
     pub ring: Ring,
 }
 
-/// The vertex that the cut starts at, its free coordinate moved by one towards zero: a ring that ends with it is not closed, so that no
-/// pass leaves it off.
+/// The vertex that the cut starts at, its free coordinate moved by one, up if it is below zero and else down, so that it stays within 256:
+/// a ring that ends with it is not closed, so that no pass leaves it off.
 fn beside(cut: &Cut) -> Coord {
-    let moved = |free: f64| if free < 0.0 { free + 1.0 } else { free - 1.0 };
-    let (x, y) = cut.start;
-    match cut.edge {
-        Edge::Left | Edge::Right => (x, moved(y)),
-        Edge::Bottom | Edge::Top => (moved(x), y),
-    }
+    let (fixed, free) = cut.fixed_and_free(cut.start);
+    vertex(cut.edge, fixed, if free < 0.0 { free + 1.0 } else { free - 1.0 })
 }
 
 /// One edge: the crossing that is furthest off, or how the port differs.

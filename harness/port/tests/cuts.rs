@@ -1,7 +1,7 @@
 //! Single cuts of the port against exact crossings and the Rust, the share that every test run takes; cuts worked by hand; and answers
 //! that are not as promised, each of which is noticed.
 
-use formats::cuts::Cut;
+use formats::cuts::{vertex, Cut};
 use formats::passes::Edge;
 use formats::Coord;
 use generator::CutKind;
@@ -18,11 +18,8 @@ fn cuts_are_near_the_exact_crossing() {
 /// A cut at Left, or turned and mirrored so that it is at another line.
 fn cut(edge: Edge, bound: f64, [ax, ay, bx, by]: [f64; 4]) -> Cut {
     let sign = if matches!(edge, Edge::Left | Edge::Bottom) { 1.0 } else { -1.0 };
-    let vertex = |fixed: f64, free: f64| match edge {
-        Edge::Left | Edge::Right => (sign * fixed, free),
-        Edge::Bottom | Edge::Top => (free, sign * fixed),
-    };
-    Cut { edge, bound: sign * bound, start: vertex(ax, ay), end: vertex(bx, by) }
+    let end = |fixed: f64, free: f64| vertex(edge, sign * fixed, free);
+    Cut { edge, bound: sign * bound, start: end(ax, ay), end: end(bx, by) }
 }
 
 /// Inward and outward; the third cut, to a vertex beside, is near.
@@ -45,8 +42,8 @@ fn worked_cuts_are_exact() {
     }
 }
 
-/// The start is 2^-53 below 0, the line and the end are the first and second double above 1: the two differences round apart by one part
-/// in 2^53 each, so that their quotient is 1, and the free coordinates' difference rounds up to 512.
+/// The start is 2^-53 below 0, the line and the end are the first and second double above 1: the two differences round towards each other
+/// by 2^-53 each and meet, so that their quotient is 1, and the free coordinates' difference rounds up to 512.
 #[test]
 fn a_cut_of_short_numbers_is_above_an_eighth_of_the_promise() {
     let (line, end) = (1.0_f64.next_up(), 1.0_f64.next_up().next_up());

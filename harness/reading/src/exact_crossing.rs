@@ -95,8 +95,8 @@ impl Signed {
 }
 
 impl Reading {
-    /// How far the free coordinate of a crossing is from the exact one; none where it is a NaN or infinite. The cut's own numbers are
-    /// finite, and across the line its ends are not at the same place.
+    /// How far the free coordinate of a crossing is from the exact one; none where it is a NaN or infinite. Asked only of a cut that
+    /// point 8 speaks of (`is_covered`): its numbers are finite, and the line lies between its ends.
     pub fn distance(&self, cut: &Cut, crossing: Vertex) -> Option<Distance> {
         let (_, along) = cut.side.across_and_along(crossing);
         if !along.is_finite() {

@@ -170,6 +170,8 @@ mod tests {
                 assert_eq!(product.plus(&power(a)).plus(&one), power(a + b).plus(&power(b)), "{a} {b}");
                 assert_eq!(power(b).apart(&one).times(&power(a).plus(&one)), product, "{a} {b}");
                 assert!(product < power(a + b).plus(&power(b)), "{a} {b}");
+                assert_eq!(product.shifted(b), product.times(&power(b)), "{a} {b}");
+                assert_eq!(product.shifted(a).shifted(b), product.shifted(a + b), "{a} {b}");
             }
         }
         assert_eq!(power(4_223).apart(&power(4_222)), power(4_222));
