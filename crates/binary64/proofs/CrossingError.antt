@@ -2,9 +2,9 @@
 -- at most 2 ^ (prec + k) units in size, and the line lies between the ends.
 -- For a double and k = 1029: at most 256, off by at most 1 / 2 ^ 42. Assumes nothing.
 --
--- With q = 2 ^ prec, each of the five roundings before the sum is off by one part in q, or in 2 * q for the quotient, which is at most 1.
--- Two of them are in the quotient's operands, which so is off by at most 5 / (2 * q). Times a difference of at most 2 * q units of 2 ^ k
--- that is 5 of them; the difference, the product and the sum are off by 1 each.
+-- Why 8: with q = 2 ^ prec, the two differences in the fixed coordinate are off by one part in q each, and the quotient, which is at most
+-- 1, by 1 / (2 * q) besides. So it is off by at most 5 / (2 * q). Times the difference in the free coordinate, which is at most 2 * q times
+-- 2 ^ k units, that makes 5 times 2 ^ k; and this difference, the product and the sum are rounded by at most 2 ^ k each.
 use mathlib.Core.Path.{_≡_, refl, sym, ap, _∙_}
 use mathlib.Core.Logic.{inl, inr}
 use Prim.Native.Nat.{ℕ, suc, _+_, _-_, _*_, _^_, _≤_, _<_}
