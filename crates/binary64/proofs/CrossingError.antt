@@ -18,9 +18,9 @@ use Rattle.binary64.specs.Interpolation.{interpolate}
 use Rattle.binary64.specs.Scaled.{mag, aboveZero, belowZero}
 use Rattle.binary64.specs.ExactCrossing.{unitsApart, Fraction, exactCrossing, OffAtMost}
 use Rattle.binary64.proofs.Value.{mag-parts}
-use Rattle.binary64.proofs.Rounding.{rnd, rnd-zero, rnd-mono, rnd-small, rnd-le, rnd-pos, in-format-power, Off, Room, rnd-off}
+use Rattle.binary64.proofs.Rounding.{rnd, rnd-mono, rnd-small, rnd-le, rnd-pos, in-format-power, Off, Room, rnd-off}
 use Rattle.binary64.proofs.Arithmetic.{rounded-mag, mul-shrinks}
-use Rattle.binary64.proofs.Cut.{Small, Between, apart-le, sub-small, part-of, ratio, mixed}
+use Rattle.binary64.proofs.Cut.{Small, Between, apart-le, sub-small, rnd-of-zero, part-of, ratio, mixed}
 use Rattle.binary64.proofs.Errors.{rnd-part, div-off, mul-off}
 
 -- what is off by at most d is off by at most e, if that is more
@@ -75,6 +75,10 @@ sum-off m n x y p low high D e z a o =
     let a2 : m * (y + p) ≤ m * (x + e) = mul-le-mul-left m (a .1) in
     (omega arith, omega arith)
 
+-- 2 ^ (prec + k + 1) as a product
+power : (f : Format) (k : ℕ) → 2 ^ (prec f + suc k) ≡ 2 ^ prec f * (2 ^ k + 2 ^ k)
+power f k = pow-add 2 (prec f) (suc k) ∙ ap (λ (x : ℕ). 2 ^ prec f * x) (two-pow-succ k)
+
 -- the last digit of 1, of which the quotient is off by half at most
 last-digit : (f : Format) → (j : ℕ) × (low f ≡ prec f + suc j)
 last-digit binary32 = (124, refl)
@@ -111,10 +115,8 @@ module _ (f : Format) (k : ℕ) (room : Room f (suc k)) where
       rw (← sub-mag hb ha, ← sub-mag hc ha) (div-off (j .0) (j .1) (sub-small room-k hc ha .number) (sub-small room-k hb ha .number)
       (part-of room-k hc ha hb w)) in
       ratio-off n m (rnd f n) (rnd f m) (2 ^ prec f) (mag f (div f (sub f c va) (sub f vb va))) (2 ^ low f) (2 ^ j .0) (b .0)
-      (rnd-mono f n m (b .0) small) (rnd-pos f m (b .1) small) (one (j .0) (j .1)) (apart-part hc ha) (apart-part hb ha) off
-    where
-      one : (j : ℕ) → low f ≡ prec f + suc j → 2 ^ prec f * (2 ^ j + 2 ^ j) ≡ 2 ^ low f
-      one j e = ap (λ (x : ℕ). 2 ^ prec f * x) (sym (two-pow-succ j)) ∙ sym (pow-add 2 (prec f) (suc j)) ∙ ap (λ (x : ℕ). 2 ^ x) (sym e)
+      (rnd-mono f n m (b .0) small) (rnd-pos f m (b .1) small) (sym (ap (λ (x : ℕ). 2 ^ x) (j .1) ∙ power f (j .0))) (apart-part hc ha)
+      (apart-part hb ha) off
 
   computed-product : {c va vb ua ub : Float} → Small f k c → Small f k va → Small f k vb → Small f k ua → Small f k ub → Between f va c vb
       → Off (mag f (mul f (div f (sub f c va) (sub f vb va)) (sub f ub ua)) * unitsApart f vb va) (unitsApart f c va * unitsApart f ub ua)
@@ -130,7 +132,7 @@ module _ (f : Format) (k : ℕ) (room : Room f (suc k)) where
       product-off (unitsApart f c va) (unitsApart f vb va) (2 ^ prec f) (mag f t) (2 ^ low f) (mag f (mul f t d)) (rnd f D) D (2 ^ k)
       (pow-pos (low f)) (pow-pos (prec f)) (between-le c va vb w .0) (computed-ratio hc hva hvb w) off
       (rnd-off f k D room-k (apart-le hub hua))
-      (le-trans d-le (le-of-eq (pow-add 2 (prec f) (suc k) ∙ ap (λ (x : ℕ). 2 ^ prec f * x) (two-pow-succ k))))
+      (le-trans d-le (le-of-eq (power f k)))
 
   -- ---- the law
   pub interpolate-off : {c va vb ua ub : Float} → Small f k c → Small f k va → Small f k vb → Small f k ua → Small f k ub
@@ -152,11 +154,11 @@ module _ (f : Format) (k : ℕ) (room : Room f (suc k)) where
       let both : Off (m * (aboveZero f u + belowZero f ua) + n * low) (m * (aboveZero f ua + belowZero f u) + n * high) (m * (8 * 2 ^ k)) =
       elim (eq-zero-or-pos (low - high)) [
         | inl e ↦
-            let z : belowZero f (sub f ub ua) ≡ 0 = d .minus-is ∙ ap (rnd f) e ∙ rnd-zero f in
+            let z : belowZero f (sub f ub ua) ≡ 0 = d .minus-is ∙ rnd-of-zero f (low - high) e in
             sum-off m n (aboveZero f u + belowZero f ua) (aboveZero f ua + belowZero f u) (mag f p) low high (unitsApart f ub ua) (2 ^ k)
             (omega arith) (omega (arith, s .sum, shrinks .minus-le)) off
         | inr l ↦
-            let z : aboveZero f (sub f ub ua) ≡ 0 = d .plus-is ∙ ap (rnd f) (omega arith) ∙ rnd-zero f in
+            let z : aboveZero f (sub f ub ua) ≡ 0 = d .plus-is ∙ rnd-of-zero f (high - low) (omega arith) in
             let o = sum-off m n (aboveZero f ua + belowZero f u) (aboveZero f u + belowZero f ua) (mag f p) high low (unitsApart f ub ua)
             (2 ^ k) (omega arith) (omega (arith, s .sum, shrinks .plus-le)) off in
             (o .1, o .0)

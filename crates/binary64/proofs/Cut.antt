@@ -46,7 +46,7 @@ Upward f a c b = Le f a c × Le f c b × Lt f a b
 abbrev pub Between : Format → Float → Float → Float → Type 0
 Between f a c b = Upward f a c b ⊎ Upward f b c a
 
-rnd-of-zero : (f : Format) (n : ℕ) → n ≡ 0 → rnd f n ≡ 0
+pub rnd-of-zero : (f : Format) (n : ℕ) → n ≡ 0 → rnd f n ≡ 0
 rnd-of-zero f n e = ap (rnd f) e ∙ rnd-zero f
 
 -- p - q lies from 0 to r - s, and so do the two when rounded

@@ -2,7 +2,7 @@
 -- whole numbers of units. Assumes nothing.
 use mathlib.Core.Path.{_≡_, sym, ap, ap₂, _∙_}
 use mathlib.Core.Logic.{inl, inr}
-use mathlib.Core.Bool.{Bool, true, false}
+use mathlib.Core.Bool.{Bool}
 use Prim.Native.Nat.{ℕ, suc, _+_, _-_, _*_, _^_, _≤_, _<_}
 use native.Mathlib.Nat.{le-trans, le-of-eq, lt-of-lt-of-le, lt-of-le-of-lt, eq-zero-or-pos, mul-one, mul-le-mul-right}
 use native.Mathlib.Nat.{le-of-mul-le-mul-right, mul-pos}
@@ -13,8 +13,8 @@ use lib.Ieee.Digits.{size-lt, size-le, size-reaches}
 use lib.Ieee.Fits.{down-pos}
 use lib.Ieee.Scale.{grid, overflow}
 use Rattle.binary64.specs.Scaled.{mag, aboveZero, belowZero}
-use Rattle.binary64.proofs.Order.{above, under}
-use Rattle.binary64.proofs.Value.{Number, mag-whole, mag-parts}
+use Rattle.binary64.proofs.Order.{above}
+use Rattle.binary64.proofs.Value.{Number, above-under, mag-whole, mag-parts}
 use Rattle.binary64.proofs.Rounding.{rnd, rnd-in-format, round-parts, in-format-power, grid-le-in-format}
 use Rattle.binary64.proofs.Rounding.{Off, Room, grid-off, rnd-off}
 use Rattle.binary64.proofs.Arithmetic.{Ratio, PartOf, quotient, product-le}
@@ -52,15 +52,10 @@ rnd-part f k n room h = elim (eq-zero-or-pos (size n - prec f)) [ inl e ↦ few 
 round-mag : (f : Format) (s : Bool) (a c : ℕ) → grid f a c < overflow f → mag f (round f s a c) ≡ grid f a c
 round-mag f s a c h =
     let r = round-parts f s a c h in
-    sym (mag-parts f (round f s a c) .0) ∙ ap₂ _+_ (r .plus-is) (r .minus-is) ∙ whole s (grid f a c)
-  where
-    whole : (s : Bool) (a : ℕ) → above s a + under s a ≡ a
-    whole true a = omega arith
-    whole false a = omega arith
+    sym (mag-parts f (round f s a c) .0) ∙ ap₂ _+_ (r .plus-is) (r .minus-is) ∙ above-under s (grid f a c) .0
 
 above-le : (s : Bool) (a : ℕ) → above s a ≤ a
-above-le true a = omega arith
-above-le false a = omega arith
+above-le s a = omega (arith, above-under s a .0)
 
 -- ---- a quotient that is at most 1, times the divisor: k is such that 1 has its last digit at 2 ^ (k + 1) units
 pub div-off : {f : Format} {x y : Float} (k : ℕ) → low f ≡ prec f + suc k → Number f x → Number f y → PartOf f x y

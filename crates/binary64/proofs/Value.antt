@@ -110,13 +110,13 @@ mag-whole {f} {x = fin s m e} h =
 
 -- ---- the two parts
 -- one of them is the size, and the other is 0
+pub above-under : (s : Bool) (a : ℕ) → (above s a + under s a ≡ a) × (distance (above s a) (under s a) ≡ a)
+above-under true a = omega arith
+above-under false a = omega arith
+
 pub mag-parts : (f : Format) (x : Float) → (aboveZero f x + belowZero f x ≡ mag f x) × (distance (aboveZero f x) (belowZero f x) ≡ mag f x)
 unfolding aboveZero belowZero
-mag-parts f x = go (sign x) (mag f x)
-  where
-    go : (s : Bool) (a : ℕ) → (above s a + under s a ≡ a) × (distance (above s a) (under s a) ≡ a)
-    go true a = omega arith
-    go false a = omega arith
+mag-parts f x = above-under (sign x) (mag f x)
 
 pub parts-of-value : (f : Format) (x : Float) (s : Bool) (a : ℕ) → HasValue x s a (2 ^ low f) → T (fits f x)
     → Parts f x (above s a) (under s a)
