@@ -1,18 +1,21 @@
 -- Laws of the issue finder: neighbours that repeat, by place, the cases of `issueOf`, and whether it is an issue. Assumes nothing.
 use mathlib.Core.Path.{_≡_, refl, sym, ap, _∙_}
-use mathlib.Core.Bool.{Bool, true, false, not, _||_, _&&_, cond}
+use mathlib.Core.Bool.{Bool, true, false, not, _||_, _&&_, cond, and-false, true≢false}
 use mathlib.Core.List.{List, [], _∷_}
 use Prim.Native.Nat.{ℕ, suc, _+_, _*_, _≤_, _<_}
 use native.Mathlib.Numerals.{add-one}
 use native.Mathlib.Omega.{arith}
 use lib.ListN.{length, getD, drop, length-drop}
 use lib.Seq.{drop-cons}
-use lib.Ieee.{Float, nan}
+use lib.Ieee.{Float, nan, inf, fin, eq, ne, lt, sub, add, neg}
+use lib.Ieee.Compare.{differs-from-itself}
 use lib.Dec.{ltb}
 use borrow.Author.Tests.{lt-ltb, le-ltb}
+use Rattle.binary64.specs.Compare.{magnitude, near}
 use Rattle.binary64.proofs.Booleans.{never-both}
 use Rattle.tile.specs.declared.Coord.{Coord}
 use Rattle.tile.specs.Contracts.{coordAt}
+use Rattle.tile.specs.Ring.{same}
 use Rattle.tile.proofs.Rings.{front-at, length-front}
 use Rattle.box_pairs.specs.declared.Issue.the-variants.{Sound, Short}
 use Rattle.box_pairs.specs.declared.Repeat.{Repeat}
@@ -28,6 +31,26 @@ use Rattle.box_pairs.proofs.First.{isPair}
 use Rattle.box_pairs.proofs.Edges.{crossing-first, pair-below}
 
 -- ---- neighbours
+
+near-nan : (a : Float) → near a nan ≡ false
+unfolding near magnitude sub add neg lt
+near-nan nan = refl
+near-nan (inf s) = refl
+near-nan (fin s m e) = refl
+
+differs-nan : (x : Float) → eq x x ≡ false → x ≡ nan
+unfolding ne
+differs-nan x e = differs-from-itself x (rw e tt)
+
+-- a coordinate that differs from itself, since it holds a NaN, is near none
+pub near-none : (a p : Coord) → same p p ≡ false → degenerate a p ≡ false
+unfolding degenerate same
+near-none a p e = go (eq (p .x) (p .x)) (eq (p .y) (p .y)) refl refl e
+  where
+    go : (u v : Bool) → eq (p .x) (p .x) ≡ u → eq (p .y) (p .y) ≡ v → u && v ≡ false → near (a .x) (p .x) && near (a .y) (p .y) ≡ false
+    go true true f g h = absurd (true≢false h)
+    go true false f g h = rw (differs-nan (p .y) g, near-nan (a .y)) (and-false (near (a .x) (p .x)))
+    go false v f g h = rw (differs-nan (p .x) f, near-nan (a .x))
 
 pub few : (l : List Coord) → length l ≤ 2 → repeated l ≡ false
 unfolding repeated
@@ -86,6 +109,13 @@ place-verdict j (p ∷ q ∷ s ∷ l) = go (degenerate p q) (place-verdict (suc 
 
 pub repeated-first : (l : List Coord) → isRepeat (firstRepeated l) ≡ repeated l
 repeated-first l = place-verdict 0 l
+
+no-place : (x : Repeat) → isRepeat x ≡ false → x ≡ Repeats.None
+no-place Repeats.None e = refl
+no-place (Repeats.At k) e = absurd (true≢false e)
+
+pub first-none : (l : List Coord) → repeated l ≡ false → firstRepeated l ≡ Repeats.None
+first-none l e = no-place (firstRepeated l) (repeated-first l ∙ e)
 
 module _ (s : List Float) (n : ℕ) (room : 2 * n ≤ length s) where
   pub repeated-next : (k : ℕ) → k + 2 < n

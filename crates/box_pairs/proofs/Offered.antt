@@ -7,12 +7,14 @@ use Prim.Native.Nat.{ℕ, _+_, _<_, _≤_}
 use lib.ListN.{length, getD, drop}
 use borrow.Author.Tests.{lt-ltb, le-ltb}
 use Rattle.tile.specs.declared.Coord.{Coord}
+use Rattle.tile.specs.Ring.{same}
 use Rattle.box_pairs.specs.declared.Issue.the-variants.{Sound}
+use Rattle.box_pairs.specs.declared.Repeat.the-variants as Repeats
 use Rattle.box_pairs.specs.Contracts.{PairBelow, IssueBelow}
 use Rattle.box_pairs.specs.Cross.{degenerate}
 use Rattle.box_pairs.specs.Pairs.{firstPair}
 use Rattle.box_pairs.specs.Contracts.{repeated}
-use Rattle.box_pairs.specs.Issue.{issueOf, hasIssue}
+use Rattle.box_pairs.specs.Issue.{firstRepeated, issueOf, hasIssue}
 use Rattle.box_pairs.proofs.Edges as edges
 use Rattle.box_pairs.proofs.Issues as issues
 
@@ -26,6 +28,14 @@ repeated-few = issues.few
 pub repeated-from : (l : List Coord) (k : ℕ) (z : Coord) → k + 2 < length l
     → repeated (drop k l) ≡ degenerate (getD l k z) (getD l (k + 1) z) || repeated (drop (k + 1) l)
 repeated-from = issues.one-more
+
+-- where none repeat, no position is told
+pub repeated-none : (l : List Coord) → repeated l ≡ false → firstRepeated l ≡ Repeats.None
+repeated-none = issues.first-none
+
+-- a coordinate that differs from itself, since it holds a NaN, is near none
+pub near-none : (a p : Coord) → same p p ≡ false → degenerate a p ≡ false
+near-none = issues.near-none
 
 -- ---- the issue of an exterior that is assumed to be simple
 

@@ -131,7 +131,7 @@ unfolding close closed
 close-open [] z e = absurd (true≢false e)
 close-open (p ∷ r) z e = rw e
 
-last-append : (p : Coord) (r : List Coord) (q : Coord) → last p (r ++ (q ∷ [])) ≡ q
+pub last-append : (p : Coord) (r : List Coord) (q : Coord) → last p (r ++ (q ∷ [])) ≡ q
 unfolding last
 last-append p [] q = refl
 last-append p (s ∷ r) q = last-append s r q
