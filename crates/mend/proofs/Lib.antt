@@ -1,0 +1,4 @@
+pub mod Laws
+pub mod Offered
+mod Answers
+mod Walks

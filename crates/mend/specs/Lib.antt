@@ -1,0 +1,3 @@
+pub mod Mend
+pub mod MendCall
+pub mod Contracts
