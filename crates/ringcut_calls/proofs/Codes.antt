@@ -4,12 +4,18 @@ use mathlib.Core.List.{List}
 use Prim.Native.Nat.{ℕ, _*_, _≤_}
 use native.Mathlib.Omega.{arith}
 use lib.Dec.{lit<}
+use lib.Ieee.{Float}
 use lib.IntN.{pos, negℤ, _-ℤ_}
 use lib.ListN.{length}
 use mir.Syntax.{w64}
 use mir.Val.{SFits, toZ, ofZ}
 use borrow.Author.Needs.{sfits-of}
 use Rattle.sutherland_hodgman.specs.Growth.{mostCoordinates}
+use Rattle.mend.specs.declared.MendRefusal.{MendRefusal}
+use Rattle.mend.specs.declared.MendRefusal.the-variants as Mends
+use Rattle.mend.specs.declared.MendAnswer.the-variants as MendAnswers
+use Rattle.mend.specs.MendCall.{mendCallAnswer, mendCallCode}
+use Rattle.mend.proofs.Offered.{mended-count}
 use Rattle.ring_calls.specs.declared.Refusal.{Refusal}
 use Rattle.ring_calls.specs.declared.Refusal.the-variants.{Lengths, Coordinates, Scratch, Output}
 use Rattle.ring_calls.specs.declared.RingAnswer.the-variants.{Refused}
@@ -29,6 +35,15 @@ refusal-fits Lengths = sfits-of (lit< tt)
 refusal-fits Coordinates = sfits-of (lit< tt)
 refusal-fits Scratch = sfits-of (lit< tt)
 refusal-fits Output = sfits-of (lit< tt)
+
+pub mend-refusal-fits : (r : MendRefusal) → SFits w64 (mendCallCode (MendAnswers.Refused r))
+mend-refusal-fits Mends.Lengths = sfits-of (lit< tt)
+mend-refusal-fits Mends.Coordinates = sfits-of (lit< tt)
+mend-refusal-fits Mends.Output = sfits-of (lit< tt)
+mend-refusal-fits Mends.Short = sfits-of (lit< tt)
+
+pub mended-fit : (ring out : List Float) (n : ℕ) → mendCallAnswer ring out ≡ MendAnswers.Mended n → SFits w64 (pos n)
+mended-fit ring out n e = sfits-of (omega (arith, mended-count ring out n e .1))
 
 -- the same of a frame call: minus the refusal's number, as it is computed, and the count
 pub record Negated (r : FrameRefusal) : Type 0 where

@@ -2,6 +2,7 @@
 // says what they must be; a refusal is answered as minus its number.
 ghost use mathlib.Core.Path.{_≡_};
 ghost use Rattle.tile.specs.Bounds.{newOf};
+ghost use Rattle.mend.specs.MendCall.{mendCallAnswer, mendCallCode, mendCallOutput, MendPromise};
 ghost use Rattle.ring_calls.specs.RingCall.{ringSlices, ringCallAnswer, ringCallCode, ringCallSlices, RingCallPromise};
 ghost use Rattle.slices.specs.SliceCall.{polygonSlices, sliceCallAnswer, sliceCallSlices, sliceCallCode, sliceCallGuards, guardsIn};
 ghost use Rattle.frames.specs.Output.{frameCallOutput};
@@ -10,6 +11,8 @@ ghost use Rattle.ringcut_calls.specs.Flags.{isSet, flagsOf};
 use clip::polygon::Flags;
 use frame_bytes::reader::refusal_number;
 use frames::entry::FrameAnswer;
+use mend::MendAnswer;
+use mend::MendRefusal;
 use ring_calls::Refusal;
 use ring_calls::RingAnswer;
 use slices::call::SliceAnswer;
@@ -132,5 +135,31 @@ pub extern "C" fn ringcut_frame(frame: &[u8], out: &mut [u8]) -> i64
     match frames::entry::frame(frame, out) {
         FrameAnswer::Refused(r) => -(refusal_number(r) as i64),
         FrameAnswer::Answered(n) => n as i64,
+    }
+}
+
+// Minus the number of a refusal of the mending call.
+fn mend_refusal_code(r: MendRefusal) -> i64
+    ensures { λ c. ⌜ c ≡ mendCallCode (MendAnswer.Refused r) ⌝ }
+{
+    match r {
+        MendRefusal::Lengths => -19,
+        MendRefusal::Coordinates => -20,
+        MendRefusal::Output => -22,
+        MendRefusal::Short => -26,
+    }
+}
+
+// The mending call: the count of coordinates of the mended ring, which stands at the front of the output, or minus the refusal. A NaN
+// stands exactly where the definition has one, and its bits are free, also where the output is left as it was.
+#[no_mangle]
+pub extern "C" fn ringcut_mend(ring: &[f64], out: &mut [f64]) -> i64
+    ensures answer { λ c. ⌜ c ≡ mendCallCode (mendCallAnswer (now (ring .entry)) (now (out .entry))) ⌝ }
+    ensures lent { λ _. ⌜ now (out .exit) ≡ mendCallOutput (now (ring .entry)) (now (out .entry)) ⌝ }
+    ensures promise { λ _. ⌜ MendPromise (mendCallAnswer (now (ring .entry)) (now (out .entry))) (now (out .exit)) ⌝ }
+{
+    match mend::mend_ring(ring, out) {
+        MendAnswer::Refused(r) => mend_refusal_code(r),
+        MendAnswer::Mended(n) => n as i64,
     }
 }
