@@ -16,17 +16,18 @@
  *   20  over 65,532 coordinates
  *   21  a scratch slice or the order slice too short
  *   22  an output or a slice for lengths too short
+ *   26  fewer than 4 coordinates remain
  *
- * A frame call gives 11 to 18 and 22, the others 19 to 22: the first that holds in this order, 15 to 17 as a walk from the
- * frame's front meets them.
+ * A frame call gives 11 to 18 and 22, a ring call and a slice call 19 to 22, a mending call 19, 20, 22 and 26: the first that holds
+ * in this order, 15 to 17 as a walk from the frame's front meets them.
  *
  * What a call leaves in the slices that are not const. A refused call leaves them as they were. One that is not refused fills
  * both scratch slices and the order slice with zeros, from end to end. In a ring call and a slice call, which work in the two
  * outputs too, it also fills out with zeros (+0.0) and out_origins with zeros past its answer, whatever that is, up to the length
- * that the call needs of each, and leaves all beyond that length as it was. A frame call leaves the output past its answer as it
- * was. The slice for lengths stays as it was past a cut's lengths. All this is proved: of bytes and whole numbers exactly, of
- * doubles as far as the proofs tell two of them apart, which is by number and sign of zero, all NaNs being one. The code writes
- * nothing where it leaves a slice as it was, so the bits of a NaN stay there too: the tests see that, and no contract says it.
+ * that the call needs of each, and leaves all beyond that length as it was. A frame call and a mending call leave the output past
+ * their answer as it was. The slice for lengths stays as it was past a cut's lengths. All this is proved: of bytes and whole numbers
+ * exactly, of doubles as far as the proofs tell two of them apart, which is by number and sign of zero, all NaNs being one. The code
+ * writes nothing where it leaves a slice as it was, so the bits of a NaN stay there too: the tests see that, and no contract says it.
  *
  * What every call asks. A slice is a pointer and a length, counted in values of the pointer's type. The pointer is not null
  * and is aligned for its type, also where the length is 0 (any address of that type will do); that many values behind it can
@@ -67,11 +68,11 @@ extern "C" {
  * to be read at corner (edge + 1) % n.
  *
  * A corner is repeated where it and the next differ by less than 1e-10 in x and in y; only the last edge may be so short. The
- * first position is the first such corner, the second is 0. Whether two edges cross is tested in floating point; where all
- * eight numbers are whole multiples of 1/2^48 and at most 256 in magnitude they then also share a point, exactly. Where edges
- * cross, the first position is the lower edge and the second the higher one: of all pairs that cross, the one with the lowest
- * lower number, and of those the one with the lowest higher number. With assume_simple edges that cross are not looked for. A
- * short exterior is told before a repeated corner, and that before edges that cross.
+ * first position is the first such corner, the second is 0. ringcut_mend leaves none. Whether two edges cross is tested in
+ * floating point; where all eight numbers are whole multiples of 1/2^48 and at most 256 in magnitude they then also share a point,
+ * exactly. Where edges cross, the first position is the lower edge and the second the higher one: of all pairs that cross, the one
+ * with the lowest lower number, and of those the one with the lowest higher number. With assume_simple edges that cross are not
+ * looked for. A short exterior is told before a repeated corner, and that before edges that cross.
  *
  * The positions of 9 and 10 are those of the cut exterior, which the answer doesn't bring: there a corner may have another number
  * than in the exterior that was lent.
@@ -173,6 +174,25 @@ int64_t ringcut_polygon(uint8_t assume_simple, uint8_t skip_boundary_fallback, d
                         size_t lengths_len, double *scratch, size_t scratch_len, uint16_t *origin_scratch,
                         size_t origin_scratch_len, uint32_t *order, size_t order_len, double *out, size_t out_len,
                         uint32_t *out_lengths, size_t out_lengths_len, uint16_t *out_origins, size_t out_origins_len);
+
+/*
+ * Mends one ring of x, y numbers, closed or not: drops its repeated corners, for which an exterior wants an overlay
+ * (RINGCUT_REPEATED). A ring whose last coordinate doesn't equal its first is closed, and the closing one counts in all that
+ * follows and in 20; a NaN equals nothing, so that even a single coordinate with a NaN counts as two. The call goes through the
+ * closed ring from its first coordinate, which it keeps, and drops each one, except the closing one, that differs from the last one
+ * kept by less than 1e-10 in x and in y. Answers how many coordinates it keeps, 4 to 65,532, or refuses by 26 where they are fewer.
+ *
+ * The kept ones stand at the front of out in their order, as they were lent: nothing is moved. out needs 2 numbers for each
+ * coordinate of the closed ring, however many are kept: ring_len + 2 are always enough. Which bits a NaN in out has is open.
+ *
+ * No corner of a mended ring is repeated, and mending it again drops none; where it begins with a NaN it is closed again, and so is
+ * one longer. Edges that cross are not mended. Holes may be mended too; no call looks for repeated corners in them.
+ *
+ * Positions that a later call tells, as origins or with a reason, are those of the mended ring. A caller who wants them in the ring as
+ * it was keeps count. The mended ring is the closed one with some coordinates left out: each but the closing one is the first there
+ * that equals it, behind where the one before it was found.
+ */
+int64_t ringcut_mend(const double *ring, size_t ring_len, double *out, size_t out_len);
 
 #ifdef __cplusplus
 }
