@@ -4,8 +4,9 @@
 //! - [`cut_frame`] takes a polygon or a multipolygon as bytes and writes the answer as bytes.
 //! - [`cut_polygon`] takes one polygon as numbers.
 //! - [`cut_ring`] cuts one ring, and looks at nothing else.
+//! - [`mend`] drops the repeated corners of one ring, for which an exterior would want an overlay.
 //!
-//! Each answers on every input, with a [`Refusal`] where it can't cut. Bounds and buffer may be any numbers; a NaN bound has
+//! Each answers on every input, with a [`Refusal`] where it can't cut or mend. Bounds and buffer may be any numbers; a NaN bound has
 //! nothing inside.
 //!
 //! Each coordinate of a cut comes with its [`Origin`]: its position in the ring that was lent, or the line that made it.
@@ -13,7 +14,7 @@
 //! A refused call leaves every lent buffer as it was. One that is not refused fills both scratch slices and the order slice with
 //! zeros, from end to end. What it leaves in the output, and in the slice for origins, past its answer:
 //!
-//! - [`cut_frame`] leaves it as it was.
+//! - [`cut_frame`] and [`mend`] leave it as it was.
 //! - [`cut_polygon`] and [`cut_ring`], which work in these two slices too, leave zeros (+0.0 in the output) up to the length that they
 //!   ask of each, whatever they answer, and all that is beyond that length as it was.
 //!
@@ -280,7 +281,51 @@ pub fn cut_ring(ring: &[f64], bounds: Bounds, lent: RingBuffers) -> Result<usize
     count(raw::ring(ring, bounds, lent))
 }
 
-/// What the code of a frame call or a ring call stands for: a count, or minus a refusal.
+/// Mends one ring of x, y numbers, closed or not: drops its repeated corners, for which an exterior wants an overlay
+/// ([`Issue::Repeated`]). Answers how many coordinates it keeps, 4 to 65,532, the closing one counted; they stand at the front of `out`
+/// in their order. What was lent behind them stays as it was.
+///
+/// A ring whose last coordinate doesn't equal its first is closed, and the closing one counts in all that is asked here; a NaN equals
+/// nothing. The call goes through the closed ring from its first coordinate, which it keeps, and drops each one, except the closing
+/// one, that differs from the last one kept by less than 1e-10 in x and in y. `out` needs 2 numbers for each coordinate of the closed
+/// ring, however many are kept: `ring.len() + 2` are always enough. Which bits a NaN in the output has is open.
+///
+/// It refuses, in this order, an odd count of numbers ([`Refusal::Lengths`]), over 65,532 coordinates ([`Refusal::Coordinates`]), an
+/// output that is too short ([`Refusal::Output`]), and a ring of which fewer than 4 coordinates remain ([`Refusal::Short`]).
+///
+/// - It moves nothing, it only drops. No corner of a mended ring is repeated, and mending it again drops none; where it begins with a
+///   NaN it is closed again, and so is one longer.
+/// - Edges that cross are not mended.
+/// - Holes may be mended too; no call looks for repeated corners in them.
+/// - Positions that a later call tells, as [origins](Origin) or in an [`Issue`], are those of the mended ring. Who wants them in the
+///   ring as it was keeps count. The mended ring is the closed one with some coordinates left out: each but the closing one is the
+///   first there that equals it, behind where the one before it was found. The third program in README.md does so.
+///
+/// ```
+/// use ringcut::{mend, Refusal};
+///
+/// // Corners 1 and 4 are repeated, corner 1 not to the last digit.
+/// let ring = [5., 5., 15., 5., 15.00000000005, 5., 15., 8., 5., 8., 5., 8., 5., 5.];
+/// let mut out = [7.0; 16];
+/// assert_eq!(mend(&ring, &mut out), Ok(5));
+/// assert_eq!(out[..10], [5., 5., 15., 5., 15., 8., 5., 8., 5., 5.]);
+/// // What was lent behind the mended ring stays.
+/// assert_eq!(out[10..], [7.0; 6]);
+///
+/// // Lent open, it is closed, and asks for room for seven coordinates all the same.
+/// assert_eq!(mend(&ring[..12], &mut out[..14]), Ok(5));
+/// assert_eq!(mend(&ring[..12], &mut out[..13]), Err(Refusal::Output));
+///
+/// // Too little is left of a ring that goes to and fro.
+/// assert_eq!(mend(&[5., 5., 15., 5., 15., 5., 5., 5.], &mut out), Err(Refusal::Short));
+/// assert_eq!(out[10..], [7.0; 6]);
+/// ```
+#[inline]
+pub fn mend(ring: &[f64], out: &mut [f64]) -> Result<usize, Refusal> {
+    count(raw::mend(ring, out))
+}
+
+/// What the code of a frame call, a ring call or a mending call stands for: a count, or minus a refusal.
 #[inline]
 fn count(code: i64) -> Result<usize, Refusal> {
     usize::try_from(code).map_err(|_| Refusal::from_code(code))

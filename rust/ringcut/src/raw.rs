@@ -50,6 +50,8 @@ mod exported {
             out_origins: *mut u16,
             out_origins_len: usize,
         ) -> i64;
+
+        pub fn ringcut_mend(ring: *const f64, ring_len: usize, out: *mut f64, out_len: usize) -> i64;
     }
 }
 
@@ -128,4 +130,11 @@ pub fn polygon(
             out_origins.len(),
         )
     }
+}
+
+/// The coordinates that are kept of the ring, or minus the refusal.
+#[inline]
+pub fn mend(ring: &[f64], out: &mut [f64]) -> i64 {
+    // SAFETY: each pointer and length is that of a slice borrowed for the call, and the call asks nothing else.
+    unsafe { exported::ringcut_mend(ring.as_ptr(), ring.len(), out.as_mut_ptr(), out.len()) }
 }

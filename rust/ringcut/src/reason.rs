@@ -27,6 +27,7 @@ pub enum Issue {
     /// It has fewer than 4 coordinates, the closing one counted.
     Short,
     /// A corner and the next differ by less than 1e-10 in x and in y. Only the last edge, which closes the exterior, may be so short.
+    /// [`mend`](crate::mend) leaves no such corner.
     Repeated {
         /// The first corner that the next repeats.
         corner: usize,

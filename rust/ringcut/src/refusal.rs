@@ -1,11 +1,11 @@
-//! Why a call is refused, under document 01's numbers.
+//! Why a call is refused, under the numbers of documents 01 and 02.
 
 use core::error::Error;
 use core::fmt::{self, Display, Formatter};
 
 /// Why a call was refused. A refused call leaves every lent buffer as it was; the [crate's page](crate) says what of that is proved.
 ///
-/// A frame call gives 11 to 18 and 22, a slice call and a ring call 19 to 22.
+/// A frame call gives 11 to 18 and 22, a slice call and a ring call 19 to 22, a mending call 19, 20, 22 and 26.
 ///
 /// ```
 /// use ringcut::{cut_ring, Bounds, Refusal, RingBuffers};
@@ -37,16 +37,18 @@ pub enum Refusal {
     Trailing = 18,
     /// There is no ring or over 64, or the numbers lent are not two for each coordinate.
     Lengths = 19,
-    /// There are over 65,532 coordinates; a slice call counts those that close its rings.
+    /// There are over 65,532 coordinates; a slice call and a mending call count those that close rings.
     Coordinates = 20,
     /// A scratch slice, of numbers or of origins, or the order slice is too short.
     Scratch = 21,
     /// An output, of numbers or of origins, or the slice for the lengths of cut rings is too short.
     Output = 22,
+    /// Fewer than 4 coordinates remain of a ring that is mended, the closing one counted.
+    Short = 26,
 }
 
 impl Refusal {
-    /// Document 01's number of the refusal.
+    /// The number of the refusal in documents 01 and 02.
     pub const fn number(self) -> u8 {
         self as u8
     }
@@ -65,6 +67,7 @@ impl Refusal {
             Refusal::Coordinates => "there are over 65,532 coordinates",
             Refusal::Scratch => "a scratch slice or the order slice is too short",
             Refusal::Output => "an output or the slice for the lengths of cut rings is too short",
+            Refusal::Short => "fewer than 4 coordinates remain",
         }
     }
 
@@ -83,6 +86,7 @@ impl Refusal {
             -20 => Refusal::Coordinates,
             -21 => Refusal::Scratch,
             -22 => Refusal::Output,
+            -26 => Refusal::Short,
             _ => unreachable!("the library answered {code}, which its contract rules out"),
         }
     }
@@ -98,12 +102,23 @@ impl Error for Refusal {}
 
 #[cfg(test)]
 mod tests {
+    extern crate std;
+
+    use std::panic::catch_unwind;
+
     use super::Refusal;
 
     #[test]
     fn a_code_is_minus_the_number() {
-        for number in 11..=22 {
+        for number in (11..=22).chain([26]) {
             assert_eq!(Refusal::from_code(-number).number(), number as u8);
+        }
+    }
+
+    #[test]
+    fn other_numbers_are_no_refusals() {
+        for number in [23, 24, 25, 27, 256 + 26] {
+            assert!(catch_unwind(|| Refusal::from_code(-number)).is_err(), "{number}");
         }
     }
 

@@ -19,6 +19,7 @@ fn numbers_and_messages() {
         (Refusal::Coordinates, 20, "there are over 65,532 coordinates"),
         (Refusal::Scratch, 21, "a scratch slice or the order slice is too short"),
         (Refusal::Output, 22, "an output or the slice for the lengths of cut rings is too short"),
+        (Refusal::Short, 26, "fewer than 4 coordinates remain"),
     ];
     for (refusal, number, message) in table {
         assert_eq!(refusal.number(), number);

@@ -8,7 +8,7 @@ use std::mem::MaybeUninit;
 use std::ptr;
 
 use ringcut::{
-    cut_frame, cut_polygon, cut_ring, room_for_ring, Answer, Bounds, Flags, PolygonBuffers, Refusal, RingBuffers,
+    cut_frame, cut_polygon, cut_ring, mend, room_for_ring, Answer, Bounds, Flags, PolygonBuffers, Refusal, RingBuffers,
     MOST_FRAME_OUTPUT,
 };
 
@@ -143,7 +143,7 @@ fn a_frame_that_is_refused_by_its_length_takes_hardly_any() {
 }
 
 #[test]
-fn ring_and_slice_calls_take_under_4_kib() {
+fn the_other_calls_take_under_4_kib() {
     let flags = Flags { assume_simple: true, skip_boundary_fallback: true };
     for n in [5, 317, 5_000] {
         let (ring, room) = (circle(n, 9.), room_for_ring(n));
@@ -177,5 +177,10 @@ fn ring_and_slice_calls_take_under_4_kib() {
         });
         assert_eq!(answer, Ok(Answer::Cut { rings: 1 }));
         assert!(of_polygon < 4 * KIB, "{of_polygon} bytes for {n} coordinates");
+
+        let mut kept = Ok(0);
+        let of_mend = stack_of(|| kept = mend(&ring, &mut out));
+        assert_eq!(kept, Ok(n));
+        assert!(of_mend < 4 * KIB, "{of_mend} bytes for {n} coordinates");
     }
 }
