@@ -20,7 +20,7 @@ fn what_is_declared_is_what_is_exported() {
 }
 
 /// A text of a file, another that is written in its place, and what is told.
-const MISTAKES: [(&str, &str, &str, &str); 19] = [
+const MISTAKES: [(&str, &str, &str, &str); 21] = [
     // A flag as a u32: in the export, where both declarations differ from it, and in each declaration.
     (
         CALLS,
@@ -75,6 +75,13 @@ const MISTAKES: [(&str, &str, &str, &str); 19] = [
         "rust/ringcut/src/raw.rs: ringcut_polygon: parameter 14 is `order: *mut u32`, \
          by the export it is `origin_scratch: *mut u16`",
     ),
+    // Two slices of one kind exchanged: the call would write to the one that it should read.
+    (
+        RAW,
+        "ring: *const f64, ring_len: usize, out: *mut f64, out_len: usize)",
+        "out: *mut f64, out_len: usize, ring: *const f64, ring_len: usize)",
+        "rust/ringcut/src/raw.rs: ringcut_mend: parameter 1 is `out: *mut f64`, by the export it is `ring: *const f64`",
+    ),
     // Origins in another width.
     (
         HEADER,
@@ -101,6 +108,13 @@ const MISTAKES: [(&str, &str, &str, &str); 19] = [
         "uint8_t *out, size_t out_len",
         "const uint8_t *out, size_t out_len",
         "include/ringcut.h: ringcut_frame: parameter 3 is `const uint8_t *out`, by the export it is `uint8_t *out`",
+    ),
+    // A slice that is read, declared as one that is written.
+    (
+        HEADER,
+        "ringcut_mend(const double *ring,",
+        "ringcut_mend(double *ring,",
+        "include/ringcut.h: ringcut_mend: parameter 1 is `double *ring`, by the export it is `const double *ring`",
     ),
     // Another result.
     (
