@@ -15,7 +15,7 @@ use formats::frame::Frame;
 use formats::from_hex;
 
 /// The lines that are drawn, from 1, with the picture's name and title.
-const PICTURES: [(usize, &str, &str); 9] = [
+const PICTURES: [(usize, &str, &str); 11] = [
     (5, "holes", "Two holes: one cut, one left out"),
     (7, "buffer", "A rectangle, cut at the tile with its buffer"),
     (8, "corner", "A lake over the north-east corner"),
@@ -25,6 +25,8 @@ const PICTURES: [(usize, &str, &str); 9] = [
     (36, "repeated", "A corner that was sent twice"),
     (37, "crossing", "Edges that cross: of two pairs the first"),
     (40, "borders", "An area larger than the tile: what of it is a border"),
+    (44, "before-mending", "Before mending: corner 1 was sent twice"),
+    (45, "after-mending", "After mending: corner 1 once, and the area is cut"),
 ];
 
 /// The repository's folder of examples.

@@ -36,6 +36,8 @@ fn the_tiles_edge_is_no_border() {
     assert_eq!(borders(6), [vec![0, 1, 2, 3], vec![0, 2, 3]]);
     // Along the east bound to the tile's corner, which Top made, and on along the north bound.
     assert_eq!(borders(8), [[0, 1, 2, 5, 6]]);
+    // Mended: the corner that was sent twice is one corner of its border.
+    assert_eq!(borders(45), [[0, 1, 3, 4]]);
     // Two teeth, joined along the bound.
     assert_eq!(borders(9), [[0, 2, 3, 4, 6, 7]]);
     // Down the west bound from a corner that Top made to one that Bottom made.
