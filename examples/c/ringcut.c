@@ -1,18 +1,19 @@
 /*
  * Cuts three polygons to the tile 0, 0, 10, 10 and prints the rings that are left of each, or why it wants an overlay, with the corners
- * or edges that are the reason. Behind each corner of a cut stands where it came from: its number in the ring that was lent, or the line
- * that made it. Between two corners stands -- where a border is to be drawn, and .. where the cut runs along the tile's edge. In the
- * repository's root, with the library built by `rt staticlib ringcut_calls`:
+ * or edges that are the reason; the second is then mended and cut once more. Behind each corner of a cut stands where it came from: its
+ * number in the ring that was lent, or the line that made it. Between two corners stands -- where a border is to be drawn, and .. where
+ * the cut runs along the tile's edge. In the repository's root, with the library built by `rt staticlib ringcut_calls`:
  *
  *   cc -std=c11 -Wall -Wextra -I include examples/c/ringcut.c target/staticlib/libringcut_calls.a -o target/ringcut-in-c
  *   target/ringcut-in-c
  *
- * It prints the exterior and the hole of a rectangle across the east bound, then a corner that was sent twice, then two edges that
- * cross:
+ * It prints the exterior and the hole of a rectangle across the east bound, then a corner that was sent twice and the area's cut once
+ * it is mended, then two edges that cross:
  *
  *   (5,5) corner 0 -- (10,5) Right .. (10,8) Right -- (5,8) corner 3 -- (5,5) corner 0
  *   (6,6) corner 0 -- (10,6) Right .. (10,7) Right -- (6,7) corner 3 -- (6,6) corner 0
- *   (8,7): corner 3 is repeated
+ *   (7,2): corner 1 is repeated
+ *   (3,3) corner 0 -- (7,2) corner 1 -- (10,3.5) Right .. (10,8) Right -- (5,8) corner 4 -- (3,3) corner 0
  *   (2,6)(3,7) and (3,5)(2,8): edges 0 and 4 cross
  */
 
@@ -26,7 +27,7 @@
 
 enum {
     RINGS = 2,       /* that a polygon here has at most */
-    COORDINATES = 8, /* that a ring here has at most, the closing one counted */
+    COORDINATES = 7, /* that a ring here has at most, the closing one counted */
     ROOM = RINGCUT_ROOM(COORDINATES)
 };
 
@@ -124,6 +125,13 @@ static void print_reason(int64_t code, const double *exterior)
     }
 }
 
+static bool refused(int64_t code)
+{
+    if (code < 0)
+        fprintf(stderr, "refused: %" PRId64 "\n", -code);
+    return code < 0;
+}
+
 /* Cuts with both flags set or with none, and prints what is answered. 0 where the call was refused. */
 static int cut(uint8_t flags, const double *coords, size_t coords_len, const uint32_t *lengths, size_t lengths_len)
 {
@@ -134,10 +142,8 @@ static int cut(uint8_t flags, const double *coords, size_t coords_len, const uin
     int64_t code = ringcut_polygon(flags, flags, west, south, east, north, 0, coords, coords_len, lengths, lengths_len, scratch,
                                    COUNT(scratch), origin_scratch, COUNT(origin_scratch), order, COUNT(order), out, COUNT(out),
                                    out_lengths, COUNT(out_lengths), out_origins, COUNT(out_origins));
-    if (code < 0) {
-        fprintf(stderr, "refused: %" PRId64 "\n", -code);
+    if (refused(code))
         return 0;
-    }
     switch (code & 0xff) {
     case RINGCUT_CUT:
         print_rings(out, out_origins, out_lengths, code >> 16 & 0xffffff);
@@ -151,18 +157,32 @@ static int cut(uint8_t flags, const double *coords, size_t coords_len, const uin
     return 1;
 }
 
+/* Drops the repeated corners of a polygon's exterior, its only ring, and cuts it. Holes would be lent behind the mended exterior as they
+ * are. 0 where a call was refused. */
+static int mend_and_cut(uint8_t flags, const double *exterior, size_t exterior_len)
+{
+    double mended[2 * COORDINATES];
+
+    int64_t kept = ringcut_mend(exterior, exterior_len, mended, COUNT(mended));
+    if (refused(kept))
+        return 0;
+    uint32_t length = (uint32_t)kept;
+    return cut(flags, mended, 2 * length, &length, 1);
+}
+
 int main(void)
 {
     static const double across[] = {
         5, 5, 15, 5, 15, 8, 5, 8, 5, 5, /* exterior */
         6, 6, 12, 6, 12, 7, 6, 7, 6, 6  /* hole */
     };
-    static const double repeated[] = {2, 3, 5, 1.5, 8, 3, 8, 7, 8, 7, 5, 8.5, 2, 7, 2, 3};
+    static const double repeated[] = {3, 3, 7, 2, 7, 2, 13, 5, 12, 8, 5, 8, 3, 3};
     static const double crossing[] = {2, 6, 3, 7, 4, 2, 6, 7, 3, 5, 2, 8, 2, 6};
-    static const uint32_t of_across[] = {5, 5}, of_repeated[] = {8}, of_crossing[] = {7};
+    static const uint32_t of_across[] = {5, 5}, of_repeated[] = {7}, of_crossing[] = {7};
 
     int answered = cut(1, across, COUNT(across), of_across, COUNT(of_across))
-                   && cut(0, repeated, COUNT(repeated), of_repeated, COUNT(of_repeated))
+                   && cut(1, repeated, COUNT(repeated), of_repeated, COUNT(of_repeated))
+                   && mend_and_cut(1, repeated, COUNT(repeated))
                    && cut(0, crossing, COUNT(crossing), of_crossing, COUNT(of_crossing));
     return answered ? 0 : 1;
 }
