@@ -31,7 +31,7 @@ fn root() -> PathBuf {
 #[test]
 fn the_programs_print_what_is_said() {
     let (programs, prints) = (blocks("rust"), blocks("text"));
-    assert_eq!((programs.len(), prints.len()), (2, 2));
+    assert_eq!((programs.len(), prints.len()), (3, 3));
     let commands = blocks("sh").into_iter().find(|commands| commands.contains("rustc")).unwrap();
     let root = root();
     for (program, printed) in programs.into_iter().zip(prints) {
