@@ -18,15 +18,15 @@ use Rattle.mend.specs.Mend.{keptAfter, mend, Subsequence}
 
 -- ---- behind a coordinate that is kept
 
+some-kept : (q : Coord) (t : Bool) (a b : List Coord) → 0 < length a → 0 < length (cond t a (q ∷ b))
+some-kept q true a b h = h
+some-kept q false a b h = omega arith
+
 -- of what has a coordinate something is kept: its last
 pub kept-some : (p q : Coord) (r : List Coord) → 0 < length (keptAfter p (q ∷ r))
 unfolding keptAfter
 kept-some p q [] = omega arith
-kept-some p q (s ∷ r) = go (degenerate p q) (kept-some p s r)
-  where
-    go : (t : Bool) → 0 < length (keptAfter p (s ∷ r)) → 0 < length (cond t (keptAfter p (s ∷ r)) (q ∷ keptAfter q (s ∷ r)))
-    go true h = h
-    go false h = omega arith
+kept-some p q (s ∷ r) = some-kept q (degenerate p q) _ _ (kept-some _ s r)
 
 -- What holds of every coordinate p, the list behind it and what is kept of that: nothing behind it; the closing one; one that is dropped;
 -- one that is kept, behind which something is.
