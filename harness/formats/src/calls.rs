@@ -253,7 +253,7 @@ fn rooms(rings: &[Ring]) -> impl Iterator<Item = usize> + '_ {
     rings.iter().map(|ring| most_cut(closed_length(ring)))
 }
 
-fn difference_of_answers(a: i64, b: i64) -> Option<String> {
+pub(crate) fn difference_of_answers(a: i64, b: i64) -> Option<String> {
     first_difference("answer", &[a], &[b], same_whole)
 }
 

@@ -1,13 +1,14 @@
 //! Document 01's added formats as the oracle reads them: frames, ring calls and slice calls, their refusals, and what a
-//! call leaves in the slices lent to it; single passes of the ring cutter, and single cuts. Vertices of cuts have document 02's origins.
-//! The second reading works all of this out by itself; what it leaves is held in `RingAfter`, `SliceAfter` and `PassAfter` only to be
-//! compared.
+//! call leaves in the slices lent to it; single passes of the ring cutter, and single cuts; calls that mend a ring. Vertices of cuts have
+//! document 02's origins. The second reading works all of this out by itself; what it leaves is held in `RingAfter`, `SliceAfter`,
+//! `PassAfter` and `MendAfter` only to be compared.
 
 pub mod answer;
 pub mod calls;
 mod cursor;
 pub mod cuts;
 pub mod frame;
+pub mod mends;
 pub mod origins;
 pub mod passes;
 pub mod reason;
@@ -26,7 +27,7 @@ pub type Part = Vec<Ring>;
 /// West, south, east, north.
 pub type Bounds = [f64; 4];
 
-/// The number of a refusal, 10 to 22.
+/// The number of a refusal: 10 to 22, and 26.
 pub type Refusal = u8;
 
 /// The bytes that a line of the program stands for; one that is not pairs of hexadecimal digits is refused with 10.

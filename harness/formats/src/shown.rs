@@ -3,6 +3,7 @@
 use std::fmt::{self, Debug, Display};
 
 use crate::calls::{RingCall, SliceCall};
+use crate::mends::MendCall;
 use crate::passes::PassCall;
 
 /// A slice of at most this many values is shown whole.
@@ -44,6 +45,12 @@ impl Display for PassCall {
         write!(f, "ring {} from {} ", shortened(&self.ring), shortened(&self.origins))?;
         write!(f, "at {:?} of {:?}, ", self.edge, self.bounds)?;
         write!(f, "lent output {}, origins {}", self.out.len(), self.out_origins.len())
+    }
+}
+
+impl Display for MendCall {
+    fn fmt(&self, f: &mut fmt::Formatter) -> fmt::Result {
+        write!(f, "ring {}, lent output {}", shortened(&self.ring), self.out.len())
     }
 }
 

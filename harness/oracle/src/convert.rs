@@ -8,8 +8,12 @@ pub fn bounds_of([west, south, east, north]: Bounds) -> TileBounds {
     TileBounds::new(west, south, east, north)
 }
 
+pub fn coord_of((x, y): Coord) -> geo::Coord<f64> {
+    geo::Coord { x, y }
+}
+
 pub fn coords_of(ring: &[Coord]) -> Vec<geo::Coord<f64>> {
-    ring.iter().map(|&(x, y)| geo::Coord { x, y }).collect()
+    ring.iter().copied().map(coord_of).collect()
 }
 
 pub fn ring_of(coords: &[geo::Coord<f64>]) -> Ring {

@@ -60,10 +60,17 @@ fn first_repeat(ring: &[Coord<f64>]) -> Option<usize> {
 /// Asked of a ring of the two, a coordinate at NaN, which is near nothing, and the closing one: it is not short, and no other
 /// neighbours can be its issue. Where the first of them holds a NaN `Polygon::new` closes it once more, behind a segment that is
 /// as little near.
-fn are_near(a: Coord<f64>, b: Coord<f64>) -> bool {
+pub fn are_near(a: Coord<f64>, b: Coord<f64>) -> bool {
     let nowhere = Coord { x: f64::NAN, y: f64::NAN };
     let ring = LineString::new(vec![a, b, nowhere, a]);
     clip::has_structural_issues(&Polygon::new(ring, Vec::new()), true)
+}
+
+/// Whether two neighbours in the exterior as the polygon holds it are near, those of the last segment excepted: the one issue that is left
+/// of a ring that is not short where edges are not looked at.
+pub fn has_repeated(polygon: &Polygon<f64>) -> bool {
+    assert!(polygon.exterior().0.len() >= 4, "a short ring is an issue by itself");
+    clip::has_structural_issues(polygon, true)
 }
 
 /// Of all pairs of edges that cross the one with the lowest lower and then the lowest higher number.
@@ -138,6 +145,16 @@ mod tests {
         assert_eq!(issue(&[&triangle[..], &[(2., 2.), (2., 2.)]].concat(), false), None);
         assert_eq!(issue(&[&triangle[..], &[(8., 8.), (2., 2.)]].concat(), false), Some(Issue::Repeated(2)));
         assert_eq!(issue(&[&triangle[..], &[(8., 8.)]].concat(), false), Some(Issue::Repeated(2)));
+    }
+
+    /// Crossing edges are no repeat.
+    #[test]
+    fn repeats_are_told_from_other_issues() {
+        let repeated = |ring: &[(f64, f64)]| has_repeated(&polygon_of(&[ring.to_vec()]));
+        assert!(!repeated(&[(2., 2.), (8., 8.), (8., 2.), (2., 8.)]));
+        assert!(!repeated(&[(2., 2.), (8., 2.), (8., 8.), (2., 2.), (2., 2.)]));
+        assert!(repeated(&[(2., 2.), (8., 2.), (8., 2.), (8., 8.)]));
+        assert!(repeated(&[(2., 2.), (8., 2.), (8., 8.), (8., 8.)]));
     }
 
     /// One with a NaN is closed once more, and equals no neighbour.

@@ -1,7 +1,8 @@
 //! The oracle: what the unchanged Rust answers to document 01's calls. Result, coordinates, guard count and overlay calls
 //! come from one run of `clip_geometry_simple` on the whole geometry; only part numbers and reasons with their positions, which
 //! the Rust doesn't give, are asked of its predicates part by part. Single passes come from its `clip_ring_against_edge`, single
-//! cuts from its `intersect`. Origins, which it doesn't give either, come from a walk of its passes by its own verdicts and crossings.
+//! cuts from its `intersect`. Origins, which it doesn't give either, come from a walk of its passes by its own verdicts and crossings. It
+//! mends no ring: of mended ones it says how a ring is closed, which corners are near, and whether one is repeated.
 
 mod answer;
 mod convert;
@@ -16,12 +17,12 @@ use formats::answer::{Answer, Listed};
 use formats::calls::{RingCall, SliceAnswer, SliceCall};
 use formats::frame::{Frame, POLYGON};
 use formats::origins::CutRing;
-use formats::{pairs, Coord, Refusal};
+use formats::{pairs, Coord, Refusal, Ring};
 use geo::algorithm::line_intersection::line_intersection;
 use geo::{Geometry, Line, MultiPolygon};
 use tylertoo::clip::opened as clip;
 
-use convert::{bounds_of, coords_of, polygon_of};
+use convert::{bounds_of, coord_of, coords_of, polygon_of, ring_of};
 use run::Hints;
 
 pub use issue::Issue;
@@ -90,13 +91,28 @@ pub fn finds_intersection(ends: [Coord; 4]) -> bool {
 }
 
 fn lines_between(ends: [Coord; 4]) -> [Line<f64>; 2] {
-    let [a, b, c, d] = ends.map(|(x, y)| geo::Coord { x, y });
+    let [a, b, c, d] = ends.map(coord_of);
     [Line::new(a, b), Line::new(c, d)]
 }
 
 /// The first issue of a polygon with this exterior, closed.
 pub fn issue(ring: &[Coord], assume_simple: bool) -> Option<Issue> {
     issue::issue_of(&polygon_of(&[ring.to_vec()]), assume_simple)
+}
+
+/// The ring as a polygon holds it, closed by `Polygon::new`.
+pub fn closed(ring: &[Coord]) -> Ring {
+    ring_of(&polygon_of(&[ring.to_vec()]).exterior().0)
+}
+
+/// Whether two coordinates are near enough to be a repeated corner.
+pub fn are_near(a: Coord, b: Coord) -> bool {
+    issue::are_near(coord_of(a), coord_of(b))
+}
+
+/// Whether a polygon with this exterior, closed, has a repeated corner; asked only of four coordinates or more.
+pub fn has_repeated(ring: &[Coord]) -> bool {
+    issue::has_repeated(&polygon_of(&[ring.to_vec()]))
 }
 
 /// The pairs of edges that scan or sweep visit, each as its two edges' ends.
