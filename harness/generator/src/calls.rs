@@ -167,9 +167,14 @@ fn lent_length(needed: usize, rng: &mut Rng) -> usize {
     }
 }
 
-/// None of them is a zero, so that one which is written shows, and so does a number that is left where a zero belongs.
 pub fn lent_numbers(needed: usize, rng: &mut Rng) -> Vec<f64> {
-    lent(lent_length(needed, rng), || other_than_zero(rng))
+    let length = lent_length(needed, rng);
+    lent_exactly(length, rng)
+}
+
+/// None of them is a zero, so that one which is written shows, and so does a number that is left where a zero belongs.
+pub fn lent_exactly(length: usize, rng: &mut Rng) -> Vec<f64> {
+    lent(length, || other_than_zero(rng))
 }
 
 fn lent_positions(needed: usize, rng: &mut Rng) -> Vec<u32> {

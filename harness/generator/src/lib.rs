@@ -1,5 +1,5 @@
-//! The seeded generator: frames, program input, ring calls, slice calls, passes, single cuts, pairs of edges and bounds. The same seed,
-//! kind and index give the same specimen always, so a difference is found again from three numbers.
+//! The seeded generator: frames, program input, ring calls, slice calls, passes, single cuts, rings to mend, pairs of edges and bounds. The
+//! same seed, kind and index give the same specimen always, so a difference is found again from three numbers.
 
 mod bounds;
 mod calls;
@@ -13,6 +13,7 @@ mod holes;
 mod limits;
 mod lines;
 mod meetings;
+mod mends;
 mod numbers;
 mod outlines;
 mod pairs;
@@ -29,6 +30,7 @@ pub use exteriors::exterior;
 pub use frames::{frame, Kind, Specimen};
 pub use lines::lines;
 pub use meetings::Pair;
+pub use mends::{mend, MendKind};
 pub use pairs::{pair, PairKind};
 pub use passes::pass;
 pub use scene::Style;
