@@ -100,5 +100,8 @@ pub fn reason_label(number: u8) -> &'static str {
 
 pub fn refusal_label(refusal: u8) -> &'static str {
     const LABELS: [&str; 13] = ["10", "11", "12", "13", "14", "15", "16", "17", "18", "19", "20", "21", "22"];
-    LABELS[usize::from(refusal) - 10]
+    match refusal {
+        26 => "26",
+        _ => LABELS[usize::from(refusal) - 10],
+    }
 }

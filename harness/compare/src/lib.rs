@@ -1,5 +1,5 @@
-//! Compares the oracle with the second reading on what the generator makes, judges single cuts by it, and shows that a mistaken reading
-//! is found.
+//! Compares the oracle with the second reading on what the generator makes, judges single cuts by it and mended rings beside it, and shows
+//! that a mistaken reading is found.
 
 pub mod calls;
 pub mod campaign;
@@ -7,6 +7,7 @@ pub mod command;
 pub mod cuts;
 pub mod frames;
 pub mod lines;
+pub mod mends;
 pub mod mistakes;
 pub mod origins;
 pub mod passes;
@@ -14,6 +15,7 @@ pub mod shallow;
 pub mod shrink;
 pub mod vectors;
 pub mod worked;
+pub mod worked_mends;
 
 /// Bytes as lower-case hexadecimal digits.
 pub fn hex(bytes: &[u8]) -> String {

@@ -6,10 +6,10 @@ use std::process::exit;
 
 use compare::campaign::Campaign;
 use compare::command::Command;
-use compare::{calls, frames, lines, mistakes, passes, vectors};
+use compare::{calls, frames, lines, mends, mistakes, passes, vectors};
 
 const USAGE: &str =
-    "usage: compare frames|lines|rings|slices|passes|mistakes [--seed S] [--count N], N specimens of each kind
+    "usage: compare frames|lines|rings|slices|passes|mends|mistakes [--seed S] [--count N], N specimens of each kind
        compare sample-lines|sample-rings|sample-slices [--seed S] [--count N], N of each kind and answer
        compare ringcut <lines";
 
@@ -21,6 +21,7 @@ fn main() {
         "rings" => report(&calls::compare_ring_calls(seed, count)),
         "slices" => report(&calls::compare_slice_calls(seed, count)),
         "passes" => report(&passes::compare(seed, count)),
+        "mends" => report(&mends::compare(seed, count)),
         "mistakes" => {
             let search = mistakes::search(seed, count, u64::MAX);
             println!("{search}");

@@ -1,15 +1,17 @@
-//! Shows that what the generator makes tells a mistaken reading from the Rust, and the single cuts of one from exact crossings.
+//! Shows that what the generator makes tells a mistaken reading from the Rust, the single cuts of one from exact crossings, and the rings
+//! that one mends from what the judge of these and the Rust take.
 
 use std::fmt;
 use std::sync::atomic::{AtomicU64, Ordering};
 
-use generator::{CutKind, Kind, Style};
+use generator::{CutKind, Kind, MendKind, Style};
 use reading::{Mistake, Place, Reading};
 
 use crate::calls::{ring_call, slice_call, styles};
 use crate::campaign::{self, Campaign};
 use crate::cuts::{self, crossing, judge};
 use crate::frames;
+use crate::mends;
 use crate::passes::pass;
 
 #[derive(Clone, Copy)]
@@ -20,6 +22,7 @@ enum Source {
     SliceCalls(Style),
     Passes(Style),
     Cuts(CutKind),
+    Mends(MendKind),
 }
 
 impl Source {
@@ -31,11 +34,13 @@ impl Source {
             Source::SliceCalls(_) => Place::SliceCalls,
             Source::Passes(_) => Place::Passes,
             Source::Cuts(_) => Place::Cuts,
+            Source::Mends(_) => Place::Mends,
         }
     }
 }
 
-/// How often each mistake, in each place that it shows in, gave another answer than the Rust, or a crossing that is not as it should be.
+/// How often each mistake, in each place that it shows in, gave another answer than the Rust, or a crossing or a mended ring that is not as
+/// it should be.
 pub struct Search {
     campaign: Campaign,
     found: Vec<(Place, Mistake, u64)>,
@@ -79,11 +84,14 @@ fn sources() -> Vec<(&'static str, Source)> {
     sources.extend(styles().into_iter().map(|(name, style)| (name, Source::SliceCalls(style))));
     sources.extend(styles().into_iter().map(|(name, style)| (name, Source::Passes(style))));
     sources.extend(cuts::kinds().into_iter().map(|(name, kind)| (name, Source::Cuts(kind))));
+    sources.extend(mends::kinds().into_iter().map(|(name, kind)| (name, Source::Mends(kind))));
     sources
 }
 
 /// Whether a reading answers the specimen otherwise than the Rust, counts otherwise, or leaves lent slices otherwise; of a cut, whether
-/// the crossing that it computes is not on the bound or not as near to the exact one as is proved, as it reckons that itself.
+/// the crossing that it computes is not on the bound or not as near to the exact one as is proved, as it reckons that itself. Of a mended
+/// ring the Rust says only whether a corner is still repeated; every other way in which it can be wrong is told by the judge, which doesn't
+/// ask the reading.
 fn differs(source: Source, seed: u64, index: u64) -> Box<dyn Fn(&Reading) -> bool> {
     match source {
         Source::Frames(kind) => {
@@ -114,6 +122,10 @@ fn differs(source: Source, seed: u64, index: u64) -> Box<dyn Fn(&Reading) -> boo
         Source::Cuts(kind) => {
             let cut = generator::cut(kind, seed, index);
             Box::new(move |reading| judge(reading, &cut, crossing(reading, &cut)).is_err())
+        }
+        Source::Mends(kind) => {
+            let call = generator::mend(kind, seed, index);
+            Box::new(move |reading| mends::broken(&call, &mends::mend(reading, &call)).is_some())
         }
     }
 }

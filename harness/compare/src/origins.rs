@@ -4,7 +4,7 @@ use formats::answer::{Answer, Listed, ListedPart};
 use formats::frame::Frame;
 use formats::origins::{line_of, CutRing};
 use formats::passes::Edge;
-use formats::{same_number, Bounds, Coord, Part, Ring};
+use formats::{same_coord, same_number, Bounds, Coord, Part, Ring};
 
 /// Passes leave off at most so many vertices at the end of a ring, one each.
 const MOST_LEFT_OFF: usize = 4;
@@ -73,10 +73,6 @@ pub fn broken_frame(frame: &[u8], answer: &[u8]) -> Option<&'static str> {
 /// The bounds that frames and slice calls are cut at.
 pub fn buffered(&[west, south, east, north]: &Bounds, buffer: f64) -> Bounds {
     [west - buffer, south - buffer, east + buffer, north + buffer]
-}
-
-fn same_coord((x, y): Coord, (other_x, other_y): Coord) -> bool {
-    same_number(x, other_x) && same_number(y, other_y)
 }
 
 /// Whether the line's bound stands in the coordinate that it fixes.

@@ -1,6 +1,7 @@
-//! The Rust and the second reading agree: the share that every test run takes.
+//! The Rust and the second reading agree, and the rings that the reading mends are as the judge has them: the share that every test run
+//! takes.
 
-use compare::{calls, frames, lines, passes};
+use compare::{calls, frames, lines, mends, passes};
 
 const SEED: u64 = 1;
 
@@ -27,4 +28,9 @@ fn slice_calls_agree() {
 #[test]
 fn passes_agree() {
     passes::compare(SEED, 10_000).assert_agreed(110_000);
+}
+
+#[test]
+fn mended_rings_are_as_they_must_be() {
+    mends::compare(SEED, 10_000).assert_agreed(120_000);
 }

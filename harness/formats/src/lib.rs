@@ -59,6 +59,10 @@ pub fn same_number(a: f64, b: f64) -> bool {
     a.to_bits() == b.to_bits() || (a.is_nan() && b.is_nan())
 }
 
+pub fn same_coord((x, y): Coord, (other_x, other_y): Coord) -> bool {
+    same_number(x, other_x) && same_number(y, other_y)
+}
+
 pub fn same_numbers(a: &[f64], b: &[f64]) -> bool {
     a.len() == b.len() && a.iter().zip(b).all(|(&a, &b)| same_number(a, b))
 }

@@ -246,7 +246,7 @@ impl Reading {
     }
 
     /// Whether a call is refused with 20 for so many coordinates.
-    fn too_many(&self, coordinates: usize) -> bool {
+    pub fn too_many(&self, coordinates: usize) -> bool {
         let most = if self.makes(Mistake::FormerLimit) { MOST_BEFORE_ORIGINS } else { MOST_COORDINATES };
         coordinates > most || (self.makes(Mistake::LimitIsTooMany) && coordinates == most)
     }

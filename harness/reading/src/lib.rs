@@ -1,4 +1,4 @@
-//! A second reading of document 01 and of document 02's points 1, 3, 4, 5, 8 and 12, written from their text alone: it shares no
+//! A second reading of document 01 and of document 02's points 1, 3, 4, 5, 7, 8 and 12, written from their text alone: it shares no
 //! code with the oracle. It can make one deliberate mistake, so that the generator can be shown to find it.
 
 mod calls;
@@ -6,6 +6,7 @@ mod cut;
 mod exact_crossing;
 mod frame;
 mod issues;
+mod mend;
 mod mistake;
 mod multipolygon;
 mod origins;

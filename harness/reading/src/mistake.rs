@@ -1,6 +1,6 @@
 //! The deliberate mistakes.
 
-use Place::{Cuts, Frames, Lines, Passes, RingCalls, SliceCalls};
+use Place::{Cuts, Frames, Lines, Mends, Passes, RingCalls, SliceCalls};
 
 /// What a mistake shows in.
 #[derive(Clone, Copy, Debug, PartialEq, Eq)]
@@ -11,10 +11,11 @@ pub enum Place {
     SliceCalls,
     Passes,
     Cuts,
+    Mends,
 }
 
 impl Place {
-    pub const ALL: [Place; 6] = [Frames, Lines, RingCalls, SliceCalls, Passes, Cuts];
+    pub const ALL: [Place; 7] = [Frames, Lines, RingCalls, SliceCalls, Passes, Cuts, Mends];
 }
 
 /// Declares the mistakes, their list, and the places that each of them shows in.
@@ -78,12 +79,8 @@ mistakes! {
         EmptyExteriorIsNothing,
         /// Checks holes for issues too.
         ChecksHoles,
-        /// Doesn't count the closing vertex towards the four of an exterior.
-        FourBesidesClosing,
         /// Lets `assume_simple` skip the repeats as well.
         SimpleSkipsRepeats,
-        /// Takes 1e-10 itself for near.
-        NearAtLimit,
         /// Lets edges shorter than 1e-10 cross.
         ShortEdgesCross,
         /// Takes a touch of two edges for a crossing.
@@ -116,8 +113,6 @@ mistakes! {
         KeepsShortHoles,
         /// Leaves out a cut exterior under four coordinates.
         LeavesOutShortExterior,
-        /// Leaves -0.0 and 0.0 unequal where a ring is closed.
-        ZeroSignsKeepOpen,
 
         // Multipolygons and frames, further.
         /// Lists the parts of a multipolygon that is inside as a whole.
@@ -152,6 +147,15 @@ mistakes! {
         OriginsBigEndian,
         /// Writes the origins of a ring behind all its coordinates.
         OriginsBehindRing,
+    }
+
+    [Frames, Mends] {
+        /// Doesn't count the closing vertex towards the four of a ring.
+        FourBesidesClosing,
+        /// Takes 1e-10 itself for near.
+        NearAtLimit,
+        /// Leaves -0.0 and 0.0 unequal where a ring is closed.
+        ZeroSignsKeepOpen,
     }
 
     [Frames, Passes] {
@@ -247,13 +251,16 @@ mistakes! {
         JudgesVertexLeftOff,
     }
 
-    [Frames, SliceCalls] {
-        /// Closes a cut ring once.
-        ClosesCutRingsOnce,
+    [Frames, SliceCalls, Mends] {
         /// Doesn't count a single coordinate with a NaN as two.
         NanSingleStaysOne,
         /// Takes the room for rings as they are lent.
         RoomUnclosed,
+    }
+
+    [Frames, SliceCalls] {
+        /// Closes a cut ring once.
+        ClosesCutRingsOnce,
     }
 
     [Frames, SliceCalls] {
@@ -342,11 +349,14 @@ mistakes! {
         RoomClosedInRingCall,
     }
 
-    [RingCalls, SliceCalls] {
+    [RingCalls, SliceCalls, Mends] {
         /// Gives 20 for 65,532 coordinates.
         LimitIsTooMany,
         /// Gives 20 over 65,536 coordinates, as before there were origins.
         FormerLimit,
+    }
+
+    [RingCalls, SliceCalls] {
         /// Gives 21 for the order slice alone, which a ring call has not.
         ScratchUnseen,
         /// Clears scratch only up to 2 x S, and order up to S.
@@ -412,6 +422,74 @@ mistakes! {
         ClearsLengthsPastAnswer,
         /// Has 16 bits for a position, as a frame does.
         PositionsIn16Bits,
+    }
+
+    [Mends] {
+        // Which coordinates are kept.
+        /// Compares with the last one seen, kept or not.
+        ComparesWithLastSeen,
+        /// Of a run of near ones keeps the last.
+        KeepsLastOfRun,
+        /// Drops the closing one too, where it is near the last kept.
+        DropsClosing,
+        /// Begins with the second one, so that the first is dropped.
+        BeginsWithSecond,
+        /// Drops the first one where it is near the last before the closing one.
+        DropsFirstNearLast,
+
+        // What is near.
+        /// Takes near in x or in y for near.
+        NearInOneAxis,
+        /// Takes a distance under 1e-10 for near, both axes together.
+        NearByDistance,
+        /// Takes equal for near, and nothing else.
+        NearIsEqual,
+        /// Takes a NaN for near everything: not at least 1e-10 apart.
+        NanIsNear,
+        /// Takes infinities for near that are equal.
+        EqualIsNear,
+        /// Compares the difference before it is rounded.
+        DifferenceUnrounded,
+
+        // How the ring is closed.
+        /// Doesn't close it, and keeps the last one that was lent instead.
+        LeavesOpen,
+        /// Closes what is mended of the ring as it was lent, the last one of which it always keeps.
+        MendsBeforeClosing,
+        /// Takes a NaN for equal to a NaN where a ring is closed.
+        NanEqualsNan,
+        /// Closes the mended ring once more, which shows where its first one holds a NaN.
+        ClosesMendedAgain,
+        /// Writes the first one for the closing one, whose zeros may have other signs.
+        ClosesWithFirst,
+
+        // The refusals.
+        /// Gives 19 after the others.
+        OddLast,
+        /// Gives 20 for the ring as it is lent.
+        LimitUnclosed,
+        /// Gives 20 for the coordinates that are kept.
+        LimitByKept,
+        /// Gives 22 before 20.
+        RoomBeforeLimit,
+        /// Gives 22 for the coordinates that are kept.
+        RoomByKept,
+        /// Gives 26 before 22.
+        ShortBeforeRoom,
+        /// Gives 26 under three coordinates.
+        ThreeAreEnough,
+        /// Answers 0 for a ring of no numbers.
+        NoneOfNone,
+        /// Has already written when it gives 26.
+        WritesBeforeShort,
+
+        // The answer and the output.
+        /// Answers how many numbers are kept.
+        AnswersNumbers,
+        /// Leaves zeros past the answer as far as 22 asks, as ring calls do.
+        ClearsPastKept,
+        /// Leaves the last of the closed ring past the answer, as it moved the kept ones to the front of a copy.
+        LeavesCopyPastKept,
     }
 
     [Lines] {

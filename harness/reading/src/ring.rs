@@ -81,7 +81,7 @@ impl Reading {
         lent.len()
     }
 
-    fn closed_length(&self, lent: &[Vertex]) -> usize {
+    pub fn closed_length(&self, lent: &[Vertex]) -> usize {
         let mut ring = lent.to_vec();
         self.close(&mut ring);
         ring.len()
