@@ -6,6 +6,7 @@ pub mod cuts;
 pub mod frames;
 pub mod issues;
 pub mod lines;
+pub mod mends;
 pub mod pairs;
 pub mod passes;
 pub mod probe;

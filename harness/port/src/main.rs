@@ -9,7 +9,7 @@ use port::cuts::Comparison;
 use port::replay::{self, Replay};
 
 const USAGE: &str =
-    "usage: port bounds|cuts|frames|issues|lines|pairs|passes|reader|rings|slices [--seed S] [--count N]
+    "usage: port bounds|cuts|frames|issues|lines|mends|pairs|passes|reader|rings|slices [--seed S] [--count N]
        port replay-rings|replay-slices <vectors";
 
 fn main() {
@@ -20,6 +20,7 @@ fn main() {
         "frames" => port::frames::compare(seed, count),
         "issues" => port::issues::compare(seed, count),
         "lines" => port::lines::compare(seed, count),
+        "mends" => port::mends::compare(seed, count),
         "pairs" => port::pairs::compare(seed, count),
         "passes" => port::passes::compare(seed, count),
         "reader" => port::reader::compare(seed, count),

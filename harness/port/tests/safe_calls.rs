@@ -1,16 +1,19 @@
-//! The safe calls of crate `ringcut` against the Rust, on fewer calls than the codes that they read: the answer and every lent
-//! number and origin.
+//! The safe calls of crate `ringcut` against the Rust, the mending one against the second reading, on fewer calls than the codes that they
+//! read: the answer and every lent number and origin.
 
 use std::fmt::Display;
 
 use compare::calls::styles;
 use compare::campaign::{self, Checked};
 use compare::frames::kinds;
+use compare::mends;
 use formats::calls::{RingCall, SliceCall};
+use formats::mends::{MendAfter, MendCall};
 use formats::reason::Reason;
 use generator::Specimen;
 use port::calls::{lent, lent_to_ring, named};
-use ringcut::{cut_frame, cut_polygon, cut_ring, Answer, Flags, Refusal};
+use reading::Reading;
+use ringcut::{cut_frame, cut_polygon, cut_ring, mend, Answer, Flags, Refusal};
 
 const SEED: u64 = 3;
 const COUNT: u64 = 1_000;
@@ -54,6 +57,12 @@ fn check_slice(call: &SliceCall) -> Checked {
     verdict(call, after.difference(&call.after(&oracle::slice_call(call))))
 }
 
+fn check_mend(call: &MendCall) -> Checked {
+    let mut out = call.out.clone();
+    let answer = mend(&call.ring, &mut out).map_or_else(refusal_code, |count| count as i64);
+    verdict(call, MendAfter { answer, out }.difference(&mends::mend(&Reading::RIGHT, call)))
+}
+
 fn check_frame(Specimen { frame, room }: &Specimen) -> Checked {
     let mut out = vec![0; *room];
     let answered = cut_frame(frame, &mut out).map(|len| out[..len].to_vec()).map_err(Refusal::number);
@@ -85,4 +94,12 @@ fn safe_slice_calls_agree() {
         check_slice(&generator::slice_call(style, SEED, index))
     });
     campaign.assert_agreed(11 * COUNT);
+}
+
+#[test]
+fn safe_mending_calls_agree() {
+    let campaign = campaign::run("safe mends", SEED, COUNT, &mends::kinds(), |kind, index| {
+        check_mend(&generator::mend(kind, SEED, index))
+    });
+    campaign.assert_agreed(12 * COUNT);
 }
