@@ -1,13 +1,14 @@
 //! Times the port beside the unchanged Rust, on the same inputs, in one run: one table, times in nanoseconds. The ratio is the
 //! port's time over the Rust's. The name of a workload asks for its rows alone, `instructions` for the counts of callgrind,
-//! `crossings` for issue checks of rings that cross themselves, `shallow` for those of rings that cross in floats alone. As
-//! `ringcut` it is the Rust program that the port's is measured beside.
+//! `crossings` for issue checks of rings that cross themselves, `shallow` for those of rings that cross in floats alone, `mends` for the
+//! mending call. As `ringcut` it is the Rust program that the port's is measured beside.
 
 mod crossings;
 mod frames;
 mod instructions;
 mod issues;
 mod lines;
+mod mends;
 mod outlines;
 mod rings;
 mod shallow;
@@ -36,6 +37,7 @@ fn main() {
         Some("instructions") => instructions::measure(),
         Some("crossings") => crossings::measure(),
         Some("shallow") => shallow::measure(),
+        Some("mends") => mends::measure(),
         asked => measure(asked),
     }
 }
@@ -45,7 +47,7 @@ fn measure(asked: Option<&str>) {
     let is_asked = |name: &str| asked.is_none_or(|asked| asked == name);
     assert!(
         WORKLOADS.iter().any(|&(name, _)| is_asked(name)),
-        "usage: bench [issues|rings|slices|frames|lines|instructions|crossings|shallow]"
+        "usage: bench [issues|rings|slices|frames|lines|instructions|crossings|shallow|mends]"
     );
     table::print_head();
     WORKLOADS.iter().filter(|&&(name, _)| is_asked(name)).for_each(|&(_, measure)| measure());
