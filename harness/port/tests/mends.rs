@@ -197,8 +197,8 @@ fn the_closing_one_keeps_its_signs_of_zero() {
     }
 }
 
-/// Steps of 1/2^36 to 1/2^33, which are added up without rounding, in x, in y and in both. What counts is the last kept: 1e-10 is 6.87 times
-/// the least of them, so that each seventh is kept.
+/// Steps of 1/2^36 to 1/2^33, which are added up without rounding, in x, in y and in both. What counts is the last kept: 1e-10 is
+/// 6.87 times the least of them, so that each seventh is kept.
 #[test]
 fn creeping_rings_keep_each_that_is_far_from_the_last_kept() {
     assert_eq!(mended(&CREEPING), flat(&CREEPING_MENDED));
