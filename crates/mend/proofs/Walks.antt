@@ -1,14 +1,14 @@
 -- The ways of the two loops through a closed ring: from one coordinate that is kept to the next, and from the first to the closing one.
 -- Assumes nothing.
 use mathlib.Core.Path.{_≡_, refl, sym, _∙_, ap}
-use mathlib.Core.Bool.{Bool, true, false, cond}
-use mathlib.Core.List.{List, [], _∷_, _++_}
+use mathlib.Core.Bool.{Bool, true, false}
+use mathlib.Core.List.{List, [], _∷_}
 use Prim.Native.Nat.{ℕ, suc, _+_, _*_, _-_, _≤_, _<_}
 use native.Mathlib.Numerals.{add-one}
 use native.Mathlib.Omega.{arith}
 use lib.Dec.{ltb, eqb}
 use lib.Ieee.{Float, nan}
-use lib.ListN.{length, getD, take, drop, length-append, length-drop, drop-of-length-le, List·getD-append}
+use lib.ListN.{length, getD, take, drop, length-append, drop-of-length-le, List·getD-append}
 use lib.Seq.{sets, length-sets, drop-cons, drop-at, take-all, take-suc}
 use borrow.Author.Tests.{lt-ltb, le-ltb, eqb-true, eqb-false}
 use Rattle.binary64.proofs.Fill.{whole-over}
@@ -180,44 +180,55 @@ module _ (s : List Float) (n m : ℕ) (fits : 2 * n ≤ length s) (some : 0 < n)
 -- ---- from the first coordinate to the closing one
 
 -- coordinate k is kept, `kept` were written before it, and writing what is kept from it on makes the whole
-pub record Writing (c : List Coord) (before d : List Float) (kept k : ℕ) : Type 0 where
-  pub inside : k < length c
-  pub count : kept + length (mend (drop k c)) ≡ length (mend c)
-  pub numbers : sets d (2 * kept) (flat (mend (drop k c))) ≡ sets before 0 (flat (mend c))
+pub record Writing (s : List Float) (end : ℕ) (closing : Coord) (before d : List Float) (kept k : ℕ) : Type 0 where
+  pub inside : k ≤ end
+  pub count : kept + length (mend (drop k (closedBy s end closing))) ≡ length (mend (closedBy s end closing))
+  pub numbers : sets d (2 * kept) (flat (mend (drop k (closedBy s end closing)))) ≡ sets before 0 (flat (mend (closedBy s end closing)))
 
-pub writing-start : (c : List Coord) (d : List Float) → 0 < length c → Writing c d d 0 0
-writing-start c d h = record { inside = h; count = omega arith; numbers = refl }
+pub writing-start : (s : List Float) (end : ℕ) (closing : Coord) (d : List Float) → Writing s end closing d d 0 0
+writing-start s end closing d = record { inside = omega arith; count = omega arith; numbers = refl }
 
 two-more : (k : ℕ) → 2 * (k + 1) ≡ suc (suc (2 * k))
 two-more k = omega arith
 
-module _ (c : List Coord) (before d : List Float) (kept k : ℕ) (w : Writing c before d kept k) where
+module _ {s : List Float} {end : ℕ} {closing : Coord} {before d : List Float} {kept k : ℕ} (w : Writing s end closing before d kept k) where
   writing-same : length d ≡ length before
   writing-same =
-      sym (length-sets d (2 * kept) (flat (mend (drop k c)))) ∙ ap length (w .numbers) ∙ length-sets before 0 (flat (mend c))
+      sym (length-sets d (2 * kept) (flat (mend (drop k (closedBy s end closing))))) ∙ ap length (w .numbers)
+      ∙ length-sets before 0 (flat (mend (closedBy s end closing)))
 
-  pub writing-fits : kept + 1 ≤ length c
-  writing-fits = omega (arith, w .count, from-some c k (w .inside), none-more c)
+  -- one coordinate at least is still to be written
+  pub writing-fits : 2 * end ≤ length s → kept ≤ end
+  writing-fits fits =
+      let l = length-by s end fits closing in
+      omega (arith, l, w .count, from-some (closedBy s end closing) k (omega (arith, l, w .inside)), none-more (closedBy s end closing))
 
-  pub writing-room : 2 * length c ≤ length before → 2 * kept + 1 < length d
-  writing-room h = omega (arith, writing-same, writing-fits)
+  pub writing-room : 2 * end ≤ length s → 2 * end + 2 ≤ length before → 2 * kept + 1 < length d
+  writing-room fits h = omega (arith, writing-same, writing-fits fits)
 
   module _ (p : Coord) (d′ : List Float) (put : d′ ≡ sets d (2 * kept) (p .x ∷ p .y ∷ [])) where
     pub writing-length : length d′ ≡ length before
     writing-length = ap length put ∙ length-sets d (2 * kept) (p .x ∷ p .y ∷ []) ∙ writing-same
 
-    pub writing-on : (r : ℕ) → r < length c → mend (drop k c) ≡ p ∷ mend (drop r c) → Writing c before d′ (kept + 1) r
+    pub writing-on : (r : ℕ) → p ≡ coordAt s k → NextKept s end k r → Writing s end closing before d′ (kept + 1) r
     unfolding flat
-    writing-on r h e = record {
-      inside = h;
-      count = omega (arith, w .count, ap length e);
-      numbers = rw (put, two-more kept) (rw e at (w .numbers));
-    }
+    writing-on r at n =
+        let e : mend (drop k (closedBy s end closing)) ≡ p ∷ mend (drop r (closedBy s end closing)) = n .rest closing ∙ rw at in
+        record {
+          inside = n .most;
+          count = omega (arith, w .count, ap length e);
+          numbers = rw (put, two-more kept) (rw e at (w .numbers));
+        }
 
-    pub writing-end : 2 * length c ≤ length before → mend (drop k c) ≡ p ∷ [] → Written (mend c) before (kept + 1) d′
-    unfolding flat
-    writing-end h e =
-        let n : kept + 1 ≡ length (mend c) = omega (arith, w .count, ap length e) in
-        let l : length (flat (mend c)) ≡ 2 * (kept + 1) = length-flat (mend c) ∙ rw n in
-        let x : d′ ≡ sets before 0 (flat (mend c)) = put ∙ (rw e at (w .numbers)) in
-        record { count = n; numbers = x ∙ rw l at (whole-over (flat (mend c)) before (omega (arith, none-more c, length-flat (mend c)))) }
+  pub writing-end : 2 * end ≤ length s → 2 * end + 2 ≤ length before → end ≤ k → (d′ : List Float)
+      → d′ ≡ sets d (2 * kept) (closing .x ∷ closing .y ∷ []) → Written (mend (closedBy s end closing)) before (kept + 1) d′
+  unfolding flat
+  writing-end fits room h d′ put =
+      let c = closedBy s end closing in
+      let k≡ : k ≡ end = omega (arith, w .inside) in
+      let e : mend (drop k c) ≡ closing ∷ [] = rw k≡ (left-closing s end fits closing) in
+      let n : kept + 1 ≡ length (mend c) = omega (arith, w .count, ap length e) in
+      let l : length (flat (mend c)) ≡ 2 * (kept + 1) = length-flat (mend c) ∙ rw n in
+      let x : d′ ≡ sets before 0 (flat (mend c)) = put ∙ (rw e at (w .numbers)) in
+      let most = length-by s end fits closing in
+      record { count = n; numbers = x ∙ rw l at (whole-over (flat (mend c)) before (omega (arith, none-more c, length-flat (mend c), most))) }

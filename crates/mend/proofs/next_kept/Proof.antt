@@ -1,7 +1,6 @@
 -- `next_kept` meets its contract: the loop goes past what is near the coordinate that is kept. Assumes nothing.
 use mathlib.Core.Path.{_≡_, sym, _∙_}
 use Prim.Native.Nat.{_-_}
-use native.Mathlib.Omega.{arith}
 use borrow.Author.Needs.{needs}
 use borrow.Author.Tests.{not-true, not-false}
 use Rattle.tile.specs.Contracts.{coordAt}
