@@ -189,8 +189,8 @@ int64_t ringcut_polygon(uint8_t assume_simple, uint8_t skip_boundary_fallback, d
  * one longer. Edges that cross are not mended. Holes may be mended too; no call looks for repeated corners in them.
  *
  * Positions that a later call tells, as origins or with a reason, are those of the mended ring. A caller who wants them in the ring as
- * it was keeps count. The mended ring is the closed one with some coordinates left out: each but the closing one is the first there
- * that equals it, behind where the one before it was found.
+ * it was keeps count. The mended ring is the closed one with some coordinates left out: where it holds no NaN, each but the closing
+ * one is the first there that equals it, behind where the one before it was found.
  */
 int64_t ringcut_mend(const double *ring, size_t ring_len, double *out, size_t out_len);
 

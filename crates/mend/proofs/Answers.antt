@@ -10,9 +10,9 @@ use lib.Ieee.{Float}
 use lib.ListN.{length, take}
 use lib.Seq.{take-all}
 use Rattle.tile.specs.declared.Coord.{Coord}
-use Rattle.tile.specs.Ring.{coords, close}
+use Rattle.tile.specs.Ring.{coords, flat, close}
 use Rattle.tile.specs.Contracts.{Written}
-use Rattle.tile.proofs.Rings.{length-front, close-most, written-front}
+use Rattle.tile.proofs.Rings.{length-flat, length-front, close-most, written-front}
 use Rattle.sutherland_hodgman.specs.Growth.{mostCoordinates}
 use Rattle.mend.specs.declared.MendAnswer.{MendAnswer}
 use Rattle.mend.specs.declared.MendAnswer.the-variants.{Refused, Mended}
@@ -22,6 +22,7 @@ use Rattle.mend.specs.Mend.{mend}
 use Rattle.mend.specs.MendCall.{closedRing, mendedRing, refusedIf, mendCallAnswer, mendCallOutput, MendPromise}
 use Rattle.mend.specs.Contracts.{closedBy, FewKept}
 use Rattle.mend.proofs.Laws.{none-told, none-more, mend-again}
+use Rattle.mend.proofs.Walks.{closes}
 
 -- what the contract says of an answer and of the output afterwards
 abbrev pub Outcome : List Float → List Float → MendAnswer → List Float → Type 0
@@ -75,14 +76,20 @@ module _ (s out : List Float) where
           unfolding mendedRing
           same = ap mend (sym by ∙ whole)
 
-          pub refused-short : FewKept s (m - 1) true → Outcome s out (Refused Short) out
-          refused-short few = refused Short (remaining true (rw (← same) (sym (few closing))))
+          few-remain : (t : Bool) → FewKept s (m - 1) t → ltb (length (mendedRing s)) 4 ≡ t
+          few-remain t few = rw (← same) (sym (few closing))
 
           pub is-mended : FewKept s (m - 1) false → (k : ℕ) (out′ : List Float) → Written (mend (closedBy s (m - 1) closing)) out k out′
               → Outcome s out (Mended k) out′
           unfolding mendedRing closedRing mendCallOutput
           is-mended few k out′ w =
               let n : k ≡ length (mendedRing s) = w .count ∙ ap length same in
-              let a : Mended k ≡ mendCallAnswer s out = rw n (remaining false (rw (← same) (sym (few closing)))) in
+              let a : Mended k ≡ mendCallAnswer s out = rw n (remaining false (few-remain false few)) in
+              let l : length (flat (mendedRing s)) ≡ 2 * k = length-flat (mendedRing s) ∙ rw n in
               let r : coords (take (2 * k) out′) ≡ mendedRing s = written-front w ∙ same in
-              (a, (w .numbers ∙ rw (same, ← a), rw r (none-told (closedRing s), mend-again (coords s))))
+              (a, (w .numbers ∙ rw (same, ← a, l), rw r (none-told (closedRing s), mend-again (coords s))))
+
+        pub refused-short : 4 ≤ m → FewKept s (m - 1) true → Outcome s out (Refused Short) out
+        refused-short four few =
+            let c = closes s (length s / 2) m (omega (arith, even)) (omega (arith, four, closed-most)) count in
+            refused Short (remaining true (few-remain (c .0) (c .1) true few))

@@ -22,7 +22,7 @@ some-kept : (q : Coord) (t : Bool) (a b : List Coord) → 0 < length a → 0 < l
 some-kept q true a b h = h
 some-kept q false a b h = omega arith
 
--- of what has a coordinate something is kept: its last
+-- of what has a coordinate something is kept
 pub kept-some : (p q : Coord) (r : List Coord) → 0 < length (keptAfter p (q ∷ r))
 unfolding keptAfter
 kept-some p q [] = omega arith
@@ -85,6 +85,11 @@ kept-one-more z =
 
 -- ---- mending
 
+-- "its first coordinate, which it keeps"
+pub first-kept : (p : Coord) (r : List Coord) (z : Coord) → getD (mend (p ∷ r)) 0 z ≡ p
+unfolding mend
+first-kept p r z = refl
+
 -- "The mended ring has no repeated neighbours by document 01's rule"
 pub none-repeated : (ring : List Coord) → repeated (mend ring) ≡ false
 unfolding mend
@@ -93,11 +98,6 @@ none-repeated (p ∷ r) = kept-new p r
 
 pub none-told : (ring : List Coord) → firstRepeated (mend ring) ≡ Repeats.None
 none-told ring = repeated-none (mend ring) (none-repeated ring)
-
--- "the first coordinate, which it keeps"
-pub first-kept : (p : Coord) (r : List Coord) (z : Coord) → getD (mend (p ∷ r)) 0 z ≡ p
-unfolding mend
-first-kept p r z = refl
 
 -- "except the closing one"
 pub closing-kept : (p : Coord) (r : List Coord) (z : Coord) → getD (mend (p ∷ r)) (length (mend (p ∷ r)) - 1) z ≡ last p r

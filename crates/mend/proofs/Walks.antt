@@ -177,6 +177,14 @@ module _ (s : List Float) (n m : ℕ) (fits : 2 * n ≤ length s) (some : 0 < n)
           let k : m - 1 ≡ n = omega (arith, count, count-open ring h, l) in
           close-open ring none h ∙ rw (k, front-at s n 0 none fits some)
 
+  -- one of the two closes it
+  pub closes : (closing : Coord) × (close ring ≡ closedBy s (m - 1) closing)
+  closes = go (eqb m n) refl
+    where
+      go : (t : Bool) → eqb m n ≡ t → (closing : Coord) × (close ring ≡ closedBy s (m - 1) closing)
+      go true e = (coordAt s (n - 1), closed-own (eqb-true m n e))
+      go false e = (coordAt s 0, closed-first (eqb-false m n e))
+
 -- ---- from the first coordinate to the closing one
 
 -- coordinate k is kept, `kept` were written before it, and writing what is kept from it on makes the whole

@@ -12,11 +12,11 @@ use Rattle.tile.specs.Ring.{coords}
 use Rattle.tile.specs.Contracts.{coordAt}
 use Rattle.mend.specs.Mend.{mend}
 
--- the closed ring, all but whose closing coordinate are the first `end` coordinates of a slice
+-- the first `end` coordinates of a slice, and then the closing one
 abbrev pub closedBy : List Float → ℕ → Coord → List Coord
 closedBy s end closing = coords (take (2 * end) s) ++ (closing ∷ [])
 
--- behind coordinate k, which is kept, the next one kept is coordinate r, whatever the closing one, which has position `end`
+-- coordinate k is kept, and behind it mending goes on from coordinate r, whatever the closing one is, which has position `end`
 pub record NextKept (s : List Float) (end k r : ℕ) : Type 0 where
   pub later : k < r
   pub most : r ≤ end

@@ -15,7 +15,7 @@ unfoldable pub mend : List Coord → List Coord
 mend [] = []
 mend (first ∷ r) = first ∷ keptAfter first r
 
--- a list of which some are left, in their order
+-- `Subsequence a b`: a is b with some left out, and the others in their order
 pub data Subsequence : List Coord → List Coord → Type 0 where
   empty : Subsequence [] []
   keeps : {a b : List Coord} (p : Coord) → Subsequence a b → Subsequence (p ∷ a) (p ∷ b)

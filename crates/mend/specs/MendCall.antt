@@ -2,12 +2,13 @@
 -- only.
 use mathlib.Core.Path.{_≡_}
 use mathlib.Core.Bool.{Bool, true, false}
-use mathlib.Core.List.{List, _++_}
+use mathlib.Core.List.{List}
 use Prim.Native.Nat.{ℕ, _*_, _%_}
 use lib.Dec.{ltb, eqb}
 use lib.Ieee.{Float}
 use lib.IntN.{ℤ, pos, negℤ}
-use lib.ListN.{length, take, drop}
+use lib.ListN.{length, take}
+use Rattle.binary64.specs.Slices.{over}
 use Rattle.tile.specs.declared.Coord.{Coord}
 use Rattle.tile.specs.Ring.{coords, flat, close}
 use Rattle.box_pairs.specs.declared.Repeat.the-variants as Repeats
@@ -57,11 +58,12 @@ mendCallCode (Mended n) = pos n
 
 -- ---- the output afterwards
 
+-- by the answer: a refusal leaves the output unchanged, and a success leaves it so past the mended ring
 abbrev pub outputAfter : MendAnswer → List Coord → List Float → List Float
 outputAfter (Refused refusal) mended out = out
-outputAfter (Mended n) mended out = flat mended ++ drop (2 * n) out
+outputAfter (Mended n) mended out = over (flat mended) out
 
--- "It writes the kept coordinates in their order"; past them, and by a refusal, the output is unchanged
+-- "It writes the kept coordinates in their order"
 unfoldable pub mendCallOutput : List Float → List Float → List Float
 mendCallOutput ring out = outputAfter (mendCallAnswer ring out) (mendedRing ring) out
 
@@ -70,5 +72,5 @@ mendCallOutput ring out = outputAfter (mendCallAnswer ring out) (mendedRing ring
 abbrev pub MendPromise : MendAnswer → List Float → Type 0
 MendPromise (Refused refusal) out = Unit {0}
 MendPromise (Mended n) out =
-    let ring = coords (take (2 * n) out) in
-    (firstRepeated ring ≡ Repeats.None) × (mend (close ring) ≡ close ring)
+    let mended = coords (take (2 * n) out) in
+    (firstRepeated mended ≡ Repeats.None) × (mend (close mended) ≡ close mended)

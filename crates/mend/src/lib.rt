@@ -1,5 +1,5 @@
-// The mending call: it drops each coordinate of a ring that is near the last one kept, and so the repeated corners that send an exterior
-// to the overlay. It is open to callers and refuses what it can't mend.
+// The mending call: it drops each coordinate of a ring, except the closing one, that is near the last one kept, and so the repeated
+// corners that send an exterior to the overlay. It is open to callers and refuses what it can't mend.
 ghost use mathlib.Core.Path.{_≡_};
 ghost use Prim.Native.Nat.{_+_, _*_, _-_, _≤_, _<_};
 ghost use lib.ListN.{length, take};
@@ -34,10 +34,10 @@ fn next_kept(ring: &[f64], k: usize, end: usize) -> usize
     requires { ⌜ (2 * end ≤ length (now ring)) × (k < end) ⌝ }
     ensures { λ r. ⌜ NextKept (now (ring .entry)) end k r ⌝ }
 {
-    let kept = coord_at(ring, k);
+    let last = coord_at(ring, k);
     let mut i = k + 1;
     while i < end {
-        if !is_degenerate(kept, coord_at(ring, i)) {
+        if !is_degenerate(last, coord_at(ring, i)) {
             return i;
         }
         i += 1;
@@ -106,9 +106,9 @@ pub fn mend_ring(ring: &[f64], out: &mut [f64]) -> MendAnswer
     if m < 4 {
         return MendAnswer::Refused(MendRefusal::Short);
     }
-    let closing = closing_coord(ring, n, m);
     if few_kept(ring, m - 1) {
         return MendAnswer::Refused(MendRefusal::Short);
     }
+    let closing = closing_coord(ring, n, m);
     MendAnswer::Mended(write_kept(ring, m - 1, closing, out))
 }

@@ -298,8 +298,8 @@ pub fn cut_ring(ring: &[f64], bounds: Bounds, lent: RingBuffers) -> Result<usize
 /// - Edges that cross are not mended.
 /// - Holes may be mended too; no call looks for repeated corners in them.
 /// - Positions that a later call tells, as [origins](Origin) or in an [`Issue`], are those of the mended ring. Who wants them in the
-///   ring as it was keeps count. The mended ring is the closed one with some coordinates left out: each but the closing one is the
-///   first there that equals it, behind where the one before it was found. The third program in README.md does so.
+///   ring as it was keeps count. The mended ring is the closed one with some coordinates left out: where it holds no NaN, each but the
+///   closing one is the first there that equals it, behind where the one before it was found. The third program in README.md does so.
 ///
 /// ```
 /// use ringcut::{mend, Refusal};

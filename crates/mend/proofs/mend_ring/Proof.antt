@@ -43,36 +43,36 @@ returns-4 c =
     let count = c .before .before .before .closed-count .ensures in
     refused-few s o even _ count (c .before .before .if2 .left) (c .before .if3 .left) (c .if4 .taken)
 
-closing-coord-requires : tie.Need-closing-coord-requires
-closing-coord-requires c κs =
-    let a = c .before .before .before .before .before .before .before .args in
-    let s = a .ring .now in
-    let o = a .out .now in
-    let even = c .before .before .before .before .if1 .left in
-    let count = c .before .before .before .closed-count .ensures in
-    (omega (arith, even), omega (arith, c .if4 .left, closed-most s o even _ count), count)
-
 sub-few-kept : tie.Need-sub-few-kept
 sub-few-kept c = search needs
 
 few-kept-requires : tie.Need-few-kept-requires
 few-kept-requires c κs =
-    let a = c .before .before .before .before .before .before .before .before .args in
+    let a = c .before .before .before .before .before .before .before .args in
     let s = a .ring .now in
     let o = a .out .now in
-    let even = c .before .before .before .before .before .if1 .left in
-    let count = c .before .before .before .before .closed-count .ensures in
-    (omega (arith, even, closed-most s o even _ count), omega (arith, c .before .if4 .left))
+    let even = c .before .before .before .before .if1 .left in
+    let count = c .before .before .before .closed-count .ensures in
+    (omega (arith, even, closed-most s o even _ count), omega (arith, c .if4 .left))
 
 returns-5 : tie.Need-returns-5
 returns-5 c =
-    let a = c .before .before .before .before .before .before .before .before .before .before .args in
+    let a = c .before .before .before .before .before .before .before .before .before .args in
     let s = a .ring .now in
     let o = a .out .now in
-    let even = c .before .before .before .before .before .before .before .if1 .left in
-    let count = c .before .before .before .before .before .before .closed-count .ensures in
-    refused-short s o even _ count (c .before .before .before .before .before .if2 .left) (c .before .before .before .before .if3 .left) _ (c .before .before .closing-coord .ensures)
+    let even = c .before .before .before .before .before .before .if1 .left in
+    let count = c .before .before .before .before .before .closed-count .ensures in
+    refused-short s o even _ count (c .before .before .before .before .if2 .left) (c .before .before .before .if3 .left) (c .before .before .if4 .left)
     (rw (c .if5 .taken) at (c .before .few-kept .ensures))
+
+closing-coord-requires : tie.Need-closing-coord-requires
+closing-coord-requires c κs =
+    let a = c .before .before .before .before .before .before .before .before .before .args in
+    let s = a .ring .now in
+    let o = a .out .now in
+    let even = c .before .before .before .before .before .before .if1 .left in
+    let count = c .before .before .before .before .before .closed-count .ensures in
+    (omega (arith, even), omega (arith, c .before .before .if4 .left, closed-most s o even _ count), count)
 
 sub-write-kept : tie.Need-sub-write-kept
 sub-write-kept c = search needs
@@ -96,8 +96,8 @@ returns-6 c =
     let o = a .out .now in
     let even = c .before .before .before .before .before .before .before .before .before .before .before .if1 .left in
     let count = c .before .before .before .before .before .before .before .before .before .before .closed-count .ensures in
-    is-mended s o even _ count (c .before .before .before .before .before .before .before .before .before .if2 .left) (c .before .before .before .before .before .before .before .before .if3 .left) _ (c .before .before .before .before .before .before .closing-coord .ensures)
-    (rw (c .before .before .before .before .if5 .left) at (c .before .before .before .before .before .few-kept .ensures)) _ _ (c .before .before .write-kept .ensures)
+    is-mended s o even _ count (c .before .before .before .before .before .before .before .before .before .if2 .left) (c .before .before .before .before .before .before .before .before .if3 .left) _ (c .before .before .before .before .closing-coord .ensures)
+    (rw (c .before .before .before .before .before .if5 .left) at (c .before .before .before .before .before .before .few-kept .ensures)) _ _ (c .before .before .write-kept .ensures)
 
 pub mend-ring-spec : {M : Type 1} → statement M
 mend-ring-spec =
@@ -109,10 +109,10 @@ mend-ring-spec =
     mul-if3
     returns-3
     returns-4
-    closing-coord-requires
     sub-few-kept
     few-kept-requires
     returns-5
+    closing-coord-requires
     sub-write-kept
     write-kept-requires
     same-length
