@@ -43,7 +43,7 @@ module _ (s out : List Float) where
     unfolding closedRing
     whole = ap (λ (t : List Float). close (coords t)) (take-all (2 * (length s / 2)) s (omega (arith, even)))
 
-    closed-count : length (closedRing s) ≡ m
+    pub closed-count : length (closedRing s) ≡ m
     closed-count = sym (count ∙ ap length whole)
 
     -- closing adds at most one
@@ -61,7 +61,7 @@ module _ (s out : List Float) where
       refused-output h = refused Output (rw (ne-eqb _ _ even, closed-count, le-ltb _ _ most, lt-ltb _ _ h))
 
       module _ (room : 2 * m ≤ length out) where
-        remaining : (t : Bool) → ltb (length (mendedRing s)) 4 ≡ t
+        pub remaining : (t : Bool) → ltb (length (mendedRing s)) 4 ≡ t
             → refusedIf t Short (Mended (length (mendedRing s))) ≡ mendCallAnswer s out
         unfolding mendCallAnswer
         remaining t e = rw (ne-eqb _ _ even, closed-count, le-ltb _ _ most, le-ltb _ _ room, e)
