@@ -293,13 +293,13 @@ pub fn cut_ring(ring: &[f64], bounds: Bounds, lent: RingBuffers) -> Result<usize
 /// It refuses, in this order, an odd count of numbers ([`Refusal::Lengths`]), over 65,532 coordinates ([`Refusal::Coordinates`]), an
 /// output that is too short ([`Refusal::Output`]), and a ring of which fewer than 4 coordinates remain ([`Refusal::Short`]).
 ///
-/// - It moves nothing, it only drops. No corner of a mended ring is repeated, and mending it again drops none; where it begins with a
-///   NaN it is closed again, and so is one longer.
+/// - It moves nothing: but for closing the ring it only drops. No corner of a mended ring is repeated, and mending it again drops none;
+///   where it begins with a NaN it is closed again, and so is one longer.
 /// - Edges that cross are not mended.
 /// - Holes may be mended too; no call looks for repeated corners in them.
 /// - Positions that a later call tells, as [origins](Origin) or in an [`Issue`], are those of the mended ring. Who wants them in the
 ///   ring as it was keeps count. The mended ring is the closed one with some coordinates left out: where it holds no NaN, each but the
-///   closing one is the first there that equals it, behind where the one before it was found. The third program in README.md does so.
+///   closing one is the first there that equals it, behind where the one before it was found.
 ///
 /// ```
 /// use ringcut::{mend, Refusal};
@@ -311,6 +311,10 @@ pub fn cut_ring(ring: &[f64], bounds: Bounds, lent: RingBuffers) -> Result<usize
 /// assert_eq!(out[..10], [5., 5., 15., 5., 15., 8., 5., 8., 5., 5.]);
 /// // What was lent behind the mended ring stays.
 /// assert_eq!(out[10..], [7.0; 6]);
+/// // Which corners of the ring these are, but for the closing one.
+/// let mut lent = ring.chunks(2).enumerate();
+/// let corners = out[..8].chunks(2).map(|kept| lent.find(|(_, corner)| *corner == kept).unwrap().0);
+/// assert!(corners.eq([0, 1, 3, 4]));
 ///
 /// // Lent open, it is closed, and asks for room for seven coordinates all the same.
 /// assert_eq!(mend(&ring[..12], &mut out[..14]), Ok(5));
