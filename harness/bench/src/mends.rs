@@ -24,7 +24,7 @@ use crate::table::whole;
 use crate::timing::medians_in_step;
 
 /// Of ten corners so many are the one before once more.
-const REPEATED: [(&str, usize); 3] = [("none", 0), ("a tenth", 1), ("nine tenths", 9)];
+const SHARES: [(&str, usize); 3] = [("none", 0), ("a tenth", 1), ("nine tenths", 9)];
 
 const LIMIT: f64 = 1e-10;
 
@@ -32,7 +32,7 @@ pub fn measure() {
     println!("| coordinates | repeated | remain | memcpy | port | port less memcpy | `dedup_by` | GEOS |");
     println!("|---|---|---|---|---|---|---|---|");
     for coordinates in [16, 256, 4_096, MOST_COORDINATES] {
-        for (name, tenths) in REPEATED {
+        for (name, tenths) in SHARES {
             print_row(name, &ring(coordinates, tenths));
         }
     }
@@ -101,7 +101,7 @@ mod tests {
     #[test]
     fn rings_repeat_so_many_tenths_of_their_corners() {
         for coordinates in [16, 256, 4_096] {
-            for (_, tenths) in REPEATED {
+            for (_, tenths) in SHARES {
                 let ring = ring(coordinates, tenths);
                 let repeats = ring.windows(2).filter(|ends| ends[0] == ends[1]).count();
                 assert_eq!((ring.len(), repeats), (coordinates, tenths * (coordinates - 2) / 10));

@@ -5,7 +5,7 @@
 
 use formats::calls::MOST_COORDINATES;
 use formats::mends::{MendAfter, MendCall, FEWEST_COORDINATES};
-use formats::{pairs, same_coord, Coord, Refusal};
+use formats::{pairs, same_bits, same_coord, Coord, Refusal};
 use generator::MendKind;
 use reading::Reading;
 
@@ -46,7 +46,7 @@ pub fn mend(reading: &Reading, call: &MendCall) -> MendAfter {
 }
 
 /// What is broken where the Rust finds a repeated corner in a mended ring.
-pub const REPEATED: &str = "the Rust finds a repeated corner";
+pub const RUST_FINDS_REPEAT: &str = "the Rust finds a repeated corner";
 
 /// What does not hold of an answer and of the output afterwards. What a call leaves alone is compared bit for bit, a NaN's bits too.
 pub fn broken(call: &MendCall, after: &MendAfter) -> Option<&'static str> {
@@ -106,7 +106,7 @@ fn broken_ring(closed: &[Coord], mended: &[Coord]) -> Option<&'static str> {
     } else if !same_end(closed.last(), mended.last()) {
         Some("another closing coordinate")
     } else if oracle::has_repeated(mended) {
-        Some(REPEATED)
+        Some(RUST_FINDS_REPEAT)
     } else if !lacks_near_ones_only(closed, mended) {
         Some("not the closed ring without coordinates that are near the last kept")
     } else {
@@ -127,8 +127,4 @@ fn lacks_near_ones_only(closed: &[Coord], mended: &[Coord]) -> bool {
         }
     }
     next.is_none()
-}
-
-fn same_bits(a: &[f64], b: &[f64]) -> bool {
-    a.len() == b.len() && a.iter().zip(b).all(|(a, b)| a.to_bits() == b.to_bits())
 }

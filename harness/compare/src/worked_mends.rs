@@ -24,7 +24,7 @@ pub const TRIANGLE: [Coord; 4] = [(2., 2.), (8., 2.), (8., 8.), (2., 2.)];
 pub const SQUARE: [Coord; 5] = [(2., 2.), (8., 2.), (8., 8.), (2., 8.), (2., 2.)];
 
 /// The triangle with its first corner repeated.
-pub const REPEATED: [Coord; 5] = [(2., 2.), (2., 2.), (8., 2.), (8., 8.), (2., 2.)];
+pub const TRIANGLE_WITH_REPEAT: [Coord; 5] = [(2., 2.), (2., 2.), (8., 2.), (8., 8.), (2., 2.)];
 
 /// Each is under 1e-10 from the one before it, and every second one is not from the last kept.
 pub const CREEPING: [Coord; 6] = [(0., 0.), (6e-11, 0.), (12e-11, 0.), (5., 0.), (5., 5.), (0., 0.)];
@@ -88,7 +88,7 @@ pub fn worked() -> Vec<Worked> {
         unchanged(Mistake::LimitIsTooMany, &longest),
         (Mistake::FormerLimit, call(&too_long, 0), Err(20)),
         (Mistake::RoomBeforeLimit, call(&too_long, -1), Err(20)),
-        (Mistake::RoomByKept, call(&REPEATED, -2), Err(22)),
+        (Mistake::RoomByKept, call(&TRIANGLE_WITH_REPEAT, -2), Err(22)),
         (Mistake::RoomUnclosed, call(&[(2., 2.), (8., 2.), (8., 2.), (8., 8.)], -2), Err(22)),
         (Mistake::NanSingleStaysOne, call(&[(f64::NAN, 2.)], -2), Err(22)),
         (Mistake::ShortBeforeRoom, call(&[(2., 2.)], -1), Err(22)),
@@ -98,8 +98,8 @@ pub fn worked() -> Vec<Worked> {
         (Mistake::WritesBeforeShort, call(&[(2., 2.), (8., 2.), (2., 2.)], 0), Err(26)),
         // The answer and the output.
         unchanged(Mistake::AnswersNumbers, &SQUARE),
-        (Mistake::ClearsPastKept, call(&REPEATED, 0), kept(&TRIANGLE)),
-        (Mistake::LeavesCopyPastKept, call(&REPEATED, 0), kept(&TRIANGLE)),
+        (Mistake::ClearsPastKept, call(&TRIANGLE_WITH_REPEAT, 0), kept(&TRIANGLE)),
+        (Mistake::LeavesCopyPastKept, call(&TRIANGLE_WITH_REPEAT, 0), kept(&TRIANGLE)),
     ]
     .into_iter()
     .map(|(mistake, call, right)| Worked { mistake, call, right })

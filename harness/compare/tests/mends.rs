@@ -3,11 +3,11 @@
 
 use std::collections::BTreeMap;
 
-use compare::mends::{broken, kinds, mend, REPEATED};
+use compare::mends::{broken, mend, RUST_FINDS_REPEAT};
 use compare::worked_mends::{call, worked, Worked, CREEPING, CREEPING_MENDED, SQUARE, TRIANGLE};
 use formats::calls::MOST_COORDINATES;
 use formats::mends::{MendAfter, MendCall};
-use formats::{flat, pairs, Coord};
+use formats::{flat, pairs, same_bits, Coord};
 use generator::MendKind;
 use reading::{Mistake, Place, Reading};
 
@@ -92,7 +92,7 @@ fn what_is_broken_is_said() {
     let with_more = [SQUARE[0], SQUARE[1], SQUARE[2], SQUARE[3], (5., 5.), SQUARE[4]];
     assert_eq!(said(&with_more), Some("not the closed ring without coordinates that are near the last kept"));
     let repeated = [SQUARE[0], SQUARE[1], SQUARE[1], SQUARE[2], SQUARE[3], SQUARE[4]];
-    assert_eq!(said(&repeated), Some(REPEATED));
+    assert_eq!(said(&repeated), Some(RUST_FINDS_REPEAT));
     for refusal in [19, 20, 22, 26] {
         let refused = broken(&square, &square.after(&Err(refusal)));
         assert_eq!(refused, Some("refused where no refusal applies, or more coordinates than the output has"));
@@ -108,7 +108,7 @@ fn what_is_broken_is_said() {
 fn another_choice_of_creeping_coordinates_is_seen() {
     let creeping = call(&CREEPING, 0);
     assert_eq!(broken(&creeping, &after(&creeping, &CREEPING_MENDED)), None);
-    assert_eq!(broken(&creeping, &after(&creeping, &CREEPING)), Some(REPEATED));
+    assert_eq!(broken(&creeping, &after(&creeping, &CREEPING)), Some(RUST_FINDS_REPEAT));
     let without = |place: usize| [&CREEPING[..place], &CREEPING[place + 1..]].concat();
     assert!((0..CREEPING.len())
         .filter(|&place| place != 1)
@@ -249,34 +249,101 @@ fn shapes(call: &MendCall) -> Vec<(&'static str, bool)> {
     ]
 }
 
-fn same_bits(a: &[f64], b: &[f64]) -> bool {
-    a.iter().map(|number| number.to_bits()).eq(b.iter().map(|number| number.to_bits()))
-}
-
+/// What every ring of a kind has, and what most of them have.
 #[test]
-fn every_ring_is_of_its_kind() {
-    for (kind, call) in specimens(3_000) {
-        assert!(is_of_kind(kind, &call), "{}: {call}", kind.name());
+fn rings_are_of_their_kind() {
+    const COUNT: u64 = 3_000;
+    let mut marked = BTreeMap::new();
+    for (kind, call) in specimens(COUNT) {
+        let ring = pairs(&call.ring);
+        assert!(is_of_kind(kind, &ring), "{}: {call}", kind.name());
+        *marked.entry(kind.name()).or_insert(0) += u64::from(has_mark(kind, &ring));
     }
-    assert_eq!(kinds().len(), 12);
+    for kind in MendKind::ALL {
+        let percent = 100 * marked[kind.name()] / COUNT;
+        assert!(percent >= least_percent(kind), "{}: {percent} of a hundred", kind.name());
+    }
 }
 
-/// Whether a ring has what every one of its kind has, as far as there is such a thing.
-fn is_of_kind(kind: MendKind, call: &MendCall) -> bool {
-    let ring = pairs(&call.ring);
-    let numbers = &call.ring[..2 * ring.len()];
-    let room = vec![7.0; call.room()];
-    let remain = || mend(&Reading::RIGHT, &MendCall { ring: flat(&ring), out: room.clone() }).answer;
+/// Whether two coordinates are so far apart at most in each axis.
+fn are_within(limit: f64, a: Coord, b: Coord) -> bool {
+    (a.0 - b.0).abs() <= limit && (a.1 - b.1).abs() <= limit
+}
+
+/// The ring without what stands at its end and is the first again, or beside it.
+fn without_end(ring: &[Coord]) -> &[Coord] {
+    let is_first_again = |&coord: &Coord| are_within(1e-9, coord, ring[0]);
+    let kept = ring.iter().rposition(|coord| !is_first_again(coord)).map_or(1, |last| last + 1);
+    &ring[..kept.min(ring.len())]
+}
+
+/// Whether a ring has what every one of its kind has.
+fn is_of_kind(kind: MendKind, ring: &[Coord]) -> bool {
+    let numbers = flat(ring);
+    let all = |is_such: fn(f64) -> bool| numbers.iter().all(|&number| is_such(number));
     match kind {
-        MendKind::Bits | MendKind::NotFinite => ring.len() < 40,
-        MendKind::Runs | MendKind::Distinct | MendKind::OnePoint | MendKind::Creeping => {
-            !ring.is_empty() && numbers.iter().all(|number| number.abs() < 200.0)
+        MendKind::Runs => ring.len() > 2 && all(|number| number.abs() < 8.0),
+        MendKind::Distinct => without_end(ring).windows(2).all(|ends| !are_within(1e-9, ends[0], ends[1])),
+        MendKind::OnePoint => {
+            let elsewhere = |point: Coord| without_end(ring).iter().filter(|&&c| !are_within(3e-10, c, point)).count();
+            ring.iter().any(|&point| elsewhere(point) <= 3)
         }
-        MendKind::Steps => numbers.iter().all(|number| (number - number.round()).abs() < 5e-10),
-        MendKind::Rounded => numbers.iter().all(|number| number.abs() < 5e-10 || number.abs() > 262_143.0),
-        MendKind::Zeros => numbers.iter().all(|number| number.abs() < 3.0),
+        MendKind::Creeping => {
+            let creeps = |ends: &[Coord]| ends[0] != ends[1] && are_within(1.02e-10, ends[0], ends[1]);
+            let jumps = ring.windows(2).filter(|ends| !are_within(1.02e-10, ends[0], ends[1])).count();
+            ring[..3].windows(2).all(creeps) && jumps <= 5
+        }
+        MendKind::Steps => all(|number| (number - number.round()).abs() < 5e-10),
+        MendKind::Rounded => all(|number| number.abs() < 5e-10 || number.abs() > 262_143.0),
+        MendKind::Bits => ring.len() < 40,
+        MendKind::NotFinite => ring.len() < 40 && all(|number| !number.is_finite() || number.abs() < 8.0),
+        MendKind::Zeros => all(|number| number.abs() < 3.0),
         MendKind::Few => ring.len() <= 3,
-        MendKind::ThreeOrFour => matches!(remain(), -26 | 4) && ring.len() > 1,
+        MendKind::ThreeOrFour => {
+            let call = MendCall { ring: numbers.clone(), out: vec![7.0; numbers.len() + 2] };
+            ring.len() > 1 && matches!(mend(&Reading::RIGHT, &call).answer, -26 | 4)
+        }
         MendKind::Long => ring.len() >= 100,
+    }
+}
+
+/// Whether it has what most of its kind have.
+fn has_mark(kind: MendKind, ring: &[Coord]) -> bool {
+    let numbers = flat(ring);
+    let any = |is_such: fn(f64) -> bool| numbers.iter().any(|&number| is_such(number));
+    let before_end = without_end(ring);
+    match kind {
+        MendKind::Runs => {
+            let near = before_end.windows(2).filter(|ends| oracle::are_near(ends[0], ends[1])).count();
+            near > 0 && near + 2 < before_end.len()
+        }
+        MendKind::Distinct => before_end.len() > 3,
+        MendKind::OnePoint => ring.windows(2).any(|ends| oracle::are_near(ends[0], ends[1])),
+        MendKind::Creeping => {
+            let creeping = ring.windows(2).take_while(|ends| are_within(1.02e-10, ends[0], ends[1]));
+            creeping.last().is_some_and(|ends| !oracle::are_near(ring[0], ends[1]))
+        }
+        MendKind::Steps => {
+            any(|number| [-1, 0, 1].contains(&(number.abs().to_bits() as i64 - 1e-10_f64.to_bits() as i64)))
+        }
+        MendKind::Rounded => any(|number| number == 1e-10 || number > 262_143.0),
+        MendKind::Bits => any(|number| number.abs() > 1e10 || number.is_subnormal()),
+        MendKind::NotFinite => any(|number| !number.is_finite()),
+        MendKind::Zeros => {
+            any(|number| number.to_bits() == 0) && any(|number| number.to_bits() == (-0.0_f64).to_bits())
+        }
+        MendKind::Few => !ring.is_empty(),
+        MendKind::ThreeOrFour => ring.windows(2).any(|ends| oracle::are_near(ends[0], ends[1])),
+        MendKind::Long => ring.len() < 1_000,
+    }
+}
+
+/// How many of a hundred rings have it at least.
+fn least_percent(kind: MendKind) -> u64 {
+    match kind {
+        MendKind::Runs | MendKind::Distinct | MendKind::Steps | MendKind::Rounded | MendKind::Long => 90,
+        MendKind::OnePoint | MendKind::Bits | MendKind::ThreeOrFour => 80,
+        MendKind::Creeping | MendKind::NotFinite | MendKind::Few => 70,
+        MendKind::Zeros => 60,
     }
 }

@@ -63,6 +63,11 @@ pub fn same_coord((x, y): Coord, (other_x, other_y): Coord) -> bool {
     same_number(x, other_x) && same_number(y, other_y)
 }
 
+/// Bit for bit, a NaN's bits too.
+pub fn same_bits(a: &[f64], b: &[f64]) -> bool {
+    a.len() == b.len() && a.iter().zip(b).all(|(a, b)| a.to_bits() == b.to_bits())
+}
+
 pub fn same_numbers(a: &[f64], b: &[f64]) -> bool {
     a.len() == b.len() && a.iter().zip(b).all(|(&a, &b)| same_number(a, b))
 }

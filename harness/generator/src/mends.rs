@@ -17,7 +17,7 @@ const STREAM: u64 = 900;
 pub enum MendKind {
     /// Corners far apart, most of them met in runs: at the front, in the middle, and before the closing one.
     Runs,
-    /// No corner is near the one before it, though x or y alone often is.
+    /// No corner is near the one before it, though x or y alone often is, up to the first again at the end.
     Distinct,
     /// All but a few near one point.
     OnePoint,
@@ -261,7 +261,7 @@ fn with_repeats(number: impl Fn(&mut Rng) -> f64, rng: &mut Rng) -> Ring {
     ring
 }
 
-/// Half of the rings have a NaN in their first coordinate, and equal none, however they end.
+/// Over half of the rings have a NaN in their first coordinate, which equals none, however they end.
 fn not_finite(rng: &mut Rng) -> Ring {
     let not_finite = |rng: &mut Rng| match rng.below(3) {
         0 => either_sign(f64::INFINITY, rng),

@@ -14,25 +14,36 @@ pub fn compare(seed: u64, count: u64) -> Campaign {
     campaign::run("port mends", seed, count, &kinds(), |kind, index| check(&generator::mend(kind, seed, index)))
 }
 
-/// One call, and another on what it has mended.
-pub fn check(call: &MendCall) -> Checked {
-    let port = answer(call);
-    let checked = check_given(call, &port);
-    if let (Ok(_), Some(mended)) = (&checked, port.mended()) {
-        check_again(mended, &again(mended)).map_err(|difference| format!("{call}: {difference}"))?;
-    }
-    checked
+/// What the port gives of one call: its answer with the output afterwards and, where the ring was mended, the same for what came of it.
+#[derive(Clone, Debug)]
+pub struct Given {
+    pub after: MendAfter,
+    pub again: Option<MendAfter>,
 }
 
-/// What is given of one call, held to the second reading, to the judge and to the Rust.
-pub fn check_given(call: &MendCall, given: &MendAfter) -> Checked {
-    if let Some(difference) = given.difference(&mend(&Reading::RIGHT, call)) {
+/// One call, and another on what it has mended.
+pub fn check(call: &MendCall) -> Checked {
+    check_given(call, &given(call))
+}
+
+/// What is given of one call, held to the second reading, to the judge and to the Rust; and what is given of it once more.
+pub fn check_given(call: &MendCall, Given { after, again }: &Given) -> Checked {
+    if let Some(difference) = after.difference(&mend(&Reading::RIGHT, call)) {
         return Err(format!("{call}: port and reading differ in {difference}"));
     }
-    match broken(call, given) {
-        Some(broken) => Err(format!("{call}: {broken}")),
-        None => Ok(label(call, given)),
+    if let Some(broken) = broken(call, after) {
+        return Err(format!("{call}: {broken}"));
     }
+    match after.mended().and_then(|mended| broken_again(mended, again.as_ref())) {
+        Some(broken) => Err(format!("{call}: {broken}")),
+        None => Ok(label(call, after)),
+    }
+}
+
+pub fn given(call: &MendCall) -> Given {
+    let after = answer(call);
+    let again = after.mended().map(again);
+    Given { after, again }
 }
 
 /// The port's answer to a call, and the output afterwards.
@@ -47,9 +58,12 @@ pub fn again(mended: &[f64]) -> MendAfter {
     answer(&MendCall { ring: mended.to_vec(), out: vec![0.5; mended.len() + 2] })
 }
 
-/// Mending again drops none. The call closes the ring, so that one whose first coordinate holds a NaN, which equals none, has it appended
-/// once more; where it had as many coordinates as a ring may have it is refused for that.
-pub fn check_again(mended: &[f64], again: &MendAfter) -> Result<(), String> {
+/// What does not hold of a mended ring that was mended again: none is dropped. The call closes the ring, so that one whose first coordinate
+/// holds a NaN, which equals none, has it appended once more; where it had as many coordinates as a ring may have it is refused for that.
+fn broken_again(mended: &[f64], again: Option<&MendAfter>) -> Option<&'static str> {
+    let Some(again) = again else {
+        return Some("not mended again");
+    };
     let mut ring = pairs(mended);
     let (x, y) = ring[0];
     if x.is_nan() || y.is_nan() {
@@ -58,10 +72,10 @@ pub fn check_again(mended: &[f64], again: &MendAfter) -> Result<(), String> {
     let is_too_long = ring.len() > MOST_COORDINATES;
     let answer = if is_too_long { -20 } else { ring.len() as i64 };
     if again.answer != answer {
-        return Err(format!("mended again, {} coordinates are answered {}", mended.len() / 2, again.answer));
+        Some("mended again, another count is answered")
+    } else if !is_too_long && !same_numbers(&again.out[..2 * ring.len()], &flat(&ring)) {
+        Some("mended again, it is another ring")
+    } else {
+        None
     }
-    if !is_too_long && !same_numbers(&again.out[..2 * ring.len()], &flat(&ring)) {
-        return Err("mended again, it is another ring".to_string());
-    }
-    Ok(())
 }

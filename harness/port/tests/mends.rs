@@ -3,14 +3,14 @@
 
 use compare::worked::unwritten;
 use compare::worked_mends::{
-    call, pattern, worked, Worked, BEGINS_WITH_NAN, CLOSED_BY_OTHER_ZERO, CREEPING, CREEPING_MENDED, REPEATED, SQUARE,
-    TRIANGLE,
+    call, pattern, worked, Worked, BEGINS_WITH_NAN, CLOSED_BY_OTHER_ZERO, CREEPING, CREEPING_MENDED, SQUARE, TRIANGLE,
+    TRIANGLE_WITH_REPEAT,
 };
 use formats::calls::MOST_COORDINATES;
 use formats::mends::{MendAfter, MendCall};
-use formats::{flat, Coord};
+use formats::{flat, same_number, Coord};
 use generator::MendKind;
-use port::mends::{self, again, answer, check, check_again, check_given};
+use port::mends::{self, again, answer, check, check_given, given, Given};
 use ringcut::raw;
 
 #[test]
@@ -94,7 +94,7 @@ fn room_is_exact_one_short_and_longer() {
     for (ring, closed, kept) in [
         (&SQUARE[..], 5, &SQUARE[..]),
         (&SQUARE[..4], 5, &SQUARE[..]),
-        (&REPEATED[..], 5, &TRIANGLE[..]),
+        (&TRIANGLE_WITH_REPEAT[..], 5, &TRIANGLE[..]),
         (&open_repeats[..], 7, &TRIANGLE[..]),
     ] {
         for room in 0..2 * closed {
@@ -119,7 +119,9 @@ fn room_is_exact_one_short_and_longer() {
 /// Numbers before and behind the slice that is lent, in one piece of memory with it.
 #[test]
 fn nothing_is_written_outside_the_output() {
-    for ring in [&SQUARE[..], &SQUARE[..4], &REPEATED[..], &CREEPING[..], &TRIANGLE[..2], &BEGINS_WITH_NAN[..]] {
+    for ring in
+        [&SQUARE[..], &SQUARE[..4], &TRIANGLE_WITH_REPEAT[..], &CREEPING[..], &TRIANGLE[..2], &BEGINS_WITH_NAN[..]]
+    {
         let room = call(ring, 0).out.len();
         for room in [room - 1, room, room + 1] {
             let mut memory: Vec<f64> = (0..room + 8).map(unwritten).collect();
@@ -166,12 +168,13 @@ fn a_ring_that_begins_with_a_nan_grows_up_to_the_limit() {
     for is_closed in [true, false] {
         let mut ring = pattern(MOST_COORDINATES - 1, is_closed);
         ring[0].0 = f64::NAN;
-        let mended = mended(&ring);
-        assert_eq!(mended.len(), 2 * MOST_COORDINATES);
-        let again = again(&mended);
+        let call = call(&ring, 0);
+        let Given { after, again } = given(&call);
+        assert_eq!(after.answer, MOST_COORDINATES as i64);
+        let again = again.expect("it was mended");
         assert_eq!(again.answer, -20);
-        assert_eq!(check_again(&mended, &again), Ok(()));
         assert!(again.out.iter().all(|&number| number == 0.5));
+        assert_eq!(check(&call), Ok("none dropped"));
     }
     let mut numbers = flat(&BEGINS_WITH_NAN);
     for coordinates in 5..10 {
@@ -243,42 +246,68 @@ fn near_is_under_1e_10_in_both_axes() {
     }
 }
 
-/// One number of what is given changed, however little, or another answer; the output past the answer bit for bit.
+/// One number of what is given changed, however little, or another answer. The reading tells it, and where a NaN that stands past the
+/// answer has other bits, of which the reading says nothing, the judge.
 #[test]
 fn differences_are_noticed() {
-    for ring in [&SQUARE[..], &REPEATED[..], &CREEPING[..], &BEGINS_WITH_NAN[..], &TRIANGLE[..2]] {
+    let rings = [&SQUARE[..], &TRIANGLE_WITH_REPEAT[..], &CREEPING[..], &BEGINS_WITH_NAN[..], &TRIANGLE[..2]];
+    for ring in rings {
         let call = MendCall { out: (0x7ff4_dead_beef_0001..).map(f64::from_bits).take(18).collect(), ring: flat(ring) };
-        let right = answer(&call);
+        let right = given(&call);
         assert!(check_given(&call, &right).is_ok(), "{call}");
-        for place in 0..call.out.len() {
-            let is_copied_nan = right.out[place].is_nan() && place < right.mended().map_or(0, <[f64]>::len);
-            for number in [0.5, -right.out[place], right.out[place].next_up(), f64::NAN] {
-                let mut wrong = right.clone();
+        let noticed = |after: MendAfter| check_given(&call, &Given { after, ..right.clone() }).err();
+        let (out, written) = (&right.after.out, right.after.mended().map_or(0, <[f64]>::len));
+        for (place, &stands) in out.iter().enumerate() {
+            for number in [0.5, -stands, stands.next_up(), f64::NAN] {
+                let mut wrong = right.after.clone();
                 wrong.out[place] = number;
-                let is_same = number.to_bits() == right.out[place].to_bits() || (is_copied_nan && number.is_nan());
-                assert_eq!(check_given(&call, &wrong).is_ok(), is_same, "{call}, place {place}, {number:?}");
+                let told_by = match noticed(wrong) {
+                    None => "nobody",
+                    Some(said) if said.contains(&format!("port and reading differ in output, value {place}: ")) => {
+                        "reading"
+                    }
+                    Some(said) if said.ends_with("written past the answer") => "judge",
+                    Some(said) if said.ends_with("a refusal has written") => "judge",
+                    Some(said) => panic!("{said}"),
+                };
+                let told_rightly_by = if !same_number(number, stands) {
+                    "reading"
+                } else if place < written || number.to_bits() == stands.to_bits() {
+                    "nobody"
+                } else {
+                    "judge"
+                };
+                assert_eq!(told_by, told_rightly_by, "{call}, place {place}, {number:?}");
             }
         }
-        for other in [-26, -22, -20, -19, 0, 3, 4, 5, 6, 9, 10, i64::MIN, i64::MAX] {
-            let wrong = MendAfter { answer: other, ..right.clone() };
-            assert_eq!(check_given(&call, &wrong).is_ok(), other == right.answer, "{call}, {other}");
+        for answer in [-26, -22, -20, -19, 0, 3, 4, 5, 6, 9, 10, i64::MIN, i64::MAX] {
+            let said = noticed(MendAfter { answer, ..right.after.clone() });
+            let is_said = said.is_some_and(|said| said.contains("port and reading differ in answer"));
+            assert_eq!(is_said, answer != right.after.answer, "{call}, {answer}");
         }
     }
 }
 
 #[test]
 fn a_ring_that_is_changed_by_mending_again_is_noticed() {
-    for ring in [&SQUARE[..], &BEGINS_WITH_NAN[..]] {
-        let mended = mended(ring);
-        let right = again(&mended);
-        assert_eq!(check_again(&mended, &right), Ok(()));
-        for answer in [-26, -20, right.answer - 1, right.answer + 1] {
-            assert!(check_again(&mended, &MendAfter { answer, ..right.clone() }).is_err(), "{answer}");
+    for ring in [&SQUARE[..], &TRIANGLE_WITH_REPEAT[..], &BEGINS_WITH_NAN[..]] {
+        let call = call(ring, 0);
+        let right = given(&call);
+        assert!(check_given(&call, &right).is_ok());
+        let noticed = |again: Option<MendAfter>| {
+            let said = check_given(&call, &Given { again, ..right.clone() }).expect_err("it is noticed");
+            said[said.rfind(": ").expect("the call comes first") + 2..].to_string()
+        };
+        assert_eq!(noticed(None), "not mended again");
+        let again = right.again.clone().expect("it was mended");
+        for answer in [-26, -20, again.answer - 1, again.answer + 1] {
+            let wrong = MendAfter { answer, ..again.clone() };
+            assert_eq!(noticed(Some(wrong)), "mended again, another count is answered", "{answer}");
         }
-        for place in 0..2 * right.answer as usize {
-            let mut wrong = right.clone();
+        for place in 0..2 * again.answer as usize {
+            let mut wrong = again.clone();
             wrong.out[place] = 0.5;
-            assert!(check_again(&mended, &wrong).is_err(), "place {place}");
+            assert_eq!(noticed(Some(wrong)), "mended again, it is another ring", "place {place}");
         }
     }
 }

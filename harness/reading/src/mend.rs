@@ -6,7 +6,7 @@ use crate::{Mistake, Reading, Vertex};
 /// A mended ring has at least so many coordinates.
 const FEWEST: usize = 4;
 
-/// Under this a difference is near.
+/// Under this a difference is near, as `near` has it. Two mistakes compare something else with it.
 const LIMIT: f64 = 1e-10;
 
 impl Reading {
