@@ -128,7 +128,7 @@ lt-asym (fin s m e) (fin t n d) p = below-asym s (m * up e * down d) t (n * up d
 -- ---- NaN
 
 -- a difference and a product that are no NaN have operands that are none
-sub-nan : (a : Float) → sub binary64 a nan ≡ nan
+pub sub-nan : (a : Float) → sub binary64 a nan ≡ nan
 unfolding sub add neg
 sub-nan nan = refl
 sub-nan (inf s) = refl

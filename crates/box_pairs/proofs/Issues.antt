@@ -7,12 +7,13 @@ use native.Mathlib.Numerals.{add-one}
 use native.Mathlib.Omega.{arith}
 use lib.ListN.{length, getD, drop, length-drop}
 use lib.Seq.{drop-cons}
-use lib.Ieee.{Float, nan, inf, fin, eq, ne, lt, sub, add, neg}
+use lib.Ieee.{Float, nan, eq, ne, lt}
 use lib.Ieee.Compare.{differs-from-itself}
 use lib.Dec.{ltb}
 use borrow.Author.Tests.{lt-ltb, le-ltb}
 use Rattle.binary64.specs.Compare.{magnitude, near}
 use Rattle.binary64.proofs.Booleans.{never-both}
+use Rattle.binary64.proofs.FloatOrder.{sub-nan}
 use Rattle.tile.specs.declared.Coord.{Coord}
 use Rattle.tile.specs.Contracts.{coordAt}
 use Rattle.tile.specs.Ring.{same}
@@ -33,10 +34,8 @@ use Rattle.box_pairs.proofs.Edges.{crossing-first, pair-below}
 -- ---- neighbours
 
 near-nan : (a : Float) → near a nan ≡ false
-unfolding near magnitude sub add neg lt
-near-nan nan = refl
-near-nan (inf s) = refl
-near-nan (fin s m e) = refl
+unfolding near magnitude lt
+near-nan a = rw (sub-nan a)
 
 differs-nan : (x : Float) → eq x x ≡ false → x ≡ nan
 unfolding ne

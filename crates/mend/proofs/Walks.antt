@@ -60,7 +60,7 @@ pub record Dropped (s : List Float) (end k i : ℕ) : Type 0 where
       → keptAfter (coordAt s k) (drop (k + 1) (closedBy s end closing)) ≡ keptAfter (coordAt s k) (drop i (closedBy s end closing))
 
 module _ (s : List Float) (end : ℕ) (fits : 2 * end ≤ length s) where
-  pub length-by : (closing : Coord) → length (closedBy s end closing) ≡ end + 1
+  length-by : (closing : Coord) → length (closedBy s end closing) ≡ end + 1
   length-by closing = length-append (coords (take (2 * end) s)) (closing ∷ []) ∙ rw (length-front s end fits)
 
   at-by : (closing : Coord) (i : ℕ) → i < end → getD (closedBy s end closing) i none ≡ coordAt s i
@@ -106,7 +106,7 @@ module _ (s : List Float) (end : ℕ) (fits : 2 * end ≤ length s) where
   -- ---- whether four are kept
 
   -- at the closing coordinate only it is left
-  pub left-closing : (closing : Coord) → mend (drop end (closedBy s end closing)) ≡ closing ∷ []
+  left-closing : (closing : Coord) → mend (drop end (closedBy s end closing)) ≡ closing ∷ []
   unfolding mend keptAfter
   left-closing closing = rw (drop-at (coords (take (2 * end) s)) (closing ∷ []) end (length-front s end fits))
 
