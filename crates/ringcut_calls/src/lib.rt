@@ -8,6 +8,7 @@ ghost use Rattle.slices.specs.SliceCall.{polygonSlices, sliceCallAnswer, sliceC
 ghost use Rattle.frames.specs.Output.{frameCallOutput};
 ghost use Rattle.frames.specs.FrameCall.{frameCallAnswer, frameCallCode};
 ghost use Rattle.ringcut_calls.specs.Flags.{isSet, flagsOf};
+ghost use Rattle.ringcut_calls.specs.Version.{version};
 use clip::polygon::Flags;
 use frame_bytes::reader::refusal_number;
 use frames::entry::FrameAnswer;
@@ -162,4 +163,15 @@ pub extern "C" fn ringcut_mend(ring: &[f64], out: &mut [f64]) -> i64
         MendAnswer::Refused(r) => mend_refusal_code(r),
         MendAnswer::Mended(n) => n as i64,
     }
+}
+
+// Is raised with the definition: rust/exports holds it to what the header, the Rust crate and the program say.
+const VERSION: u32 = 1000000;
+
+// Which version the library is of, so that a caller can tell whether it goes with the header or the crate that declares the calls.
+#[no_mangle]
+pub extern "C" fn ringcut_version() -> u32
+    ensures { λ v. ⌜ v ≡ version ⌝ }
+{
+    VERSION
 }
