@@ -39,44 +39,39 @@ compile_error!(
 );
 
 mod answer;
+mod answer_error;
+mod bounds;
+mod cursor;
+mod flags;
+mod frame;
+mod frame_answer;
 mod origin;
 pub mod raw;
 mod reason;
 mod refusal;
+mod rings;
 mod room;
+mod version;
+mod vertex;
 
 pub use answer::Answer;
+pub use answer_error::AnswerError;
+pub use bounds::Bounds;
+pub use flags::Flags;
+pub use frame::{Frame, FrameBuilder, Kind, Parts, LONGEST_FRAME};
+pub use frame_answer::{FrameAnswer, ListedPart, ListedParts, PartAnswer};
 pub use origin::Origin;
 pub use reason::{Edge, Issue, Reason};
 pub use refusal::Refusal;
+pub use rings::{Coordinate, Coordinates, Ring, Rings};
 pub use room::{room_for_ring, MOST_FRAME_OUTPUT};
+pub use version::{library_version, Version, VERSION};
+pub use vertex::{is_along_tile, Vertex};
 
 /// README.md, so that its examples are run with the other tests.
 #[cfg(doctest)]
 #[doc = include_str!("../README.md")]
 struct Readme;
-
-/// The four bounds of a tile, x being longitude and y latitude.
-#[derive(Clone, Copy, Debug, PartialEq)]
-pub struct Bounds {
-    /// The lowest x.
-    pub west: f64,
-    /// The lowest y.
-    pub south: f64,
-    /// The highest x.
-    pub east: f64,
-    /// The highest y.
-    pub north: f64,
-}
-
-/// What a slice call leaves out.
-#[derive(Clone, Copy, Debug, Default, PartialEq, Eq)]
-pub struct Flags {
-    /// The exterior is not searched for edges that cross.
-    pub assume_simple: bool,
-    /// Together with `assume_simple`: a cut exterior is not searched for edges along a bound. Alone it does nothing.
-    pub skip_boundary_fallback: bool,
-}
 
 /// What is lent to a ring call to write to: for a ring lent with n coordinates each slice of numbers has at least
 /// 2 × [`room_for_ring`]`(n)`, each slice of origins at least [`room_for_ring`]`(n)`.
@@ -169,6 +164,15 @@ pub struct PolygonBuffers<'a> {
 #[inline]
 pub fn cut_frame(frame: &[u8], out: &mut [u8]) -> Result<usize, Refusal> {
     count(raw::frame(frame, out))
+}
+
+/// Cuts the frame's polygon or multipolygon, as [`cut_frame`] does, and reads the answer, whose bytes stand in `out`.
+///
+/// [`FrameBuilder`] builds the frame; the pages of [`FrameAnswer`] and of [`Vertex`] show what to do with the answer.
+pub fn answer_frame<'a>(frame: &[u8], out: &'a mut [u8]) -> Result<FrameAnswer<'a>, Refusal> {
+    let len = cut_frame(frame, out)?;
+    Ok(FrameAnswer::read(&out[..len])
+        .unwrap_or_else(|error| unreachable!("the library's answer, which its contract rules out: {error}")))
 }
 
 /// Cuts one polygon, its rings one behind the other in `coords` as x, y numbers, exterior first, and their lengths in

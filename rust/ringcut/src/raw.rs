@@ -52,6 +52,8 @@ mod exported {
         ) -> i64;
 
         pub fn ringcut_mend(ring: *const f64, ring_len: usize, out: *mut f64, out_len: usize) -> i64;
+
+        pub fn ringcut_version() -> u32;
     }
 }
 
@@ -137,4 +139,11 @@ pub fn polygon(
 pub fn mend(ring: &[f64], out: &mut [f64]) -> i64 {
     // SAFETY: each pointer and length is that of a slice borrowed for the call, and the call asks nothing else.
     unsafe { exported::ringcut_mend(ring.as_ptr(), ring.len(), out.as_mut_ptr(), out.len()) }
+}
+
+/// A million times the major version, a thousand times the minor one and the patch.
+#[inline]
+pub fn version() -> u32 {
+    // SAFETY: the call takes nothing and asks nothing.
+    unsafe { exported::ringcut_version() }
 }

@@ -15,6 +15,18 @@ pub enum Edge {
     Top,
 }
 
+impl Edge {
+    /// The side of the tile that it bounds: `west`, `east`, `south` or `north`.
+    pub const fn side(self) -> &'static str {
+        match self {
+            Edge::Left => "west",
+            Edge::Right => "east",
+            Edge::Bottom => "south",
+            Edge::Top => "north",
+        }
+    }
+}
+
 /// What is wrong with an exterior, and where. Where there are several issues, a short one is told before a repeated corner, and that
 /// before a crossing.
 ///
@@ -57,7 +69,7 @@ pub enum Issue {
 /// assert_eq!((reason.number(), reason.positions(), reason.merged_number()), (8, (0, 4), 1));
 ///
 /// let reason = Reason::Bridge(Edge::Right);
-/// assert_eq!(reason.to_string(), "an edge of the cut exterior runs along the Right bound");
+/// assert_eq!(reason.to_string(), "an edge of the cut exterior runs along the east bound");
 /// assert_eq!((reason.number(), reason.positions(), reason.merged_number()), (4, (0, 0), 4));
 /// ```
 #[derive(Clone, Copy, Debug, PartialEq, Eq, Hash)]
@@ -139,7 +151,7 @@ impl Display for Reason {
             }
             Reason::Cut(Issue::Repeated { corner }) => write!(f, "corner {corner} of the cut is repeated"),
             Reason::Cut(Issue::Crossing { lower, higher }) => write!(f, "edges {lower} and {higher} of the cut cross"),
-            Reason::Bridge(edge) => write!(f, "an edge of the cut exterior runs along the {edge:?} bound"),
+            Reason::Bridge(edge) => write!(f, "an edge of the cut exterior runs along the {} bound", edge.side()),
         }
     }
 }
@@ -156,10 +168,10 @@ mod tests {
     const REASONS: [(i64, usize, usize, u8, &str); 10] = [
         (1, 0, 0, 1, "the exterior has fewer than 4 corners, the closing one counted"),
         (2, 0, 0, 2, "the cut exterior has fewer than 4 corners, the closing one counted"),
-        (3, 0, 0, 3, "an edge of the cut exterior runs along the Left bound"),
-        (4, 0, 0, 4, "an edge of the cut exterior runs along the Right bound"),
-        (5, 0, 0, 5, "an edge of the cut exterior runs along the Bottom bound"),
-        (6, 0, 0, 6, "an edge of the cut exterior runs along the Top bound"),
+        (3, 0, 0, 3, "an edge of the cut exterior runs along the west bound"),
+        (4, 0, 0, 4, "an edge of the cut exterior runs along the east bound"),
+        (5, 0, 0, 5, "an edge of the cut exterior runs along the south bound"),
+        (6, 0, 0, 6, "an edge of the cut exterior runs along the north bound"),
         (7, 3, 0, 1, "corner 3 is repeated"),
         (8, 0, 4, 1, "edges 0 and 4 cross"),
         (9, 65_536, 0, 2, "corner 65536 of the cut is repeated"),

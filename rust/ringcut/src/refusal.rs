@@ -5,7 +5,8 @@ use core::fmt::{self, Display, Formatter};
 
 /// Why a call was refused. A refused call leaves every lent buffer as it was; the [crate's page](crate) says what of that is proved.
 ///
-/// A frame call gives 11 to 18 and 22, a slice call and a ring call 19 to 22, a mending call 19, 20, 22 and 26.
+/// A frame call gives 11 to 18 and 22, a slice call and a ring call 19 to 22, a mending call 19, 20, 22 and 26. The program `ringcut`
+/// prints 10 to 18. What reads or builds frames here gives those that a frame call would give.
 ///
 /// ```
 /// use ringcut::{cut_ring, Bounds, Refusal, RingBuffers};
@@ -19,6 +20,8 @@ use core::fmt::{self, Display, Formatter};
 /// ```
 #[derive(Clone, Copy, Debug, PartialEq, Eq, Hash)]
 pub enum Refusal {
+    /// The line is not pairs of hexadecimal digits: the program's alone, no call gives it.
+    Digits = 10,
     /// The frame has under 44 or over 5,120 bytes.
     Size = 11,
     /// The frame's kind is neither 3 (polygon) nor 6 (multipolygon).
@@ -55,6 +58,7 @@ impl Refusal {
 
     const fn message(self) -> &'static str {
         match self {
+            Refusal::Digits => "the line is not pairs of hexadecimal digits",
             Refusal::Size => "the frame has under 44 or over 5,120 bytes",
             Refusal::Kind => "the frame's kind is neither 3 (polygon) nor 6 (multipolygon)",
             Refusal::Flags => "the frame's flags are over 3",
@@ -71,23 +75,38 @@ impl Refusal {
         }
     }
 
-    /// The refusal that a negative code stands for: minus its number.
+    /// The refusal with this number, if there is one.
+    pub const fn from_number(number: u8) -> Option<Refusal> {
+        Some(match number {
+            10 => Refusal::Digits,
+            11 => Refusal::Size,
+            12 => Refusal::Kind,
+            13 => Refusal::Flags,
+            14 => Refusal::PartCount,
+            15 => Refusal::Truncated,
+            16 => Refusal::RingCount,
+            17 => Refusal::CoordinateCount,
+            18 => Refusal::Trailing,
+            19 => Refusal::Lengths,
+            20 => Refusal::Coordinates,
+            21 => Refusal::Scratch,
+            22 => Refusal::Output,
+            26 => Refusal::Short,
+            _ => return None,
+        })
+    }
+
+    /// The refusal with this number that the program prints, if there is one: it lends every frame room enough.
+    pub(crate) fn from_printed(number: u8) -> Option<Refusal> {
+        Refusal::from_number(number).filter(|_| (10..=18).contains(&number))
+    }
+
+    /// The refusal that a negative code of a call stands for: minus its number.
     pub(crate) fn from_code(code: i64) -> Refusal {
-        match code {
-            -11 => Refusal::Size,
-            -12 => Refusal::Kind,
-            -13 => Refusal::Flags,
-            -14 => Refusal::PartCount,
-            -15 => Refusal::Truncated,
-            -16 => Refusal::RingCount,
-            -17 => Refusal::CoordinateCount,
-            -18 => Refusal::Trailing,
-            -19 => Refusal::Lengths,
-            -20 => Refusal::Coordinates,
-            -21 => Refusal::Scratch,
-            -22 => Refusal::Output,
-            -26 => Refusal::Short,
-            _ => unreachable!("the library answered {code}, which its contract rules out"),
+        let number = code.checked_neg().and_then(|number| u8::try_from(number).ok());
+        match number.and_then(Refusal::from_number) {
+            None | Some(Refusal::Digits) => unreachable!("the library answered {code}, which its contract rules out"),
+            Some(refusal) => refusal,
         }
     }
 }
