@@ -4,6 +4,7 @@
 // line and with `kept` as it was left, that the bytes made are those written, once and in order, and that the last line is finished; nor
 // that the first read or write that fails ends the work and is told on standard error (rust/program tests it). A line that a failed read
 // cut off gets no answer: it is not the line that was sent.
+mod arguments;
 mod streams;
 
 ghost use Prim.Native.Nat.{_≤_};
@@ -11,6 +12,7 @@ ghost use lib.ListN.{length};
 ghost use Rattle.frame_bytes.specs.Frame.{longest};
 ghost use Rattle.lines.specs.LineStep as LineStep;
 ghost use Rattle.ringcut.specs.Contracts as Contracts;
+use arguments::asks_for_version;
 use frame_bytes::reader::LONGEST;
 use libc::STDIN_FILENO;
 use lines::feed::Finished;
@@ -101,9 +103,20 @@ fn answer_input() {
     }
 }
 
+fn say_version() {
+    let version = b"ringcut 1.0.0\n";
+    if write_out(version, version.len()) {
+        close_out();
+    }
+}
+
 fn main() {
+    if asks_for_version() {
+        say_version();
+        return;
+    }
     if os::arg_count() > 1 {
-        say(b"usage: ringcut <FRAMES >ANSWERS\n");
+        say(b"usage: ringcut <FRAMES >ANSWERS\n       ringcut --version\n");
         say(
             b"Reads frames from standard input, a line of hexadecimal digits each, and prints a line for each answer.\n",
         );
