@@ -1,11 +1,4 @@
 //! Frames: the bytes that a frame call takes, read and built.
-//!
-//! | bytes | |
-//! |---|---|
-//! | 1 | kind |
-//! | 1 | flags |
-//! | 5 × 8 | west, south, east, north and buffer |
-//! | 2 | how many parts; of each its rings, as [`Rings`] has them |
 
 use core::iter::FusedIterator;
 
@@ -33,7 +26,7 @@ pub enum Kind {
 }
 
 impl Kind {
-    /// The number of the kind in a frame.
+    /// The number of the kind in a frame: 3 for a polygon, 6 for a multipolygon.
     pub const fn number(self) -> u8 {
         self as u8
     }
@@ -52,6 +45,16 @@ impl Kind {
 }
 
 /// A frame, read from its bytes: what a frame call cuts.
+///
+/// | bytes | a frame: 44 to 5,120 bytes, numbers little-endian |
+/// |---|---|
+/// | 1 | its [kind](Kind::number) |
+/// | 1 | its [flags](Flags::number) |
+/// | 5 × 8 | west, south, east, north and buffer |
+/// | 2 | how many parts, up to 256 (a polygon: 1); of each: |
+/// | 2 | how many rings, 1 to 64, exterior first; of each: |
+/// | 2 | how many coordinates, up to 4,096; of each: |
+/// | 8, 8 | x and y |
 ///
 /// [`Frame::read`] refuses what [`cut_frame`](crate::cut_frame) refuses of a frame, by the same refusals.
 ///

@@ -1,14 +1,4 @@
 //! Answers to frames, read from their bytes.
-//!
-//! | bytes | |
-//! |---|---|
-//! | 1 | 0 nothing, 1 dropped, 2 unchanged, 3 listed; in what the program prints also the number of a refusal |
-//! | 2 | the guard count |
-//! | 2 | how many parts are listed; of each: |
-//! | 2 | its number |
-//! | 1, 1 | 2 unchanged, 4 cut, 5 overlay; the overlay's reason, else 0 |
-//! | | of a cut its rings, as [`Rings`] has them |
-//! | 2, 2 | of an overlay the positions of its reason |
 
 use core::iter::FusedIterator;
 
@@ -17,6 +7,18 @@ use crate::frame::MOST_PARTS;
 use crate::{AnswerError, Reason, Refusal, Rings, Vertex};
 
 /// What becomes of a frame's polygon or of the parts of its multipolygon, read from the answer's bytes.
+///
+/// | bytes | an answer, numbers little-endian |
+/// |---|---|
+/// | 1 | 0 nothing, 1 dropped, 2 unchanged, 3 listed parts |
+/// | 2 | the [guard count](FrameAnswer::guard_count) |
+/// | 2 | how many parts are listed; of each: |
+/// | 2 | its number in the frame, from 0 |
+/// | 1, 1 | 2 unchanged, 4 cut, 5 an overlay is wanted; the overlay's [reason](Reason::number), else 0 |
+/// | 2, 2 | of an overlay: the two [positions](Reason::positions) that its reason has |
+/// | 2 | of a cut: how many rings, exterior first; of each: |
+/// | 2 | how many coordinates; of each: |
+/// | 8, 8, 2 | x, y and its [origin](crate::Origin::number); a NaN has the bits 7ff8000000000000 |
 ///
 /// ```
 /// use ringcut::{answer_frame, Bounds, Flags, FrameAnswer, FrameBuilder, Kind, PartAnswer, LONGEST_FRAME, MOST_FRAME_OUTPUT};

@@ -1,7 +1,8 @@
 //! Cuts licence areas to a map tile: safe calls of a static library in which every function is proved to meet its contract.
 //! No heap, no allocation: the caller lends every buffer.
 //!
-//! - [`cut_frame`] takes a polygon or a multipolygon as bytes and writes the answer as bytes.
+//! - [`cut_frame`] takes a polygon or a multipolygon as bytes and writes the answer as bytes. [`FrameBuilder`] builds the ones and
+//!   [`FrameAnswer`] reads the others; [`answer_frame`] cuts and reads.
 //! - [`cut_polygon`] takes one polygon as numbers.
 //! - [`cut_ring`] cuts one ring, and looks at nothing else.
 //! - [`mend`] drops the repeated corners of one ring, for which an exterior would want an overlay.
@@ -9,7 +10,8 @@
 //! Each answers on every input, with a [`Refusal`] where it can't cut or mend. Bounds and buffer may be any numbers; a NaN bound has
 //! nothing inside.
 //!
-//! Each coordinate of a cut comes with its [`Origin`]: its position in the ring that was lent, or the line that made it.
+//! Each coordinate of a cut comes with its [`Origin`]: its position in the ring that was lent, or the line that made it. By these
+//! [`is_along_tile`] tells the area's own border from the tile's edge.
 //!
 //! A refused call leaves every lent buffer as it was. One that is not refused fills both scratch slices and the order slice with
 //! zeros, from end to end. What it leaves in the output, and in the slice for origins, past its answer:
@@ -120,45 +122,24 @@ pub struct PolygonBuffers<'a> {
 /// Every frame of 44 to 5,120 bytes takes about 70 KiB of the stack, however few its coordinates, and refused or not; 100 KiB
 /// are enough.
 ///
-/// A frame, numbers little-endian: kind, 1 byte (3 polygon, 6 multipolygon); flags, 1 byte (1 `assume_simple`,
-/// 2 `skip_boundary_fallback`, summed); west, south, east, north and buffer, 8 bytes each; part count, 2 bytes. Each part:
-/// ring count, 2 bytes, exterior first. Each ring: coordinate count, 2 bytes; x and y of each, 8 bytes each.
-///
-/// An answer: 1 byte (0 nothing, 1 whole dropped, 2 whole unchanged, 3 listed); guard count, 2 bytes; number of listed parts,
-/// 2 bytes. Each listed part: index from 0, 2 bytes; 1 byte (2 unchanged, 4 cut, 5 overlay); the overlay's
-/// [reason](Reason::number) or 0, 1 byte; if cut, ring count, 2 bytes, and of each ring its coordinate count, 2 bytes, and x, y and
-/// [origin](Origin) of each, 8, 8 and 2 bytes; if overlay, two positions, 2 bytes each: of reasons 7 and 9 the repeated
-/// [corner](Issue::Repeated) and 0, of 8 and 10 the lower and the higher [edge](Issue::Crossing), of 1 to 6 zeros.
+/// The page of [`Frame`] has the bytes of a frame, which [`FrameBuilder`] builds, and that of [`FrameAnswer`] those of an answer;
+/// [`answer_frame`] reads it at once.
 ///
 /// ```
-/// use ringcut::{cut_frame, MOST_FRAME_OUTPUT};
+/// use ringcut::{cut_frame, Bounds, Flags, FrameBuilder, Kind, LONGEST_FRAME, MOST_FRAME_OUTPUT};
 ///
-/// // A multipolygon of no parts, on the bounds 0, 0, 10, 10 with buffer 0.
-/// let mut frame = vec![6, 0];
-/// for number in [0.0, 0.0, 10.0, 10.0, 0.0_f64] {
-///     frame.extend(number.to_le_bytes());
-/// }
-/// frame.extend(0_u16.to_le_bytes());
+/// let flags = Flags { assume_simple: true, skip_boundary_fallback: true };
+/// let bounds = Bounds { west: 0.0, south: 0.0, east: 10.0, north: 10.0 };
+/// let mut room = [0; LONGEST_FRAME];
+/// let mut builder = FrameBuilder::new(Kind::Polygon, flags, bounds, 0.0, &mut room)?;
+/// // A polygon that crosses the east bound.
+/// builder.part([[5., 5., 15., 5., 15., 8., 5., 8., 5., 5.]])?;
+///
 /// let mut out = [0; MOST_FRAME_OUTPUT];
-/// let len = cut_frame(&frame, &mut out)?;
-/// assert_eq!(out[..len], [0, 0, 0, 0, 0]);
-///
-/// // Turned into a polygon that crosses the east bound, with flags 3: part 0 is listed, cut to one ring.
-/// frame[..2].copy_from_slice(&[3, 3]);
-/// frame[42..].copy_from_slice(&1_u16.to_le_bytes());
-/// frame.extend([1, 0, 5, 0]);
-/// for number in [5., 5., 15., 5., 15., 8., 5., 8., 5., 5.0_f64] {
-///     frame.extend(number.to_le_bytes());
-/// }
-/// let len = cut_frame(&frame, &mut out)?;
-/// let mut answer = vec![3, 0, 0, 1, 0, 0, 0, 4, 0, 1, 0, 5, 0];
-/// // Each coordinate with its origin; the Right bound is 65,533.
-/// for (x, y, origin) in [(5., 5., 0), (10., 5., 65_533), (10., 8., 65_533), (5., 8., 3), (5.0_f64, 5.0_f64, 0_u16)] {
-///     answer.extend(x.to_le_bytes());
-///     answer.extend(y.to_le_bytes());
-///     answer.extend(origin.to_le_bytes());
-/// }
-/// assert_eq!(out[..len], answer);
+/// let len = cut_frame(builder.finish()?, &mut out)?;
+/// // Part 0 is listed, cut to one ring of five coordinates, each with its origin.
+/// assert_eq!(out[..13], [3, 0, 0, 1, 0, 0, 0, 4, 0, 1, 0, 5, 0]);
+/// assert_eq!(len, 13 + 5 * 18);
 /// # Ok::<(), ringcut::Refusal>(())
 /// ```
 #[inline]
@@ -166,13 +147,12 @@ pub fn cut_frame(frame: &[u8], out: &mut [u8]) -> Result<usize, Refusal> {
     count(raw::frame(frame, out))
 }
 
-/// Cuts the frame's polygon or multipolygon, as [`cut_frame`] does, and reads the answer, whose bytes stand in `out`.
-///
-/// [`FrameBuilder`] builds the frame; the pages of [`FrameAnswer`] and of [`Vertex`] show what to do with the answer.
+/// Cuts the frame's polygon or multipolygon as [`cut_frame`] does, and reads the answer from the bytes that it has written to `out`.
+/// The page of [`FrameAnswer`] shows how.
 pub fn answer_frame<'a>(frame: &[u8], out: &'a mut [u8]) -> Result<FrameAnswer<'a>, Refusal> {
     let len = cut_frame(frame, out)?;
-    Ok(FrameAnswer::read(&out[..len])
-        .unwrap_or_else(|error| unreachable!("the library's answer, which its contract rules out: {error}")))
+    let answer = FrameAnswer::read(&out[..len]);
+    Ok(answer.unwrap_or_else(|error| unreachable!("the library has answered what its contract rules out: {error}")))
 }
 
 /// Cuts one polygon, its rings one behind the other in `coords` as x, y numbers, exterior first, and their lengths in

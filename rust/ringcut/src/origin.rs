@@ -20,10 +20,8 @@ use crate::Edge;
 /// assert_eq!(Origin::Line(Edge::Right).to_string(), "Right");
 /// ```
 ///
-/// With origins a caller can leave the tile's edge out where it draws borders. Between two neighbours of a cut ring the outline runs
-/// along the tile's edge if both were made by a line, and that is the same line, or both x are west, or both x are east (the bounds
-/// as they are cut at, so widened by the buffer). All other edges are borders of the area that was lent. The second program in
-/// README.md goes by that rule, and the repository's README.md says where it errs.
+/// By the origins of its ends [`is_along_tile`](crate::is_along_tile) tells whether an edge of a cut ring runs along the tile's edge, and
+/// so is no border.
 #[derive(Clone, Copy, Debug, PartialEq, Eq, Hash)]
 pub enum Origin {
     /// It is the coordinate that stands at this position, from 0 and under 65,532, in the ring that was lent. Each ring has

@@ -1,7 +1,7 @@
 //! Where the coordinates of a cut came from: worked rings, what holds of every origin on rings of many shapes, and the rule by which a
 //! caller leaves the tile's edge out where it draws borders.
 
-use ringcut::{cut_ring, room_for_ring, Bounds, Edge, Origin, RingBuffers};
+use ringcut::{cut_ring, is_along_tile, room_for_ring, Bounds, Edge, Origin, RingBuffers, Vertex};
 
 const BOUNDS: Bounds = Bounds { west: 0., south: 0., east: 10., north: 10. };
 
@@ -9,14 +9,6 @@ const LEFT: Origin = Origin::Line(Edge::Left);
 const RIGHT: Origin = Origin::Line(Edge::Right);
 const BOTTOM: Origin = Origin::Line(Edge::Bottom);
 const TOP: Origin = Origin::Line(Edge::Top);
-
-/// A coordinate of a cut ring.
-#[derive(Clone, Copy)]
-struct Vertex {
-    x: f64,
-    y: f64,
-    origin: Origin,
-}
 
 fn cut(ring: &[f64]) -> Vec<Vertex> {
     let room = room_for_ring(ring.len() / 2);
@@ -37,19 +29,10 @@ fn origins(ring: &[f64]) -> Vec<Origin> {
     cut(ring).iter().map(|vertex| vertex.origin).collect()
 }
 
-/// The rule of README.md, "Don't draw the tile's edge as a border".
-fn is_along_tile(a: Vertex, b: Vertex) -> bool {
-    let both_at = |bound| a.x == bound && b.x == bound;
-    match (a.origin, b.origin) {
-        (Origin::Line(one), Origin::Line(other)) => one == other || both_at(BOUNDS.west) || both_at(BOUNDS.east),
-        _ => false,
-    }
-}
-
 /// The edges that have a length and by the rule are borders of what was lent, by the numbers of their first coordinates.
 fn borders(ring: &[f64]) -> Vec<usize> {
     let cut = cut(ring);
-    let is_border = |[a, b]: [Vertex; 2]| (a.x, a.y) != (b.x, b.y) && !is_along_tile(a, b);
+    let is_border = |[a, b]: [Vertex; 2]| (a.x, a.y) != (b.x, b.y) && !is_along_tile(BOUNDS, a, b);
     (1..cut.len()).map(|to| to - 1).filter(|&from| is_border([cut[from], cut[from + 1]])).collect()
 }
 
@@ -155,8 +138,8 @@ fn the_rule_finds_the_tiles_edge() {
     for _ in 0..10_000 {
         let ring = numbers.ring(anywhere);
         for edge in cut(&ring).windows(2).filter(|edge| (edge[0].x, edge[0].y) != (edge[1].x, edge[1].y)) {
-            assert_eq!(is_along_tile(edge[0], edge[1]), is_on_a_bound(edge[0], edge[1]), "{ring:?}");
-            *if is_along_tile(edge[0], edge[1]) { &mut along } else { &mut others } += 1;
+            assert_eq!(is_along_tile(BOUNDS, edge[0], edge[1]), is_on_a_bound(edge[0], edge[1]), "{ring:?}");
+            *if is_along_tile(BOUNDS, edge[0], edge[1]) { &mut along } else { &mut others } += 1;
         }
     }
     assert!(along > 10_000 && others > 10_000, "{along} along the tile, {others} others");
