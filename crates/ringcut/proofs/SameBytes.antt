@@ -8,7 +8,7 @@ use lib.Dec.{eqb}
 use borrow.Author.Tests.{eq-eqb, ne-eqb}
 use lib.ListN.{length, getD, drop, drop-of-length-le}
 use lib.Seq.{drop-cons}
-use Rattle.ringcut.specs.Arguments.{sameBytes}
+use Rattle.ringcut.specs.Contracts.{sameBytes}
 
 and-false : (t : Bool) → t && false ≡ false
 and-false true = refl

@@ -1,6 +1,6 @@
 // What the program was started with.
 ghost use mathlib.Core.Path.{_≡_};
-ghost use Rattle.ringcut.specs.Arguments.{sameBytes};
+ghost use Rattle.ringcut.specs.Contracts.{sameBytes};
 
 fn is_same(a: &[u8], b: &[u8]) -> bool
     ensures { λ r. ⌜ r ≡ sameBytes (now (a .entry)) (now (b .entry)) ⌝ }

@@ -7,7 +7,7 @@ use native.Mathlib.Omega.{arith}
 use borrow.Author.Needs.{needs}
 use denote.Ref.{now}
 use lib.ListN.{length, getD, drop}
-use Rattle.ringcut.specs.Arguments.{sameBytes}
+use Rattle.ringcut.specs.Contracts.{sameBytes}
 use Rattle.ringcut.proofs.SameBytes.{other-length, other-here, same-here, none-left}
 use Rattle.ringcut.proofs.arguments.is_same.Statement.{statement}
 use Rattle.ringcut.proofs.arguments.is_same.Tie as tie
