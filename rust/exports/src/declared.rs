@@ -9,12 +9,31 @@ pub struct Declaration {
     pub result: String,
 }
 
-/// The functions of a C header.
+/// The functions that a C header declares. An inline function is the header's own, and no library has it.
 pub fn in_header(text: &str) -> Vec<Result<Declaration, String>> {
-    let words = words(&without_directives(text));
+    let words = without_inline_functions(words(&without_directives(text)));
     let first_bracket = |item: &[String]| item.iter().find(|word| ["(", "{"].contains(&word.as_str())).cloned();
     let types_left_out = split(&words, ";").into_iter().filter(|item| first_bracket(item).as_deref() != Some("{"));
     types_left_out.map(|item| in_c(item).ok_or_else(|| unreadable(item))).collect()
+}
+
+fn without_inline_functions(mut words: Vec<String>) -> Vec<String> {
+    let mut at = 0;
+    while at < words.len() {
+        match last_of_inline_function(&words[at..]) {
+            Some(last) => drop(words.drain(at..=at + last)),
+            None => at += 1,
+        }
+    }
+    words
+}
+
+/// Where the inline function ends that words begin with. Without a body it is none.
+fn last_of_inline_function(words: &[String]) -> Option<usize> {
+    starts_with(words, &["static", "inline"]).then_some(())?;
+    let open = words.iter().position(|word| word == "(")?;
+    let body = closing(words, open)? + 1;
+    closing(words, body).filter(|_| words[body] == "{")
 }
 
 /// A header without its directives, and without what it has for C++ alone.
@@ -45,8 +64,8 @@ pub fn in_extern_blocks(text: &str) -> Vec<Result<Declaration, String>> {
     let words = words(text);
     let mut functions = Vec::new();
     for at in 0..words.len() {
-        if starts_with(&words[at..], &["extern", "\"", "C", "\"", "{"]) {
-            let open = at + 4;
+        if starts_with(&words[at..], &["extern", "\"C\"", "{"]) {
+            let open = at + 2;
             let block = &words[open + 1..closing(&words, open).unwrap_or(words.len())];
             functions.extend(split(block, ";").into_iter().map(|item| in_rust(item).ok_or_else(|| unreadable(item))));
         }

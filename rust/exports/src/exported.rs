@@ -43,7 +43,7 @@ const NUMBERS: [Number; 13] = [
 ];
 
 /// How an export begins. `rt staticlib` takes no other function into the library.
-const BEGINNING: [&str; 10] = ["#", "[", "no_mangle", "]", "pub", "extern", "\"", "C", "\"", "fn"];
+const BEGINNING: [&str; 8] = ["#", "[", "no_mangle", "]", "pub", "extern", "\"C\"", "fn"];
 /// Words that have to do with exports: written in another way than `BEGINNING` they can't be read here.
 const RESERVED: [&str; 3] = ["no_mangle", "export_name", "extern"];
 

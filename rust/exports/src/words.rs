@@ -1,17 +1,20 @@
-//! A text of C, Rust or Rattle as words: names and numbers, and every other character by itself.
+//! A text of C, Rust or Rattle as words: names and numbers, literals in quotation marks, and every other character by itself.
 
 /// The words of a text, comments left out.
 pub fn words(text: &str) -> Vec<String> {
+    let text = without_comments(text);
     let mut words: Vec<String> = Vec::new();
-    let mut in_name = false;
-    for character in without_comments(text).chars() {
+    let (mut rest, mut in_name) = (text.as_str(), false);
+    while let Some(character) = rest.chars().next() {
+        let length = if character == '"' { literal_length(rest) } else { character.len_utf8() };
+        let (piece, behind) = rest.split_at(length);
         let of_name = character.is_alphanumeric() || character == '_';
         if of_name && in_name {
-            words.last_mut().unwrap().push(character);
+            words.last_mut().unwrap().push_str(piece);
         } else if !character.is_whitespace() {
-            words.push(character.to_string());
+            words.push(piece.to_string());
         }
-        in_name = of_name;
+        (rest, in_name) = (behind, of_name);
     }
     words
 }
@@ -19,14 +22,31 @@ pub fn words(text: &str) -> Vec<String> {
 /// A comment counts as a blank.
 pub fn without_comments(text: &str) -> String {
     let (mut kept, mut rest) = (String::new(), text);
-    while let Some(at) = rest.find("//").into_iter().chain(rest.find("/*")).min() {
+    while let Some(at) = ["\"", "//", "/*"].iter().filter_map(|beginning| rest.find(beginning)).min() {
         kept.push_str(&rest[..at]);
-        kept.push(' ');
-        let comment = &rest[at..];
-        let (end, closing) = if comment.starts_with("//") { ("\n", "") } else { ("*/", "*/") };
-        rest = comment[2..].find(end).map_or("", |length| &comment[2 + length + closing.len()..]);
+        let found = &rest[at..];
+        let length = if found.starts_with('"') { literal_length(found) } else { comment_length(found) };
+        kept.push_str(if found.starts_with('"') { &found[..length] } else { " " });
+        rest = &found[length..];
     }
     kept + rest
+}
+
+/// How long the comment is that a text begins with. The end of its line is not part of it.
+fn comment_length(text: &str) -> usize {
+    let (end, closing) = if text.starts_with("//") { ("\n", "") } else { ("*/", "*/") };
+    text[2..].find(end).map_or(text.len(), |length| 2 + length + closing.len())
+}
+
+/// How long the literal is that a text begins with, its quotation marks counted.
+fn literal_length(text: &str) -> usize {
+    let mut escaped = false;
+    let closing = text.char_indices().skip(1).find(|&(_, character)| {
+        let closes = character == '"' && !escaped;
+        escaped = character == '\\' && !escaped;
+        closes
+    });
+    closing.map_or(text.len(), |(at, mark)| at + mark.len_utf8())
 }
 
 /// What stands between the separators, where it is not empty. A separator within brackets doesn't separate.
