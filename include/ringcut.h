@@ -1,25 +1,10 @@
 /*
  * The C interface of the static library libringcut_calls.a, which cuts licence areas to a map tile. It is for x86-64 Linux, and
- * needs no other library: of C's own it uses functions such as memset.
+ * needs no other library: of C's own it uses functions such as memset. The header is for C from C99 on, and for C++.
  *
- * What every call answers. A count or a code from 0 up, or minus the number of a refusal:
- *
- *   11  a frame under 44 or over 5,120 bytes
- *   12  a kind that is neither 3 nor 6
- *   13  flags over 3
- *   14  over 256 parts, or kind 3 with not one part
- *   15  a frame that ends before a count or a coordinate is whole
- *   16  a part with no ring or over 64
- *   17  a ring of a frame with over 4,096 coordinates
- *   18  bytes behind the last part
- *   19  no ring, over 64 rings, or numbers that are not two for each coordinate
- *   20  over 65,532 coordinates
- *   21  a scratch slice or the order slice too short
- *   22  an output or a slice for lengths too short
- *   26  fewer than 4 coordinates remain
- *
- * A frame call gives 11 to 18 and 22, a ring call and a slice call 19 to 22, a mending call 19, 20, 22 and 26: the first that holds
- * in this order, 15 to 17 as a walk from the frame's front meets them.
+ * What every call but ringcut_version answers. A count or a code from 0 up, or minus the number of a refusal, a ringcut_refusal. A frame
+ * call gives 11 to 18 and 22, a ring call and a slice call 19 to 22, a mending call 19, 20, 22 and 26: the first that holds in this
+ * order, 15 to 17 as a walk from the frame's front meets them.
  *
  * What a call leaves in the slices that are not const. A refused call leaves them as they were. One that is not refused fills
  * both scratch slices and the order slice with zeros, from end to end. In a ring call and a slice call, which work in the two
@@ -51,6 +36,61 @@
 extern "C" {
 #endif
 
+/* This header's version. As one number it is 1000000 * major + 1000 * minor + patch. CHANGELOG.md says what each of the three means. */
+#define RINGCUT_VERSION_MAJOR 1
+#define RINGCUT_VERSION_MINOR 0
+#define RINGCUT_VERSION_PATCH 0
+#define RINGCUT_VERSION (1000000 * RINGCUT_VERSION_MAJOR + 1000 * RINGCUT_VERSION_MINOR + RINGCUT_VERSION_PATCH)
+#define RINGCUT_VERSION_TEXT "1.0.0"
+
+/*
+ * The version of the library that the program runs with, as RINGCUT_VERSION has the header's. A program compares the two before its first
+ * call, and stops where they differ: then it was compiled with the header of another version, and a call might read its arguments from
+ * the wrong places or answer in another format. A library that does not have this function is older than 1.0.0.
+ */
+uint32_t ringcut_version(void);
+
+/* Why a call is refused. ringcut_refusal_text, below, says each in a sentence. */
+enum ringcut_refusal {
+    RINGCUT_REFUSED_SIZE = 11,
+    RINGCUT_REFUSED_KIND = 12,
+    RINGCUT_REFUSED_FLAGS = 13,
+    RINGCUT_REFUSED_PART_COUNT = 14,
+    RINGCUT_REFUSED_TRUNCATED = 15,
+    RINGCUT_REFUSED_RING_COUNT = 16,
+    RINGCUT_REFUSED_COORDINATE_COUNT = 17,
+    RINGCUT_REFUSED_TRAILING = 18,
+    RINGCUT_REFUSED_LENGTHS = 19,
+    RINGCUT_REFUSED_COORDINATES = 20,
+    RINGCUT_REFUSED_SCRATCH = 21,
+    RINGCUT_REFUSED_OUTPUT = 22,
+    RINGCUT_REFUSED_SHORT = 26
+};
+
+/*
+ * The sentence of a refusal, from what a call answered: minus the refusal's number. It is a text that stays, and never a null pointer: of
+ * every other number, as of one that a call answers where it is not refused, it says that it is no refusal known here.
+ */
+static inline const char *ringcut_refusal_text(int64_t code)
+{
+    switch (code) {
+    case -RINGCUT_REFUSED_SIZE: return "the frame has under 44 or over 5,120 bytes";
+    case -RINGCUT_REFUSED_KIND: return "the frame's kind is neither 3 (polygon) nor 6 (multipolygon)";
+    case -RINGCUT_REFUSED_FLAGS: return "the frame's flags are over 3";
+    case -RINGCUT_REFUSED_PART_COUNT: return "the frame has over 256 parts, or is a polygon's and has not one part";
+    case -RINGCUT_REFUSED_TRUNCATED: return "the frame ends before a count or a coordinate is whole";
+    case -RINGCUT_REFUSED_RING_COUNT: return "a part of the frame has no ring or over 64";
+    case -RINGCUT_REFUSED_COORDINATE_COUNT: return "a ring of the frame has over 4,096 coordinates";
+    case -RINGCUT_REFUSED_TRAILING: return "bytes follow the frame's last part";
+    case -RINGCUT_REFUSED_LENGTHS: return "there is no ring or over 64, or the numbers lent are not two for each coordinate";
+    case -RINGCUT_REFUSED_COORDINATES: return "there are over 65,532 coordinates";
+    case -RINGCUT_REFUSED_SCRATCH: return "a scratch slice or the order slice is too short";
+    case -RINGCUT_REFUSED_OUTPUT: return "an output or the slice for the lengths of cut rings is too short";
+    case -RINGCUT_REFUSED_SHORT: return "fewer than 4 coordinates remain";
+    default: return "this is no refusal known here";
+    }
+}
+
 /* The room, in coordinates, that a ring of n coordinates asks for: n grown by half, rounded down, four times, plus 2. A
  * constant if n is one. A coordinate is two numbers. */
 #define RINGCUT_HALF_GROWTH(n) ((n) + (n) / 2)
@@ -80,10 +120,10 @@ extern "C" {
 enum ringcut_reason {
     RINGCUT_SHORT = 1,        /* the exterior has fewer than 4 corners, the closing one counted */
     RINGCUT_CUT_SHORT = 2,    /* the cut exterior has */
-    RINGCUT_ALONG_LEFT = 3,   /* an edge of the cut exterior runs along the left bound */
-    RINGCUT_ALONG_RIGHT = 4,  /* along the right bound */
-    RINGCUT_ALONG_BOTTOM = 5, /* along the bottom bound */
-    RINGCUT_ALONG_TOP = 6,    /* along the top bound */
+    RINGCUT_ALONG_LEFT = 3,   /* an edge of the cut exterior runs along the west bound */
+    RINGCUT_ALONG_RIGHT = 4,  /* along the east bound */
+    RINGCUT_ALONG_BOTTOM = 5, /* along the south bound */
+    RINGCUT_ALONG_TOP = 6,    /* along the north bound */
     RINGCUT_REPEATED = 7,     /* a corner of the exterior is repeated */
     RINGCUT_CROSSING = 8,     /* two edges of the exterior cross */
     RINGCUT_CUT_REPEATED = 9, /* a corner of the cut exterior is repeated */
