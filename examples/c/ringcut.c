@@ -7,6 +7,10 @@
  *   cc -std=c11 -Wall -Wextra -I include examples/c/ringcut.c target/staticlib/libringcut_calls.a -o target/ringcut-in-c
  *   target/ringcut-in-c
  *
+ * or, where scripts/install has put the library, with the installed one:
+ *
+ *   cc -std=c11 -Wall -Wextra examples/c/ringcut.c $(pkg-config --cflags --libs ringcut) -o target/ringcut-in-c
+ *
  * It prints the exterior and the hole of a rectangle across the east bound, then a corner that was sent twice and the area's cut once
  * it is mended, then two edges that cross:
  *
@@ -93,10 +97,10 @@ static void print_reason(int64_t code, const double *exterior)
     static const char *const without_positions[] = {
         [RINGCUT_SHORT] = "the exterior has fewer than 4 corners, the closing one counted",
         [RINGCUT_CUT_SHORT] = "the cut exterior has fewer than 4 corners, the closing one counted",
-        [RINGCUT_ALONG_LEFT] = "an edge of the cut exterior runs along the left bound",
-        [RINGCUT_ALONG_RIGHT] = "an edge of the cut exterior runs along the right bound",
-        [RINGCUT_ALONG_BOTTOM] = "an edge of the cut exterior runs along the bottom bound",
-        [RINGCUT_ALONG_TOP] = "an edge of the cut exterior runs along the top bound"
+        [RINGCUT_ALONG_LEFT] = "an edge of the cut exterior runs along the west bound",
+        [RINGCUT_ALONG_RIGHT] = "an edge of the cut exterior runs along the east bound",
+        [RINGCUT_ALONG_BOTTOM] = "an edge of the cut exterior runs along the south bound",
+        [RINGCUT_ALONG_TOP] = "an edge of the cut exterior runs along the north bound"
     };
     int64_t reason = code >> 8 & 0xff, first = code >> 16 & 0xffffff, second = code >> 40;
 
@@ -128,7 +132,7 @@ static void print_reason(int64_t code, const double *exterior)
 static bool refused(int64_t code)
 {
     if (code < 0)
-        fprintf(stderr, "refused: %" PRId64 "\n", -code);
+        fprintf(stderr, "refusal %" PRId64 ": %s\n", -code, ringcut_refusal_text(code));
     return code < 0;
 }
 
@@ -180,6 +184,10 @@ int main(void)
     static const double crossing[] = {2, 6, 3, 7, 4, 2, 6, 7, 3, 5, 2, 8, 2, 6};
     static const uint32_t of_across[] = {5, 5}, of_repeated[] = {7}, of_crossing[] = {7};
 
+    if (ringcut_version() != RINGCUT_VERSION) {
+        fprintf(stderr, "the header is of version %d, the library of %" PRIu32 "\n", RINGCUT_VERSION, ringcut_version());
+        return 1;
+    }
     int answered = cut(1, across, COUNT(across), of_across, COUNT(of_across))
                    && cut(1, repeated, COUNT(repeated), of_repeated, COUNT(of_repeated))
                    && mend_and_cut(1, repeated, COUNT(repeated))
