@@ -1,4 +1,5 @@
-//! Holds what C and Rust programs declare to what the Rattle crates export.
+//! Holds texts of the repository to each other that no proof and no compiler compares: what C and Rust programs declare to what the
+//! Rattle crates export, the refusals that users read to those of the Rust crate, and the version to itself, wherever it stands.
 //!
 //! Nothing in Rattle calls an export, and contracts go by the parameters' names. So a flag that crosses as a u32 where the header
 //! says `uint8_t`, two parameters exchanged, or a `requires` that no caller is held to would be proved all the same. Here the
@@ -6,6 +7,8 @@
 
 mod declared;
 mod exported;
+mod refusals;
+mod versions;
 mod words;
 
 use std::collections::BTreeMap;
@@ -20,13 +23,21 @@ pub type Files = BTreeMap<String, String>;
 
 const CRATES: &str = "crates";
 const CALLS: &str = "crates/ringcut_calls/";
+const CALLS_CODE: &str = "crates/ringcut_calls/src/lib.rt";
+const CALLS_VERSION: &str = "crates/ringcut_calls/specs/Version.antt";
+const PROGRAM: &str = "crates/ringcut/src/main.rt";
 const HEADER: &str = "include/ringcut.h";
 const RAW: &str = "rust/ringcut/src/raw.rs";
+const REFUSALS: &str = "rust/ringcut/src/refusal.rs";
+const MANIFEST: &str = "rust/ringcut/Cargo.toml";
+const CRATE_VERSION: &str = "rust/ringcut/src/version.rs";
+const WORDS: &str = "scripts/words";
+const CHANGES: &str = "CHANGELOG.md";
 
-/// The files that are compared: the header, the Rust declarations, and the code of every crate.
+/// The files that are compared: the code of every crate, and those that users read.
 pub fn read(root: &Path) -> io::Result<Files> {
     let mut files = Files::new();
-    for path in [HEADER, RAW] {
+    for path in [HEADER, RAW, REFUSALS, MANIFEST, CRATE_VERSION, WORDS, CHANGES, CALLS_VERSION] {
         files.insert(path.to_string(), fs::read_to_string(root.join(path))?);
     }
     read_rattle(root, CRATES, &mut files)?;
@@ -46,8 +57,13 @@ fn read_rattle(root: &Path, folder: &str, files: &mut Files) -> io::Result<()> {
     Ok(())
 }
 
-/// What is wrong, each with its file, its function and, where it is one's, its parameter.
+/// What is wrong, each with its file and what it is wrong of.
 pub fn mistakes(files: &Files) -> Vec<String> {
+    [declaration_mistakes(files), refusals::mistakes(files), versions::mistakes(files)].concat()
+}
+
+/// What is wrong with exports and declarations, each with its file, its function and, where it is one's, its parameter.
+pub fn declaration_mistakes(files: &Files) -> Vec<String> {
     let mut mistakes = Vec::new();
     let mut calls = Vec::new();
     for (path, text) in files.iter().filter(|(path, _)| path.ends_with(".rt")) {

@@ -2,25 +2,34 @@
 
 use std::path::Path;
 
-use exports::{mistakes, read, Files};
+use exports::{declaration_mistakes, mistakes, read, Files};
 
 const CALLS: &str = "crates/ringcut_calls/src/lib.rt";
+const CALLS_VERSION: &str = "crates/ringcut_calls/specs/Version.antt";
 const PROBE: &str = "crates/probe/src/lib.rt";
+const PROGRAM: &str = "crates/ringcut/src/main.rt";
 const HEADER: &str = "include/ringcut.h";
 const RAW: &str = "rust/ringcut/src/raw.rs";
+const REFUSALS: &str = "rust/ringcut/src/refusal.rs";
+const MANIFEST: &str = "rust/ringcut/Cargo.toml";
+const CRATE_VERSION: &str = "rust/ringcut/src/version.rs";
+const WORDS: &str = "scripts/words";
+const CHANGES: &str = "CHANGELOG.md";
 
 fn repository() -> Files {
     read(Path::new(concat!(env!("CARGO_MANIFEST_DIR"), "/../.."))).unwrap()
 }
 
 #[test]
-fn what_is_declared_is_what_is_exported() {
+fn the_files_agree() {
     let mistakes = mistakes(&repository());
     assert!(mistakes.is_empty(), "\n{}\n", mistakes.join("\n"));
 }
 
 /// A text of a file, another that is written in its place, and what is told.
-const MISTAKES: [(&str, &str, &str, &str); 21] = [
+type Mistake = (&'static str, &'static str, &'static str, &'static str);
+
+const OF_DECLARATIONS: [Mistake; 25] = [
     // A flag as a u32: in the export, where both declarations differ from it, and in each declaration.
     (
         CALLS,
@@ -129,6 +138,12 @@ const MISTAKES: [(&str, &str, &str, &str); 21] = [
         "out_len: usize);",
         "rust/ringcut/src/raw.rs: ringcut_frame: it returns `()`, by the export `i64`",
     ),
+    (
+        HEADER,
+        "uint32_t ringcut_version(void);",
+        "int64_t ringcut_version(void);",
+        "include/ringcut.h: ringcut_version: it returns `int64_t`, by the export `uint32_t`",
+    ),
     // An export that is not declared, and a declaration that is not exported.
     (
         CALLS,
@@ -144,6 +159,25 @@ const MISTAKES: [(&str, &str, &str, &str); 21] = [
         "int64_t ringcut_frame(",
         "int64_t ringcut_room(size_t n);\nint64_t ringcut_frame(",
         "include/ringcut.h: ringcut_room: it is declared here, and crates/ringcut_calls/ does not export it",
+    ),
+    (
+        RAW,
+        "pub fn ringcut_version() -> u32;",
+        "",
+        "rust/ringcut/src/raw.rs: ringcut_version: crates/ringcut_calls/ exports it, and it is not declared here",
+    ),
+    // A function of the header's own in the place of the library's.
+    (
+        HEADER,
+        "uint32_t ringcut_version(void);",
+        "static inline uint32_t ringcut_version(void) { return RINGCUT_VERSION; }",
+        "include/ringcut.h: ringcut_version: crates/ringcut_calls/ exports it, and it is not declared here",
+    ),
+    (
+        HEADER,
+        "uint32_t ringcut_version(void);",
+        "static inline uint32_t ringcut_version(void);",
+        "include/ringcut.h: ringcut_version: it returns `static inline uint32_t`, by the export `uint32_t`",
     ),
     // What can't be read is told too.
     (
@@ -166,10 +200,173 @@ const MISTAKES: [(&str, &str, &str, &str); 21] = [
     ),
 ];
 
+const OF_REFUSALS: [Mistake; 12] = [
+    // Another number, a number that C would count, another name.
+    (
+        HEADER,
+        "RINGCUT_REFUSED_SHORT = 26",
+        "RINGCUT_REFUSED_SHORT = 23",
+        "include/ringcut.h: RINGCUT_REFUSED_SHORT: its number is `23`, by rust/ringcut/src/refusal.rs it is `26`",
+    ),
+    (
+        HEADER,
+        "RINGCUT_REFUSED_PART_COUNT = 14,",
+        "RINGCUT_REFUSED_PART_COUNT,",
+        "include/ringcut.h: RINGCUT_REFUSED_PART_COUNT: its number is `not given`, by rust/ringcut/src/refusal.rs it is `14`",
+    ),
+    (
+        HEADER,
+        "RINGCUT_REFUSED_KIND = 12",
+        "RINGCUT_REFUSED_TYPE = 12",
+        "include/ringcut.h: RINGCUT_REFUSED_KIND: its number is `missing`, by rust/ringcut/src/refusal.rs it is `12`\n\
+         include/ringcut.h: RINGCUT_REFUSED_TYPE: its number is `12`, by rust/ringcut/src/refusal.rs it is `missing`",
+    ),
+    // A refusal that one file has alone.
+    (
+        HEADER,
+        "enum ringcut_refusal {",
+        "enum ringcut_refusal {\n    RINGCUT_REFUSED_DIGITS = 10,",
+        "include/ringcut.h: RINGCUT_REFUSED_DIGITS: its number is `10`, by rust/ringcut/src/refusal.rs it is `missing`",
+    ),
+    (
+        REFUSALS,
+        "pub enum Refusal {",
+        "pub enum Refusal {\n    Bounds = 23,",
+        "include/ringcut.h: RINGCUT_REFUSED_BOUNDS: its number is `missing`, by rust/ringcut/src/refusal.rs it is `23`",
+    ),
+    (
+        WORDS,
+        "refusals[18] =",
+        "refusals[19] =",
+        "scripts/words: refusals[18]: its text is `missing`, by rust/ringcut/src/refusal.rs it is `bytes follow the frame's last part`\n\
+         scripts/words: refusals[19]: its text is `bytes follow the frame's last part`, by rust/ringcut/src/refusal.rs it is `missing`",
+    ),
+    // Another text, one that only some of the files have, none, and the text of another refusal.
+    (
+        HEADER,
+        "\"there are over 65,532 coordinates\"",
+        "\"there are over 65,536 coordinates\"",
+        "include/ringcut.h: RINGCUT_REFUSED_COORDINATES: its text is `there are over 65,536 coordinates`, \
+         by rust/ringcut/src/refusal.rs it is `there are over 65,532 coordinates`",
+    ),
+    (
+        REFUSALS,
+        "\"the frame's flags are over 3\"",
+        "\"the flags are over 3\"",
+        "include/ringcut.h: RINGCUT_REFUSED_FLAGS: its text is `the frame's flags are over 3`, \
+         by rust/ringcut/src/refusal.rs it is `the flags are over 3`\n\
+         scripts/words: refusals[13]: its text is `the frame's flags are over 3`, \
+         by rust/ringcut/src/refusal.rs it is `the flags are over 3`",
+    ),
+    (
+        HEADER,
+        "case -RINGCUT_REFUSED_SHORT: return \"fewer than 4 coordinates remain\";",
+        "",
+        "include/ringcut.h: RINGCUT_REFUSED_SHORT: its text is `missing`, \
+         by rust/ringcut/src/refusal.rs it is `fewer than 4 coordinates remain`",
+    ),
+    (
+        HEADER,
+        "case -RINGCUT_REFUSED_SHORT: return \"fewer than 4 coordinates remain\";",
+        "case -RINGCUT_REFUSED_SHORT: return \"there are over 65,532 coordinates\";",
+        "include/ringcut.h: RINGCUT_REFUSED_SHORT: its text is `there are over 65,532 coordinates`, \
+         by rust/ringcut/src/refusal.rs it is `fewer than 4 coordinates remain`",
+    ),
+    (
+        WORDS,
+        "\"the line is not pairs of hexadecimal digits\"",
+        "\"the line is not hexadecimal\"",
+        "scripts/words: refusals[10]: its text is `the line is not hexadecimal`, \
+         by rust/ringcut/src/refusal.rs it is `the line is not pairs of hexadecimal digits`",
+    ),
+    (
+        WORDS,
+        "\"the frame\\047s flags are over 3\"",
+        "\"the frames flags are over 3\"",
+        "scripts/words: refusals[13]: its text is `the frames flags are over 3`, \
+         by rust/ringcut/src/refusal.rs it is `the frame's flags are over 3`",
+    ),
+];
+
+const OF_VERSIONS: [Mistake; 12] = [
+    (
+        HEADER,
+        "#define RINGCUT_VERSION_TEXT \"1.0.0\"",
+        "#define RINGCUT_VERSION_TEXT \"1.0\"",
+        "include/ringcut.h: behind `#define RINGCUT_VERSION_TEXT ` stands `\"1.0\"`, by include/ringcut.h it is `\"1.0.0\"`",
+    ),
+    (
+        MANIFEST,
+        "version = \"1.0.0\"",
+        "version = \"1.0.1\"",
+        "rust/ringcut/Cargo.toml: behind `version = ` stands `\"1.0.1\"`, by include/ringcut.h it is `\"1.0.0\"`",
+    ),
+    (
+        CRATE_VERSION,
+        "minor: 0, patch: 0 };",
+        "minor: 0, patch: 1 };",
+        "rust/ringcut/src/version.rs: behind `pub const VERSION: Version = ` stands `Version { major: 1, minor: 0, patch: 1 };`, \
+         by include/ringcut.h it is `Version { major: 1, minor: 0, patch: 0 };`",
+    ),
+    (
+        CALLS,
+        "const VERSION: u32 = 1000000;",
+        "const VERSION: u32 = 100000;",
+        "crates/ringcut_calls/src/lib.rt: behind `const VERSION: u32 = ` stands `100000;`, by include/ringcut.h it is `1000000;`",
+    ),
+    (
+        CALLS_VERSION,
+        "\nminor = 0",
+        "\nminor = 1",
+        "crates/ringcut_calls/specs/Version.antt: behind `minor = ` stands `1`, by include/ringcut.h it is `0`",
+    ),
+    (
+        PROGRAM,
+        "b\"ringcut 1.0.0\\n\"",
+        "b\"ringcut 1.1.0\\n\"",
+        "crates/ringcut/src/main.rt: behind `b\"ringcut ` stands `1.1.0\\n\";`, by include/ringcut.h it is `1.0.0\\n\";`",
+    ),
+    // None.
+    (
+        PROGRAM,
+        "b\"ringcut 1.0.0\\n\"",
+        "b\"1.0.0\\n\"",
+        "crates/ringcut/src/main.rt: behind `b\"ringcut ` stands `missing`, by include/ringcut.h it is `1.0.0\\n\";`",
+    ),
+    // A version of which only callers are told yet.
+    (
+        CHANGES,
+        "\n## 1.0.0",
+        "\n## 1.1.0\n\n## 1.0.0",
+        "CHANGELOG.md: behind `## ` stands `1.1.0`, by include/ringcut.h it is `1.0.0`",
+    ),
+    // The header's own numbers: every other place then differs, as far as it has that number.
+    (
+        HEADER,
+        "#define RINGCUT_VERSION_PATCH 0",
+        "#define RINGCUT_VERSION_PATCH 7",
+        "include/ringcut.h: behind `#define RINGCUT_VERSION_TEXT ` stands `\"1.0.0\"`, by include/ringcut.h it is `\"1.0.7\"`\n\
+         rust/ringcut/Cargo.toml: behind `version = ` stands `\"1.0.0\"`, by include/ringcut.h it is `\"1.0.7\"`\n\
+         rust/ringcut/src/version.rs: behind `pub const VERSION: Version = ` stands `Version { major: 1, minor: 0, patch: 0 };`, \
+         by include/ringcut.h it is `Version { major: 1, minor: 0, patch: 7 };`\n\
+         crates/ringcut_calls/src/lib.rt: behind `const VERSION: u32 = ` stands `1000000;`, by include/ringcut.h it is `1000007;`\n\
+         crates/ringcut_calls/specs/Version.antt: behind `patch = ` stands `0`, by include/ringcut.h it is `7`\n\
+         crates/ringcut/src/main.rt: behind `b\"ringcut ` stands `1.0.0\\n\";`, by include/ringcut.h it is `1.0.7\\n\";`\n\
+         CHANGELOG.md: behind `## ` stands `1.0.0`, by include/ringcut.h it is `1.0.7`",
+    ),
+    // One that is not there, one that is no number, and one that reaches into the place of the number before it.
+    (HEADER, "#define RINGCUT_VERSION_MINOR 0", "", NO_VERSION),
+    (HEADER, "#define RINGCUT_VERSION_MAJOR 1", "#define RINGCUT_VERSION_MAJOR one", NO_VERSION),
+    (HEADER, "#define RINGCUT_VERSION_PATCH 0", "#define RINGCUT_VERSION_PATCH 1000", NO_VERSION),
+];
+
+const NO_VERSION: &str =
+    "include/ringcut.h: the three numbers of the version, minor and patch under 1000, are not read";
+
 #[test]
 fn each_mistake_is_told() {
     let files = repository();
-    for (path, text, wrong, told) in MISTAKES {
+    for (path, text, wrong, told) in OF_DECLARATIONS.into_iter().chain(OF_REFUSALS).chain(OF_VERSIONS) {
         let mut files = files.clone();
         let changed = files[path].replacen(text, wrong, 1);
         assert_ne!(changed, files[path], "{path} does not have {text:?}");
@@ -178,7 +375,8 @@ fn each_mistake_is_told() {
     }
 }
 
-/// Forms that the exports may have and that today's have not: arrays, single numbers that are lent, no result, no parameter.
+/// Forms that the exports may have and that today's have not: arrays, single numbers that are lent, no result. The brackets, signs of
+/// comments and quotation marks in a header's texts are only text.
 #[test]
 fn other_forms_are_read() {
     let rattle = r#"
@@ -201,6 +399,10 @@ fn other_forms_are_read() {
         enum kind { ONE = (1) };
         void tally(const uint16_t *kinds, size_t kinds_len, double *sums, // the sums
                    const uint8_t *keys, uint32_t *last, int8_t sign);
+        static inline const char *text(int code)
+        {
+            return code ? \"one (of // two\" : \"\\\"/* { three;\";
+        }
         uint16_t version(void);
         #ifdef __cplusplus
         }
@@ -215,5 +417,5 @@ fn other_forms_are_read() {
     }"#;
     let files = [(CALLS, rattle), (HEADER, header), (RAW, raw)];
     let files = files.map(|(path, text)| (path.to_string(), text.to_string()));
-    assert_eq!(mistakes(&Files::from(files)), [""; 0]);
+    assert_eq!(declaration_mistakes(&Files::from(files)), [""; 0]);
 }

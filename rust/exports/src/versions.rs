@@ -1,0 +1,63 @@
+//! The version, which the C header gives by three numbers, and the places that repeat it.
+
+use crate::{Files, CALLS_CODE, CALLS_VERSION, CHANGES, CRATE_VERSION, HEADER, MANIFEST, PROGRAM};
+
+struct Version {
+    major: u32,
+    minor: u32,
+    patch: u32,
+}
+
+/// A file, a text that stands in it before the version, and what must follow up to the end of the line.
+type Place = (&'static str, &'static str, fn(&Version) -> String);
+
+const PLACES: [Place; 9] = [
+    (HEADER, "\n#define RINGCUT_VERSION_TEXT ", |version| format!("\"{}\"", version.text())),
+    (MANIFEST, "\nversion = ", |version| format!("\"{}\"", version.text())),
+    (CRATE_VERSION, "\npub const VERSION: Version = ", |Version { major, minor, patch }| {
+        format!("Version {{ major: {major}, minor: {minor}, patch: {patch} }};")
+    }),
+    (CALLS_CODE, "\nconst VERSION: u32 = ", |version| format!("{};", version.number())),
+    (CALLS_VERSION, "\nmajor = ", |version| version.major.to_string()),
+    (CALLS_VERSION, "\nminor = ", |version| version.minor.to_string()),
+    (CALLS_VERSION, "\npatch = ", |version| version.patch.to_string()),
+    (PROGRAM, "b\"ringcut ", |version| format!("{}\\n\";", version.text())),
+    (CHANGES, "\n## ", Version::text),
+];
+
+impl Version {
+    fn text(&self) -> String {
+        format!("{}.{}.{}", self.major, self.minor, self.patch)
+    }
+
+    fn number(&self) -> u32 {
+        1_000_000 * self.major + 1_000 * self.minor + self.patch
+    }
+}
+
+/// Where another version stands than the header's, or none.
+pub fn mistakes(files: &Files) -> Vec<String> {
+    let Some(version) = in_header(&files[HEADER]) else {
+        return vec![format!("{HEADER}: the three numbers of the version, minor and patch under 1000, are not read")];
+    };
+    let mistakes = PLACES.iter().filter_map(|(path, before, follows)| {
+        let found = behind(&files[*path], before).unwrap_or("missing");
+        let expected = follows(&version);
+        let before = before.trim_start();
+        (found != expected)
+            .then(|| format!("{path}: behind `{before}` stands `{found}`, by {HEADER} it is `{expected}`"))
+    });
+    mistakes.collect()
+}
+
+fn in_header(header: &str) -> Option<Version> {
+    let part = |name: &str| behind(header, &format!("\n#define RINGCUT_VERSION_{name} "))?.parse().ok();
+    let under_1000 = |part: &u32| *part < 1000;
+    let (minor, patch) = (part("MINOR").filter(under_1000)?, part("PATCH").filter(under_1000)?);
+    Some(Version { major: part("MAJOR")?, minor, patch })
+}
+
+/// What follows the first place where a text stands, up to the end of the line.
+fn behind<'a>(text: &'a str, before: &str) -> Option<&'a str> {
+    text.split_once(before)?.1.lines().next()
+}
