@@ -1,0 +1,83 @@
+//! Frames in words and as WKT.
+
+use ringcut::{Bounds, Flags, Frame, Kind, Refusal, Ring};
+
+use crate::shared::{lines, number};
+use crate::{wkt, Explained};
+
+pub fn explain(line: &[u8]) -> Explained {
+    let Some(bytes) = lines::bytes_of(line) else { return refused(Refusal::Digits) };
+    match Frame::read(&bytes) {
+        Ok(frame) => Explained { headline: headline(&frame), lines: words(&frame), is_readable: true },
+        Err(refusal) => refused(refusal),
+    }
+}
+
+fn refused(refusal: Refusal) -> Explained {
+    Explained {
+        headline: "a frame that is refused".to_string(),
+        lines: vec![format!("  {refusal}")],
+        is_readable: true,
+    }
+}
+
+fn headline(frame: &Frame) -> String {
+    match (frame.kind, frame.parts().len()) {
+        (Kind::Polygon, _) => "a polygon".to_string(),
+        (Kind::MultiPolygon, 0) => "a multipolygon of no parts".to_string(),
+        (Kind::MultiPolygon, 1) => "a multipolygon of 1 part".to_string(),
+        (Kind::MultiPolygon, count) => format!("a multipolygon of {count} parts"),
+    }
+}
+
+fn words(frame: &Frame) -> Vec<String> {
+    let Bounds { west, south, east, north } = frame.bounds;
+    let [west, south, east, north, buffer] = [west, south, east, north, frame.buffer].map(number::text);
+    let mut lines = vec![
+        format!("  flags {}: {}", frame.flags.number(), flag_names(frame.flags)),
+        format!("  bounds: west {west}, south {south}, east {east}, north {north}"),
+        format!("  buffer: {buffer}"),
+    ];
+    for (part, rings) in frame.parts().enumerate() {
+        lines.extend(rings.enumerate().map(|(n, ring)| format!("  part {part}, {}", ring_words(n, ring))));
+    }
+    lines.extend(as_wkt(frame));
+    lines
+}
+
+fn flag_names(flags: Flags) -> &'static str {
+    match (flags.assume_simple, flags.skip_boundary_fallback) {
+        (false, false) => "none",
+        (true, false) => "assume_simple",
+        (false, true) => "skip_boundary_fallback",
+        (true, true) => "assume_simple, skip_boundary_fallback",
+    }
+}
+
+fn ring_words(n: usize, ring: Ring<[f64; 2]>) -> String {
+    let what = if n == 0 { "the exterior" } else { "a hole" };
+    let count = match ring.len() {
+        0 => "no coordinates".to_string(),
+        1 => "1 coordinate".to_string(),
+        count => format!("{count} coordinates"),
+    };
+    let open = if closed(ring).len() > ring.len() { ", open: a call closes it" } else { "" };
+    format!("ring {n}, {what}: {count}{open}")
+}
+
+fn as_wkt(frame: &Frame) -> Vec<String> {
+    let parts: Vec<Vec<wkt::Ring>> = frame.parts().map(|rings| rings.map(closed).collect()).collect();
+    match frame.kind {
+        Kind::Polygon => wkt::polygon("", &parts[0]),
+        Kind::MultiPolygon => wkt::multipolygon("", &parts),
+    }
+}
+
+/// The ring as a call takes it: where its last coordinate does not equal its first, this one is appended.
+fn closed(ring: Ring<[f64; 2]>) -> wkt::Ring {
+    let mut coordinates: wkt::Ring = ring.iter().collect();
+    if coordinates.first() != coordinates.last() {
+        coordinates.push(coordinates[0]);
+    }
+    coordinates
+}
