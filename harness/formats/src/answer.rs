@@ -3,6 +3,7 @@
 use std::fmt::{self, Display};
 
 use crate::cursor::Cursor;
+use crate::frame::MOST_PARTS;
 use crate::origins::{in_words, CutRing};
 use crate::reason::Reason;
 use crate::Refusal;
@@ -28,6 +29,61 @@ pub enum Listed {
     Overlay(Reason),
 }
 
+/// Why bytes are no answer, under the names that the crate `ringcut` documents: the first that is found from the front. The five bytes
+/// before the parts are read before one of them is looked at, and so are a part's answer with its reason, and an overlay's positions.
+#[derive(Clone, Copy, Debug, PartialEq, Eq)]
+pub enum Fault {
+    Truncated,
+    Number,
+    GuardCount,
+    ListedCount,
+    PartNumber,
+    PartAnswer,
+    Reason,
+    RingCount,
+    CoordinateCount,
+    Trailing,
+}
+
+impl Fault {
+    pub const ALL: [Fault; 10] = [
+        Fault::Truncated,
+        Fault::Number,
+        Fault::GuardCount,
+        Fault::ListedCount,
+        Fault::PartNumber,
+        Fault::PartAnswer,
+        Fault::Reason,
+        Fault::RingCount,
+        Fault::CoordinateCount,
+        Fault::Trailing,
+    ];
+
+    pub fn name(self) -> &'static str {
+        match self {
+            Fault::Truncated => "truncated",
+            Fault::Number => "number",
+            Fault::GuardCount => "guard count",
+            Fault::ListedCount => "listed count",
+            Fault::PartNumber => "part number",
+            Fault::PartAnswer => "part answer",
+            Fault::Reason => "reason",
+            Fault::RingCount => "ring count",
+            Fault::CoordinateCount => "coordinate count",
+            Fault::Trailing => "trailing",
+        }
+    }
+
+    /// What a frame would be refused with for such rings is a fault of a cut.
+    fn of_rings(refusal: Refusal) -> Fault {
+        match refusal {
+            16 => Fault::RingCount,
+            17 => Fault::CoordinateCount,
+            _ => Fault::Truncated,
+        }
+    }
+}
+
 impl Answer {
     pub fn encode(&self) -> Vec<u8> {
         self.encode_with(encode_ring)
@@ -51,23 +107,50 @@ impl Answer {
         }
     }
 
-    /// Reads what the program prints for a frame. None where the bytes are neither an answer nor a refusal.
-    pub fn decode(bytes: &[u8]) -> Option<Result<Answer, Refusal>> {
+    /// Reads an answer.
+    pub fn read(bytes: &[u8]) -> Result<Answer, Fault> {
         let mut cursor = Cursor { rest: bytes };
-        let [answer] = cursor.take().ok()?;
-        let (guard_count, listed) = (cursor.count().ok()? as u16, cursor.count().ok()?);
-        let parts = (0..listed).map(|_| ListedPart::decode(&mut cursor)).collect::<Option<Vec<_>>>()?;
-        if !cursor.rest.is_empty() {
-            return None;
+        let [number, head @ ..]: [u8; 5] = cursor.take().map_err(Fault::of_rings)?;
+        let [guard_count, listed] = [[head[0], head[1]], [head[2], head[3]]].map(u16::from_le_bytes);
+        let has_its_guard_count = match number {
+            0 | 3 => usize::from(guard_count) <= MOST_PARTS,
+            1 => guard_count == 1,
+            2 => guard_count == 0,
+            _ => return Err(Fault::Number),
+        };
+        if !has_its_guard_count {
+            return Err(Fault::GuardCount);
         }
-        match (answer, guard_count, listed) {
-            (0, _, 0) => Some(Ok(Answer::Nothing { guard_count })),
-            (1, 1, 0) => Some(Ok(Answer::Dropped)),
-            (2, 0, 0) => Some(Ok(Answer::Unchanged)),
-            (3, _, 1..) => Some(Ok(Answer::Listed { guard_count, parts })),
-            (10..=22, 0, 0) => Some(Err(answer)),
-            _ => None,
+        if (number == 3) == (listed == 0) {
+            return Err(Fault::ListedCount);
         }
+        let mut parts = Vec::new();
+        for _ in 0..listed {
+            parts.push(ListedPart::decode(parts.last(), &mut cursor)?);
+        }
+        match (number, cursor.rest) {
+            (_, [_, ..]) => Err(Fault::Trailing),
+            (0, []) => Ok(Answer::Nothing { guard_count }),
+            (1, []) => Ok(Answer::Dropped),
+            (2, []) => Ok(Answer::Unchanged),
+            _ => Ok(Answer::Listed { guard_count, parts }),
+        }
+    }
+
+    /// Reads what the program prints for a line: an answer, or a refusal that it gives and four zeros.
+    pub fn read_printed(bytes: &[u8]) -> Result<Result<Answer, Refusal>, Fault> {
+        match *bytes {
+            [refusal @ 10..=18, 0, 0, 0, 0] => Ok(Err(refusal)),
+            [10..=18, 0, 0, 0, 0, ..] => Err(Fault::Trailing),
+            [10..=18, 0, 0, _, _, ..] => Err(Fault::ListedCount),
+            [10..=18, _, _, _, _, ..] => Err(Fault::GuardCount),
+            _ => Answer::read(bytes).map(Ok),
+        }
+    }
+
+    /// Reads what the program prints for a line. None where the bytes are neither an answer nor a refusal.
+    pub fn decode(bytes: &[u8]) -> Option<Result<Answer, Refusal>> {
+        Answer::read_printed(bytes).ok()
     }
 }
 
@@ -96,15 +179,19 @@ impl ListedPart {
         }
     }
 
-    fn decode(cursor: &mut Cursor) -> Option<ListedPart> {
-        let index = cursor.count().ok()? as u16;
-        let listed = match cursor.take().ok()? {
+    /// The part that stands behind `before`, or first.
+    fn decode(before: Option<&ListedPart>, cursor: &mut Cursor) -> Result<ListedPart, Fault> {
+        let index = cursor.count().map_err(Fault::of_rings)?;
+        if index >= MOST_PARTS || before.is_some_and(|before| index <= usize::from(before.index)) {
+            return Err(Fault::PartNumber);
+        }
+        let listed = match cursor.take().map_err(Fault::of_rings)? {
             [2, 0] => Listed::Unchanged,
-            [4, 0] => Listed::Cut(cursor.cut_part().ok()?),
+            [4, 0] => Listed::Cut(cursor.cut_part().map_err(Fault::of_rings)?),
             [5, number] => Listed::Overlay(decode_reason(number, cursor)?),
-            _ => return None,
+            _ => return Err(Fault::PartAnswer),
         };
-        Some(ListedPart { index, listed })
+        Ok(ListedPart { index: index as u16, listed })
     }
 }
 
@@ -114,10 +201,10 @@ fn encode_position(position: u32, bytes: &mut Vec<u8>) {
 }
 
 /// A reason of that number with the positions that stand behind it.
-fn decode_reason(number: u8, cursor: &mut Cursor) -> Option<Reason> {
-    let (first, second) = (cursor.count().ok()? as u32, cursor.count().ok()? as u32);
-    let reason = Reason { number, first, second };
-    reason.is_possible().then_some(reason)
+fn decode_reason(number: u8, cursor: &mut Cursor) -> Result<Reason, Fault> {
+    let mut position = || cursor.count().map(|position| position as u32).map_err(Fault::of_rings);
+    let reason = Reason { number, first: position()?, second: position()? };
+    reason.is_possible().then_some(reason).ok_or(Fault::Reason)
 }
 
 fn encode_ring(cut: &CutRing, bytes: &mut Vec<u8>) {
@@ -184,21 +271,21 @@ mod tests {
         let parts = vec![
             ListedPart { index: 0, listed: Listed::Unchanged },
             ListedPart { index: 2, listed: Listed::Cut(vec![exterior, hole]) },
-            ListedPart { index: 258, listed: Listed::Overlay(Reason::without_positions(6)) },
-            ListedPart { index: 3, listed: Listed::Overlay(Reason { number: 7, first: 315, second: 0 }) },
-            ListedPart { index: 4, listed: Listed::Overlay(Reason { number: 10, first: 258, second: 1_609 }) },
+            ListedPart { index: 3, listed: Listed::Overlay(Reason::without_positions(6)) },
+            ListedPart { index: 4, listed: Listed::Overlay(Reason { number: 7, first: 315, second: 0 }) },
+            ListedPart { index: 255, listed: Listed::Overlay(Reason { number: 10, first: 258, second: 1_609 }) },
         ];
         let words = "part 0 unchanged; \
                      part 2 cut (0.5,1) corner 0, (2,-3) corner 258, (4,5) Top, (0.5,1) corner 0; \
                      hole (0.5,1) Left, (2,-3) Right, (4,5) Bottom, (0.5,1) Left; \
-                     part 258 overlay, reason 6; part 3 overlay, reason 7: corner 315 is repeated; \
-                     part 4 overlay, reason 10: edges 258 and 1609 of the cut cross; guard count 513";
+                     part 3 overlay, reason 6; part 4 overlay, reason 7: corner 315 is repeated; \
+                     part 255 overlay, reason 10: edges 258 and 1609 of the cut cross; guard count 256";
         for (answer, words) in [
             (Answer::Nothing { guard_count: 0 }, "nothing"),
             (Answer::Nothing { guard_count: 2 }, "nothing; guard count 2"),
             (Answer::Dropped, "dropped; guard count 1"),
             (Answer::Unchanged, "unchanged"),
-            (Answer::Listed { guard_count: 513, parts }, words),
+            (Answer::Listed { guard_count: 256, parts }, words),
         ] {
             let bytes = answer.encode();
             let read = Answer::decode(&bytes).expect("these are an answer's bytes").expect("no refusal's");
@@ -241,10 +328,65 @@ mod tests {
         }
     }
 
+    /// Of each fault the answers that have it in the fewest bytes, or in other ways; a list is of one part where nothing else is said.
+    #[test]
+    fn the_first_fault_is_told() {
+        let listing = |part: &[u8]| [&[3, 0, 0, 1, 0], part].concat();
+        let cut = |rings: &[u8]| listing(&[&[0, 0, 4, 0], rings].concat());
+        for (fault, faulty) in [
+            (
+                Fault::Truncated,
+                vec![vec![], vec![9, 9, 9, 9], listing(&[0]), listing(&[0, 0, 9]), listing(&[0, 0, 5, 9])],
+            ),
+            (Fault::Truncated, vec![listing(&[0, 0, 5, 9, 9, 9, 9]), cut(&[0]), cut(&[1, 0, 1]), cut(&[1, 0, 0, 16])]),
+            (Fault::Number, vec![vec![4, 9, 9, 9, 9], vec![10, 0, 0, 0, 0], vec![255, 0, 0, 0, 0]]),
+            (
+                Fault::GuardCount,
+                vec![vec![0, 1, 1, 9, 9], vec![1, 0, 0, 9, 9], vec![1, 1, 1, 9, 9], vec![2, 1, 0, 9, 9]],
+            ),
+            (Fault::GuardCount, vec![vec![3, 1, 1, 0, 0]]),
+            (
+                Fault::ListedCount,
+                vec![vec![0, 0, 0, 1, 0], vec![1, 1, 0, 0, 1], vec![2, 0, 0, 1, 0], vec![3, 0, 1, 0, 0]],
+            ),
+            (
+                Fault::PartNumber,
+                vec![listing(&[0, 1]), vec![3, 0, 0, 2, 0, 7, 0, 2, 0, 7, 0], vec![3, 0, 0, 2, 0, 7, 0, 2, 0, 6, 0]],
+            ),
+            (
+                Fault::PartAnswer,
+                vec![listing(&[0, 0, 0, 0]), listing(&[0, 0, 3, 0]), listing(&[0, 0, 2, 1]), listing(&[0, 0, 4, 1])],
+            ),
+            (Fault::Reason, vec![listing(&[0, 0, 5, 0, 0, 0, 0, 0]), listing(&[0, 0, 5, 11, 0, 0, 0, 0])]),
+            (Fault::Reason, vec![listing(&[0, 0, 5, 6, 1, 0, 0, 0]), listing(&[0, 0, 5, 8, 0, 1, 1, 0])]),
+            (Fault::RingCount, vec![cut(&[0, 0]), cut(&[65, 0]), cut(&[1, 1])]),
+            (Fault::CoordinateCount, vec![cut(&[1, 0, 0, 0]), cut(&[1, 0, 1, 16])]),
+            (Fault::Trailing, vec![vec![2, 0, 0, 0, 0, 0], listing(&[0, 0, 2, 0, 0])]),
+        ] {
+            for bytes in faulty {
+                assert_eq!(Answer::read(&bytes).err(), Some(fault), "{bytes:?}");
+            }
+        }
+    }
+
+    #[test]
+    fn a_printed_refusal_has_faults_too() {
+        for (bytes, fault) in [
+            (&[11][..], Fault::Truncated),
+            (&[11, 1, 0, 1, 0, 0], Fault::GuardCount),
+            (&[11, 0, 0, 0, 1, 0], Fault::ListedCount),
+            (&[11, 0, 0, 0, 0, 0], Fault::Trailing),
+            (&[19, 0, 0, 0, 0], Fault::Number),
+            (&[2, 1, 0, 0, 0], Fault::GuardCount),
+        ] {
+            assert_eq!(Answer::read_printed(bytes).err(), Some(fault), "{bytes:?}");
+        }
+    }
+
     #[test]
     fn a_refusal_is_its_number_and_four_zeros() {
         assert!(matches!(Answer::decode(&[11, 0, 0, 0, 0]), Some(Err(11))));
-        for [answer, guard_count] in [[9, 0], [23, 0], [11, 1], [1, 0], [2, 1], [3, 0]] {
+        for [answer, guard_count] in [[9, 0], [19, 0], [22, 0], [23, 0], [11, 1], [1, 0], [2, 1], [3, 0]] {
             assert!(Answer::decode(&[answer, guard_count, 0, 0, 0]).is_none(), "{answer} {guard_count}");
         }
     }

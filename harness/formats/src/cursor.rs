@@ -26,28 +26,33 @@ impl Cursor<'_> {
 
     /// A part as it is lent.
     pub fn part(&mut self) -> Result<Part, Refusal> {
-        self.rings(|cursor| cursor.coordinate())
+        self.rings(0, |cursor| cursor.coordinate())
     }
 
-    /// A cut part, as it is answered: an origin follows each coordinate.
+    /// A cut part, as it is answered: an origin follows each coordinate, of which a ring has one at least.
     pub fn cut_part(&mut self) -> Result<Vec<CutRing>, Refusal> {
-        self.rings(|cursor| Ok((cursor.coordinate()?, cursor.count()? as u16)))
+        self.rings(1, |cursor| Ok((cursor.coordinate()?, cursor.count()? as u16)))
     }
 
     fn rings<T, R: FromIterator<T>>(
         &mut self,
+        fewest: usize,
         vertex: impl Fn(&mut Self) -> Result<T, Refusal>,
     ) -> Result<Vec<R>, Refusal> {
         let ring_count = self.count()?;
         if !(1..=MOST_RINGS).contains(&ring_count) {
             return Err(16);
         }
-        (0..ring_count).map(|_| self.ring(&vertex)).collect()
+        (0..ring_count).map(|_| self.ring(fewest, &vertex)).collect()
     }
 
-    fn ring<T, R: FromIterator<T>>(&mut self, vertex: impl Fn(&mut Self) -> Result<T, Refusal>) -> Result<R, Refusal> {
+    fn ring<T, R: FromIterator<T>>(
+        &mut self,
+        fewest: usize,
+        vertex: impl Fn(&mut Self) -> Result<T, Refusal>,
+    ) -> Result<R, Refusal> {
         let coordinate_count = self.count()?;
-        if coordinate_count > MOST_COORDINATES {
+        if !(fewest..=MOST_COORDINATES).contains(&coordinate_count) {
             return Err(17);
         }
         (0..coordinate_count).map(|_| vertex(self)).collect()
