@@ -1,9 +1,10 @@
 //! Document 01's added formats as the oracle reads them: frames, ring calls and slice calls, their refusals, and what a
-//! call leaves in the slices lent to it; single passes of the ring cutter, and single cuts; calls that mend a ring. Vertices of cuts have
-//! document 02's origins. The second reading works all of this out by itself; what it leaves is held in `RingAfter`, `SliceAfter`,
-//! `PassAfter` and `MendAfter` only to be compared.
+//! call leaves in the slices lent to it; single passes of the ring cutter, and single cuts; calls that mend a ring; frames that are
+//! built. Vertices of cuts have document 02's origins. The second reading works all of this out by itself, but for frames that are built;
+//! what it leaves is held in `RingAfter`, `SliceAfter`, `PassAfter` and `MendAfter` only to be compared.
 
 pub mod answer;
+pub mod building;
 pub mod calls;
 mod cursor;
 pub mod cuts;

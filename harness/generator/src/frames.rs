@@ -77,11 +77,33 @@ pub fn frame(kind: Kind, seed: u64, index: u64) -> Specimen {
     match kind {
         Kind::Drawn(style) => with_room(drawn(style, rng).encode(), MOSTLY_AMPLE, rng),
         Kind::Parts => with_room(many_parts(rng).encode(), MOSTLY_AMPLE, rng),
-        Kind::Damaged => {
-            let whole = if rng.once_in(4) { many_parts(rng) } else { drawn(rng.pick(&Style::ALL), rng) };
-            with_room(damage(whole.encode(), rng), MOSTLY_AMPLE, rng)
-        }
+        Kind::Damaged => with_room(damage(whole(rng).encode(), rng), MOSTLY_AMPLE, rng),
         Kind::Limits => with_room(at_a_limit(rng), SELDOM_AMPLE, rng),
+    }
+}
+
+/// Keeps the random bytes of a seed apart from its frames.
+const RANDOM_STREAM: u64 = 240;
+
+/// Random bytes, most of them behind a head that a frame may have.
+pub fn random_frame(seed: u64, index: u64) -> Vec<u8> {
+    let rng = &mut Rng::new(seed, RANDOM_STREAM, index);
+    let mut bytes: Vec<u8> = (0..rng.below(160)).map(|_| rng.bits() as u8).collect();
+    if !rng.once_in(4) && bytes.len() >= SHORTEST {
+        bytes[0] = rng.pick(&[POLYGON, MULTIPOLYGON]);
+        bytes[1] = rng.below(4) as u8;
+        let counts = bytes[SHORTEST - 2..].chunks_mut(2).take(rng.below(5));
+        counts.for_each(|count| count.copy_from_slice(&[rng.below(4) as u8, 0][..count.len()]));
+    }
+    bytes
+}
+
+/// A frame of any style, or of many parts.
+pub fn whole(rng: &mut Rng) -> Frame {
+    if rng.once_in(4) {
+        many_parts(rng)
+    } else {
+        drawn(rng.pick(&Style::ALL), rng)
     }
 }
 

@@ -1,7 +1,10 @@
-//! The seeded generator: frames, program input, ring calls, slice calls, passes, single cuts, rings to mend, pairs of edges and bounds. The
-//! same seed, kind and index give the same specimen always, so a difference is found again from three numbers.
+//! The seeded generator: frames, whole, harmed and to be built, answers that nobody gave, program input, ring calls, slice calls, passes,
+//! single cuts, rings to mend, pairs of edges and bounds. The same seed, kind and index give the same specimen always, so a difference is
+//! found again from three numbers.
 
+mod answers;
 mod bounds;
+mod buildings;
 mod calls;
 mod collinear;
 mod corners;
@@ -9,6 +12,7 @@ mod cuts;
 mod damage;
 mod exteriors;
 mod frames;
+mod harm;
 mod holes;
 mod limits;
 mod lines;
@@ -23,11 +27,14 @@ mod scene;
 mod shallow;
 mod tangles;
 
+pub use answers::{answer, AnswerKind};
 pub use bounds::bounds;
+pub use buildings::{building, BuildingKind};
 pub use calls::{ring_call, slice_call};
 pub use cuts::{cut, CutKind};
 pub use exteriors::exterior;
-pub use frames::{frame, Kind, Specimen};
+pub use frames::{frame, random_frame, Kind, Specimen};
+pub use harm::{harmed_answer, harmed_frame, Harm};
 pub use lines::lines;
 pub use meetings::Pair;
 pub use mends::{mend, MendKind};
