@@ -95,6 +95,11 @@ impl Campaign {
         assert_eq!(self.agreed(), specimens);
     }
 
+    /// How often an answer was given, in all kinds together.
+    pub fn times(&self, answer: &str) -> u64 {
+        self.counts.iter().filter_map(|(_, answers)| answers.get(answer)).sum()
+    }
+
     /// How many specimens both sides agreed on.
     pub fn agreed(&self) -> u64 {
         self.counts.iter().flat_map(|(_, answers)| answers.values()).sum()

@@ -15,3 +15,4 @@ pub mod reader;
 pub mod replay;
 pub mod rings;
 pub mod slices;
+pub mod values;

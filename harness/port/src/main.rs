@@ -7,16 +7,21 @@ use std::process::exit;
 use compare::command::Command;
 use port::cuts::Comparison;
 use port::replay::{self, Replay};
+use port::values::{self, Values};
 
 const USAGE: &str =
     "usage: port bounds|cuts|frames|issues|lines|mends|pairs|passes|reader|rings|slices [--seed S] [--count N]
+       port answer-values|built-frames|frame-values [--seed S] [--count N]
        port replay-rings|replay-slices <vectors";
 
 fn main() {
     let Command { what, seed, count } = Command::read(USAGE);
     let campaign = match what.as_str() {
+        "answer-values" => values::answers::compare(Values::OF_CRATE, seed, count),
         "bounds" => port::bounds::compare(seed, count),
+        "built-frames" => values::building::compare(Values::OF_CRATE, seed, count),
         "cuts" => report_cuts(&port::cuts::compare(seed, count)),
+        "frame-values" => values::frames::compare(Values::OF_CRATE, seed, count),
         "frames" => port::frames::compare(seed, count),
         "issues" => port::issues::compare(seed, count),
         "lines" => port::lines::compare(seed, count),
