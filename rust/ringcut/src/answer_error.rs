@@ -7,6 +7,10 @@ use crate::rings::RingsError;
 
 /// Why bytes are no answer to a frame: the first that is found as they are gone through from the front. As text it is a sentence.
 ///
+/// What stands together is whole before it is looked at: the five bytes before the parts; of a part its number, then the two bytes of its
+/// answer and its reason; an overlay's two positions, before its reason is looked at. So `[9]` is [`Truncated`](AnswerError::Truncated),
+/// and `[9, 0, 0, 0, 0]` has the wrong [`Number`](AnswerError::Number).
+///
 /// No answer of a frame call has any of these. Bytes that were cut off, mixed up or changed on their way may, and then nothing of them
 /// is to be trusted; bytes without any of these may still be those of another answer.
 #[derive(Clone, Copy, Debug, PartialEq, Eq, Hash)]

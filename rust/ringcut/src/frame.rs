@@ -218,6 +218,9 @@ impl<'a> FrameBuilder<'a> {
     /// ([`Refusal::RingCount`]), an odd count of numbers ([`Refusal::Lengths`]), over 4,096 coordinates of a ring
     /// ([`Refusal::CoordinateCount`]), a frame that grows over 5,120 bytes ([`Refusal::Size`]), and one that grows over the bytes that
     /// were lent ([`Refusal::Output`]). The frame is then as it was before this part.
+    ///
+    /// The count of rings takes its two bytes before the rings are counted, and a ring's numbers are counted before they take any: so no
+    /// ring at all, in a frame that is full, is refused for the size.
     pub fn part(
         &mut self,
         rings: impl IntoIterator<Item = impl AsRef<[f64]>>,
