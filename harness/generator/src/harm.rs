@@ -1,4 +1,5 @@
-//! Harm done to the bytes of frames and of answers, each specimen in one way.
+//! Harm done to the bytes of frames and of answers, each way by itself, so that it is seen how often each is refused and for what. The
+//! damaged frames among the kinds of frames have several mixed.
 
 use formats::answer::{Answer, Listed};
 use formats::frame::Frame;
@@ -57,7 +58,7 @@ impl Harm {
 }
 
 /// Counts that a limit makes interesting.
-pub const COUNTS: [u16; 13] = [0, 1, 2, 63, 64, 65, 255, 256, 257, 4_095, 4_096, 4_097, 65_535];
+const COUNTS: [u16; 13] = [0, 1, 2, 63, 64, 65, 255, 256, 257, 4_095, 4_096, 4_097, 65_535];
 
 pub fn another_count(count: u16, rng: &mut Rng) -> u16 {
     match rng.below(3) {
