@@ -238,7 +238,7 @@ fn the_examples_of_the_repository() {
         assert_eq!(written(&answer_frame(bytes, &mut [0; MOST_FRAME_OUTPUT]).unwrap()), *printed, "line {line}");
         read += 1;
     }
-    assert_eq!((read, refused, frames.len(), answers.len()), (36, 9, 45, 45));
+    assert_eq!((read, refused, frames.len(), answers.len()), (38, 9, 47, 47));
 }
 
 /// The one listed part of an answer.

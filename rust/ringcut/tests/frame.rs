@@ -179,7 +179,7 @@ fn the_examples_of_the_repository() {
         assert_eq!(Some(printed), from_hex(expected), "{line}");
         compared += 1;
     }
-    assert_eq!(compared, 44);
+    assert_eq!(compared, 46);
     assert_eq!(frames.lines().count(), answers.lines().count());
 }
 
