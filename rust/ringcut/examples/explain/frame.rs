@@ -1,14 +1,14 @@
 //! Frames in words and as WKT.
 
-use ringcut::{Bounds, Flags, Frame, Kind, Refusal, Ring};
+use ringcut::{Bounds, Frame, Kind, Refusal, Ring};
 
-use crate::shared::{lines, number};
+use crate::shared::{lines, number, words};
 use crate::{wkt, Explained};
 
 pub fn explain(line: &[u8]) -> Explained {
     let Some(bytes) = lines::bytes_of(line) else { return refused(Refusal::Digits) };
     match Frame::read(&bytes) {
-        Ok(frame) => Explained { headline: headline(&frame), lines: words(&frame), is_readable: true },
+        Ok(frame) => Explained { headline: headline(&frame), lines: frame_words(&frame), is_readable: true },
         Err(refusal) => refused(refusal),
     }
 }
@@ -30,11 +30,11 @@ fn headline(frame: &Frame) -> String {
     }
 }
 
-fn words(frame: &Frame) -> Vec<String> {
+fn frame_words(frame: &Frame) -> Vec<String> {
     let Bounds { west, south, east, north } = frame.bounds;
     let [west, south, east, north, buffer] = [west, south, east, north, frame.buffer].map(number::text);
     let mut lines = vec![
-        format!("  flags {}: {}", frame.flags.number(), flag_names(frame.flags)),
+        format!("  {}", words::flags(frame.flags)),
         format!("  bounds: west {west}, south {south}, east {east}, north {north}"),
         format!("  buffer: {buffer}"),
     ];
@@ -43,15 +43,6 @@ fn words(frame: &Frame) -> Vec<String> {
     }
     lines.extend(as_wkt(frame));
     lines
-}
-
-fn flag_names(flags: Flags) -> &'static str {
-    match (flags.assume_simple, flags.skip_boundary_fallback) {
-        (false, false) => "none",
-        (true, false) => "assume_simple",
-        (false, true) => "skip_boundary_fallback",
-        (true, true) => "assume_simple, skip_boundary_fallback",
-    }
 }
 
 fn ring_words(n: usize, ring: Ring<[f64; 2]>) -> String {

@@ -1,0 +1,241 @@
+//! A frame and its answer as a picture: title and words above, the drawing, what it leaves out, and the legend.
+
+use ringcut::{Bounds, Frame, FrameAnswer, ListedPart, PartAnswer, Vertex};
+
+use crate::area::{self, Misfit, Ring};
+use crate::canvas::{Anchor, Canvas, WIDTH};
+use crate::legend::{self, Entry};
+use crate::shared::number;
+use crate::text::{in_lines, width_of, Labels};
+use crate::view::{bounds_of, drawable, union, Place, Point, View};
+use crate::{marks, outline, words};
+
+/// Characters that a line has room for: of the title, of words above and of notes below.
+const TITLE_LENGTH: usize = 52;
+const LINE_LENGTH: usize = 70;
+const NOTE_LENGTH: usize = 76;
+
+/// Pixels from line to line: of the title, of words above and of notes below.
+const TITLE_LINE: f64 = 20.0;
+const LINE: f64 = 18.0;
+const NOTE_LINE: f64 = 16.0;
+
+/// The room for the drawing, and the least that is left beside it.
+const WIDEST: f64 = 400.0;
+const HIGHEST: f64 = 300.0;
+const BESIDE: f64 = (WIDTH - WIDEST) / 2.0;
+
+/// Pixels between words and drawing, and below it, where two numbers of the tile may stand.
+const GAP: f64 = 26.0;
+const BELOW: f64 = 32.0;
+
+/// More parts than so many are labelled by their numbers alone.
+const MANY: usize = 20;
+
+/// A frame with what is drawn of it.
+struct Scene<'a> {
+    frame: &'a Frame<'a>,
+    answer: &'a FrameAnswer<'a>,
+    parts: Vec<Vec<Ring>>,
+    misfits: Vec<Misfit>,
+    /// The bounds that are cut at.
+    widened: Bounds,
+    canvas: Canvas,
+    labels: Labels,
+    legend: Vec<Entry>,
+    /// How many parts have no label for want of room.
+    unlabelled: usize,
+}
+
+pub fn draw(title: &str, frame: &Frame, answer: &FrameAnswer) -> String {
+    let parts = area::parts_of(frame);
+    let scene = Scene {
+        frame,
+        answer,
+        misfits: area::misfits_of(&parts),
+        parts,
+        widened: frame.bounds.widened(frame.buffer),
+        canvas: Canvas::default(),
+        labels: Labels::default(),
+        legend: Vec::new(),
+        unlabelled: 0,
+    };
+    scene.draw(title)
+}
+
+impl Scene<'_> {
+    fn draw(mut self, title: &str) -> String {
+        let top = self.draw_words(title) + GAP;
+        let view = self.view(top);
+        let mut bottom = top;
+        if let Some(view) = &view {
+            self.draw_shapes(view);
+            self.draw_labels(view);
+            bottom = view.place.top + view.place.height + BELOW;
+        }
+        for line in self.notes(view.as_ref()).iter().flat_map(|note| in_lines(note, NOTE_LENGTH)) {
+            self.canvas.text("small", Anchor::Middle, (WIDTH / 2.0, bottom), &line);
+            bottom += NOTE_LINE;
+        }
+        let end = legend::draw(&mut self.canvas, bottom, &self.legend);
+        self.canvas.finish(title, end + 4.0)
+    }
+
+    /// The title, the flags and the answer, and where they end.
+    fn draw_words(&mut self, title: &str) -> f64 {
+        let mut base_line = 6.0;
+        for line in in_lines(title, TITLE_LENGTH) {
+            base_line += TITLE_LINE;
+            self.canvas.text("title", Anchor::Middle, (WIDTH / 2.0, base_line), &line);
+        }
+        let flags = crate::shared::words::flags(self.frame.flags);
+        let answer = words::of_answer(self.frame, &self.misfits, self.answer);
+        for line in [flags].iter().chain(&answer).flat_map(|words| in_lines(words, LINE_LENGTH)) {
+            base_line += LINE;
+            self.canvas.text("answer", Anchor::Middle, (WIDTH / 2.0, base_line), &line);
+        }
+        base_line
+    }
+
+    /// What is to be known of the drawing.
+    fn notes(&self, view: Option<&View>) -> Vec<String> {
+        let mut notes = words::of_drawing(self.frame, &self.misfits, view.map(|view| (view, self.area())));
+        if self.parts.len() > MANY {
+            notes.push("a number in an area is that of the part".to_string());
+        }
+        if self.unlabelled > 0 {
+            notes.push(format!("parts without a label, for want of room: {}", self.unlabelled));
+        }
+        notes
+    }
+
+    /// The bounds of all corners that can be placed.
+    fn area(&self) -> Option<Bounds> {
+        bounds_of(self.parts.iter().flatten().flatten().copied())
+    }
+
+    /// What is shown and where, if there is anything that can be.
+    fn view(&self, top: f64) -> Option<View> {
+        let area = self.area();
+        let (tile, widened) = (drawable(self.frame.bounds), drawable(self.widened));
+        let is_point = |bounds: &Bounds| bounds.west == bounds.east && bounds.south == bounds.north;
+        let shown = tile.filter(|tile| !is_point(tile)).or(widened).or(tile).or(area)?;
+        let all = [tile, widened, area].into_iter().flatten().fold(shown, union);
+        let numbers = [self.frame.bounds.south, self.frame.bounds.north].map(|bound| width_of(&number::text(bound)));
+        let left = if tile.is_some() { BESIDE.max(numbers[0].max(numbers[1]) + 30.0) } else { BESIDE };
+        let room = Place { left, top, width: WIDTH - BESIDE - left, height: HIGHEST };
+        Some(View::new(shown, all, room))
+    }
+
+    fn draw_shapes(&mut self, view: &View) {
+        let drawn = [self.area(), drawable(self.widened)];
+        if drawn.into_iter().flatten().any(|bounds| !view.beyond(bounds).is_empty()) {
+            self.canvas.rectangle("rim", view.rim());
+        }
+        self.canvas.open_clip(view.rim());
+        if let Some(tile) = drawable(self.frame.bounds) {
+            self.legend.push(("tile", "tile"));
+            self.canvas.area("tile", &[view.cut(&rectangle(tile))]);
+        }
+        if let Some(widened) = drawable(self.widened).filter(|_| self.frame.buffer != 0.0) {
+            self.legend.push(("buffer", "tile with its buffer"));
+            self.canvas.area("buffer", &[view.cut(&rectangle(widened))]);
+        }
+        if !self.parts.is_empty() {
+            self.legend.push(("input", "input outline"));
+        }
+        for part in &self.parts {
+            area::draw(&mut self.canvas, view, "input", part);
+            self.legend.extend(area::draw_speck(&mut self.canvas, view, part));
+        }
+        self.draw_answer(view);
+        self.canvas.close_clip();
+    }
+
+    fn draw_answer(&mut self, view: &View) {
+        match self.answer {
+            FrameAnswer::Nothing { .. } | FrameAnswer::Dropped => {}
+            FrameAnswer::Unchanged => (0..self.parts.len()).for_each(|number| self.draw_unchanged(view, number)),
+            FrameAnswer::Listed { parts, .. } => parts.clone().for_each(|part| self.draw_part(view, part)),
+        }
+    }
+
+    fn draw_unchanged(&mut self, view: &View, number: usize) {
+        area::draw(&mut self.canvas, view, "unchanged", &self.parts[number]);
+        self.legend.push(("unchanged", "unchanged"));
+    }
+
+    fn draw_part(&mut self, view: &View, ListedPart { number, answer }: ListedPart) {
+        match answer {
+            PartAnswer::Unchanged => self.draw_unchanged(view, number),
+            PartAnswer::Cut(rings) => {
+                let rings: Vec<Vec<Vertex>> = rings.map(|ring| ring.iter().collect()).collect();
+                let areas: Vec<Ring> =
+                    rings.iter().map(|ring| ring.iter().map(|&corner| outline::point(corner)).collect()).collect();
+                area::draw(&mut self.canvas, view, "cut", &areas);
+                self.legend.push(("cut", "cut"));
+                self.legend.extend(outline::draw(&mut self.canvas, view, self.widened, &rings));
+            }
+            PartAnswer::Overlay(_) => {
+                area::draw(&mut self.canvas, view, "overlay", &self.parts[number]);
+                self.legend.push(("overlay", "overlay wanted"));
+            }
+        }
+    }
+
+    /// What reasons tell first, since that is what a picture is looked at for; then the tile's bounds, then the parts.
+    fn draw_labels(&mut self, view: &View) {
+        if let FrameAnswer::Listed { parts, .. } = self.answer {
+            for ListedPart { number, answer } in parts.clone() {
+                let PartAnswer::Overlay(reason) = answer else { continue };
+                let (exterior, labels) = (&self.parts[number][0], &mut self.labels);
+                self.legend.extend(marks::draw(&mut self.canvas, view, labels, exterior, self.widened, reason));
+            }
+        }
+        self.label_tile(view);
+        if self.parts.len() > 1 {
+            (0..self.parts.len()).for_each(|number| self.label_part(view, number));
+        }
+    }
+
+    /// The four bounds as numbers beside the tile.
+    fn label_tile(&mut self, view: &View) {
+        let Some(tile) = drawable(self.frame.bounds).and_then(|tile| view.shown(tile)) else { return };
+        let Bounds { west, south, east, north } = self.frame.bounds;
+        let ((left, bottom), (right, top)) = (view.pixel([tile.west, tile.south]), view.pixel([tile.east, tile.north]));
+        let [west, south, east, north] = [west, south, east, north].map(number::text);
+        // Where the tile is small, the numbers of two opposite bounds move apart.
+        let apart = ((width_of(&west) + width_of(&east)) / 2.0 + 6.0 - (right - left)).max(0.0) / 2.0;
+        let upright = (13.0 - (bottom - top)).max(0.0) / 2.0;
+        for (x, words) in [(left - apart, west), (right + apart, east)] {
+            self.labels.put(&mut self.canvas, "small", (x, bottom + upright + 11.0), &words);
+        }
+        for (y, words) in [(bottom + upright, south), (top - upright, north)] {
+            let x = left - width_of(&words) / 2.0 - 6.0;
+            self.labels.put(&mut self.canvas, "small", (x, y), &words);
+        }
+    }
+
+    /// The part's number in the middle of what is shown of it, or beside it where there is no room for the words.
+    fn label_part(&mut self, view: &View, number: usize) {
+        let points = self.parts[number].iter().flatten().copied();
+        let Some(Bounds { west, south, east, north }) = bounds_of(points).and_then(|bounds| view.shown(bounds)) else {
+            return;
+        };
+        let words = if self.parts.len() > MANY { number.to_string() } else { format!("part {number}") };
+        let ((left, bottom), (right, top)) = (view.pixel([west, south]), view.pixel([east, north]));
+        let (x, y) = ((left + right) / 2.0, (top + bottom) / 2.0);
+        let half = width_of(&words) / 2.0;
+        let beside = [(x, top - 12.0), (x, bottom + 12.0), (right + half + 8.0, y), (left - half - 8.0, y)];
+        let has_room = right - left > 2.0 * half && bottom - top > LINE;
+        let places = if has_room { &[(x, y)][..] } else { &beside };
+        if !places.iter().any(|&place| self.labels.put_if_free(&mut self.canvas, "part", place, &words)) {
+            self.unlabelled += 1;
+        }
+    }
+}
+
+fn rectangle(bounds: Bounds) -> Vec<Point> {
+    let Bounds { west, south, east, north } = bounds;
+    vec![[west, south], [east, south], [east, north], [west, north], [west, south]]
+}

@@ -1,0 +1,92 @@
+//! Lines of text that fit into the picture, and labels that leave each other room.
+
+use crate::canvas::{Anchor, Canvas, WIDTH};
+use crate::view::Pixel;
+
+/// Pixels from the picture's edge to any text.
+const MARGIN: f64 = 8.0;
+
+/// Pixels that a character takes, as a rule, and those from the base line of a label to the next above or below.
+const CHARACTER: f64 = 6.4;
+const LABEL_HEIGHT: f64 = 13.0;
+
+/// Breaks words into lines of so many characters, between words where it can be.
+pub fn in_lines(words: &str, length: usize) -> Vec<String> {
+    let mut lines = Vec::new();
+    let mut line: Vec<char> = Vec::new();
+    for word in words.split_whitespace() {
+        let mut word: Vec<char> = word.chars().collect();
+        if !line.is_empty() && line.len() + 1 + word.len() > length {
+            lines.push(std::mem::take(&mut line).into_iter().collect());
+        }
+        while word.len() > length {
+            let rest = word.split_off(length);
+            lines.push(word.into_iter().collect());
+            word = rest;
+        }
+        if !line.is_empty() {
+            line.push(' ');
+        }
+        line.extend(word);
+    }
+    if !line.is_empty() {
+        lines.push(line.into_iter().collect());
+    }
+    lines
+}
+
+/// How many pixels a label takes, nearly.
+pub fn width_of(words: &str) -> f64 {
+    CHARACTER * words.chars().count() as f64
+}
+
+/// The labels that stand in the picture.
+#[derive(Default)]
+pub struct Labels {
+    taken: Vec<Spot>,
+}
+
+/// The room that a label takes: its middle, and how far it reaches to each side.
+struct Spot {
+    x: f64,
+    y: f64,
+    half: f64,
+}
+
+impl Spot {
+    /// Where words stand whose middle is there, moved so that they are in the picture.
+    fn new((x, y): Pixel, words: &str) -> Spot {
+        let half = (width_of(words) / 2.0).min(WIDTH / 2.0 - MARGIN);
+        Spot { x: x.clamp(MARGIN + half, WIDTH - MARGIN - half), y, half }
+    }
+
+    fn is_apart(&self, other: &Spot) -> bool {
+        (self.x - other.x).abs() > self.half + other.half || (self.y - other.y).abs() >= LABEL_HEIGHT
+    }
+}
+
+impl Labels {
+    /// Puts words with their middle there.
+    pub fn put(&mut self, canvas: &mut Canvas, class: &str, middle: Pixel, words: &str) {
+        let spot = Spot::new(middle, words);
+        canvas.text(class, Anchor::Middle, (spot.x, spot.y + 4.0), words);
+        self.taken.push(spot);
+    }
+
+    /// Puts words with their middle there, unless others stand in the way or the picture ends; answers whether it did.
+    pub fn put_if_free(&mut self, canvas: &mut Canvas, class: &str, middle: Pixel, words: &str) -> bool {
+        let spot = Spot::new(middle, words);
+        let is_free = spot.x == middle.0 && self.taken.iter().all(|taken| taken.is_apart(&spot));
+        if is_free {
+            self.put(canvas, class, middle, words);
+        }
+        is_free
+    }
+
+    /// Puts words at the first of some places that is free, and at the first of all if none is.
+    pub fn put_somewhere(&mut self, canvas: &mut Canvas, class: &str, middles: &[Pixel], words: &str) {
+        if !middles.iter().any(|&middle| self.put_if_free(canvas, class, middle, words)) {
+            self.put(canvas, class, middles[0], words);
+        }
+    }
+}

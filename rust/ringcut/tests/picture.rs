@@ -1,0 +1,446 @@
+//! The example `picture`: the repository's pictures are those that it draws, with which edges of cuts are borders; what it says and marks
+//! of the repository's examples; that every frame, however odd, gets an SVG that is one; and what it does with wrong use.
+
+mod examples;
+
+use std::collections::BTreeSet;
+use std::fs;
+use std::path::{Path, PathBuf};
+
+use examples::{digits, example, run, Ran, ROOT};
+use ringcut::{
+    is_along_tile, Bounds, Flags, Frame, FrameAnswer, FrameBuilder, Kind, PartAnswer, Refusal, Vertex, LONGEST_FRAME,
+};
+
+const TILE: [f64; 4] = [0.0, 0.0, 10.0, 10.0];
+const SQUARE: &[f64] = &[2., 2., 8., 2., 8., 8., 2., 8.];
+const NAN: f64 = f64::NAN;
+const INF: f64 = f64::INFINITY;
+
+fn read(name: &str) -> String {
+    fs::read_to_string(format!("{ROOT}/examples/{name}")).unwrap()
+}
+
+/// A new folder for one test.
+fn new_folder(name: &str) -> PathBuf {
+    let folder = Path::new(env!("CARGO_TARGET_TMPDIR")).join(name);
+    if folder.exists() {
+        fs::remove_dir_all(&folder).unwrap();
+    }
+    fs::create_dir_all(&folder).unwrap();
+    folder
+}
+
+fn names_in(folder: impl AsRef<Path>) -> BTreeSet<String> {
+    let names = fs::read_dir(folder).unwrap().map(|entry| entry.unwrap().file_name().into_string().unwrap());
+    names.collect()
+}
+
+/// Draws a line of these, from 1.
+fn draw(line: usize, frames: &str) -> Ran {
+    run(example("picture"), &[&line.to_string()], frames.as_bytes())
+}
+
+/// The picture of a line of the repository's examples, from 1.
+fn picture(line: usize) -> String {
+    let Ran { status, output, said } = draw(line, &read("frames.hex"));
+    assert_eq!((status, said.as_str()), (0, ""), "line {line}");
+    output
+}
+
+#[test]
+fn the_repositorys_pictures_are_those_that_are_drawn() {
+    let folder = new_folder("pictures");
+    let list = format!("{ROOT}/examples/pictures.txt");
+    let arguments = ["--list", &list, folder.to_str().unwrap()];
+    let Ran { status, output, said } = run(example("picture"), &arguments, read("frames.hex").as_bytes());
+    assert_eq!((status, output.as_str(), said.as_str()), (0, "", ""));
+    let drawn = names_in(&folder);
+    assert_eq!(names_in(format!("{ROOT}/examples/pictures")), drawn);
+    for name in drawn {
+        let is_drawn = read(&format!("pictures/{name}")) == fs::read_to_string(folder.join(&name)).unwrap();
+        assert!(is_drawn, "examples/pictures/{name} is not what examples/README.md says how to draw");
+    }
+}
+
+fn bytes_of(line: &str) -> Vec<u8> {
+    (0..line.len()).step_by(2).map(|at| u8::from_str_radix(&line[at..at + 2], 16).unwrap()).collect()
+}
+
+/// The rings of the only cut that a line of the examples, from 1, is answered with; of each the numbers of its edges that are borders.
+fn borders(line: usize) -> Vec<Vec<usize>> {
+    let [frame, answer] = ["frames.hex", "answers.hex"].map(|name| bytes_of(read(name).lines().nth(line - 1).unwrap()));
+    let frame = Frame::read(&frame).unwrap();
+    let bounds = frame.bounds.widened(frame.buffer);
+    let Ok(FrameAnswer::Listed { mut parts, .. }) = FrameAnswer::read(&answer) else { panic!("no part is listed") };
+    let cut = parts.find_map(|part| if let PartAnswer::Cut(rings) = part.answer { Some(rings) } else { None });
+    let of_ring = |ring: Vec<Vertex>| {
+        let edges = ring.windows(2).enumerate();
+        edges.filter(|(_, edge)| !is_along_tile(bounds, edge[0], edge[1])).map(|(number, _)| number).collect()
+    };
+    cut.unwrap().map(|ring| of_ring(ring.iter().collect())).collect()
+}
+
+#[test]
+fn the_tiles_edge_is_no_border() {
+    // A side that lies outside becomes one along the bound, in a hole too, and with a buffer.
+    assert_eq!(borders(2), [[0, 2, 3]]);
+    assert_eq!(borders(4), [[0, 2, 3], [0, 2, 3]]);
+    assert_eq!(borders(7), [[0, 2, 3]]);
+    // Inside as it is, but for its hole.
+    assert_eq!(borders(6), [vec![0, 1, 2, 3], vec![0, 2, 3]]);
+    // Along the east bound to the tile's corner, which Top made, and on along the north bound.
+    assert_eq!(borders(8), [[0, 1, 2, 5, 6]]);
+    // Mended: the corner that was sent twice is one corner of its border.
+    assert_eq!(borders(45), [[0, 1, 3, 4]]);
+    // Two teeth, joined along the bound.
+    assert_eq!(borders(9), [[0, 2, 3, 4, 6, 7]]);
+    // Down the west bound from a corner that Top made to one that Bottom made.
+    assert_eq!(borders(40), [vec![4, 5, 6], vec![0, 1, 2], vec![1, 2, 3]]);
+    // Far larger than the tile.
+    assert_eq!(borders(46), [[2, 3]]);
+}
+
+/// The stretches of an outline that are drawn as borders and those along the tile's edge, in the order of the ring.
+#[test]
+fn borders_are_drawn_otherwise_than_the_tiles_edge() {
+    let classes = |line: usize| -> Vec<String> {
+        let picture = picture(line);
+        let classes = elements(&picture).into_iter().filter(|element| element.name == "path").map(|path| path.class());
+        // The last two are the legend's.
+        let mut outline: Vec<String> = classes.filter(|class| class == "border" || class == "edge").collect();
+        outline.truncate(outline.len() - 2);
+        outline
+    };
+    assert_eq!(classes(2), ["border", "edge", "border"]);
+    assert_eq!(classes(8), ["border", "edge", "border"]);
+    assert_eq!(classes(9), ["border", "edge", "border", "edge", "border"]);
+    assert_eq!(classes(6), ["border", "border", "edge", "border"]);
+}
+
+/// What stands in the picture beside the title, the numbers of the tile and the legend.
+#[test]
+fn the_answer_is_said_in_sentences() {
+    let cases = [
+        (1, "flags 0: none"),
+        (1, "unchanged as a whole: it lies inside the tile"),
+        (2, "flags 3: assume_simple, skip_boundary_fallback"),
+        (2, "part 0: cut"),
+        (3, "part 0: an overlay is wanted: the cut runs along the east bound"),
+        (14, "part 0: an overlay is wanted: the cut runs along the west bound"),
+        (15, "part 0: an overlay is wanted: the cut runs along the south bound"),
+        (16, "part 0: an overlay is wanted: the cut runs along the north bound"),
+        (13, "part 0: an overlay is wanted: corner 0 of the cut is repeated"),
+        (17, "nothing of it is left in the tile"),
+        (18, "dropped as a whole: corner 1 of part 0 is not finite"),
+        (18, "corner 1 of part 0 is not finite: (30,NaN)"),
+        (19, "corner 1 of part 0 is too large to be drawn: (1e150,2)"),
+        (21, "part 0: unchanged"),
+        (21, "part 3: nothing is left in the tile"),
+        (23, "parts 0 and 1: dropped: an overlay is wanted, and a coordinate is too large for it"),
+        (35, "part 0: an overlay is wanted: the exterior has fewer than 4 corners, the closing one counted"),
+        (36, "part 0: an overlay is wanted: corner 3 is repeated"),
+        (37, "part 0: an overlay is wanted: edges 0 and 4 cross"),
+        (39, "part 0: an overlay is wanted: edges 0 and 3 of the cut cross"),
+        (46, "the area goes on beyond the picture on all sides"),
+    ];
+    for (line, sentence) in cases {
+        let picture = picture(line);
+        assert!(words(&picture).contains(sentence), "{sentence}: {}", words(&picture));
+        assert!(!picture.contains("reason"), "line {line}");
+    }
+}
+
+/// The classes of what is marked in a picture, and the words beside.
+fn marks(svg: &str) -> (String, String) {
+    let is_mark = |element: &Element| ["repeated", "crossing", "along"].contains(&element.class().as_str());
+    let marks: Vec<String> = elements(svg).into_iter().filter(is_mark).map(|mark| mark.class()).collect();
+    let words = elements(svg).into_iter().filter(|element| element.class() == "mark").map(|words| words.text);
+    // The last mark is the legend's.
+    (marks[..marks.len().saturating_sub(1)].join(" "), words.collect::<Vec<_>>().join(", "))
+}
+
+fn marked(shapes: &str, words: &str) -> (String, String) {
+    (shapes.to_string(), words.to_string())
+}
+
+#[test]
+fn what_a_reason_tells_is_marked() {
+    assert_eq!(marks(&picture(36)), marked("repeated", "3"));
+    assert_eq!(marks(&picture(37)), marked("crossing crossing", "edge 0, edge 4"));
+    // Of a cut, which the answer does not bring.
+    assert_eq!(marks(&picture(13)), marked("repeated", "0"));
+    assert_eq!(marks(&picture(39)), marked("crossing crossing", "edge 0, edge 3"));
+    assert_eq!(marks(&picture(8)), marked("", ""));
+    // The edge that closes an exterior that was sent open.
+    let open = frame(Kind::Polygon, Flags::default(), TILE, 0., &[&[&[2., 2., 8., 2., 2., 8., 8., 8.]]]);
+    assert_eq!(marks(&draw(1, &open).output), marked("crossing crossing", "edge 1, edge 3"));
+}
+
+/// The first path of a class as x and y in pixels.
+fn path(svg: &str, class: &str) -> Vec<[f64; 2]> {
+    let path = elements(svg).into_iter().find(|element| element.class() == class).unwrap();
+    let (_, commands) = path.attributes.iter().find(|(name, _)| name == "d").unwrap();
+    let points = commands.split(['M', 'L', 'Z']).filter_map(|point| point.split_once(' '));
+    points.map(|(x, y)| [x.parse().unwrap(), y.parse().unwrap()]).collect()
+}
+
+#[test]
+fn the_bound_that_a_cut_runs_along_is_marked() {
+    // The axis that stays, and whether it is the tile's least there. Pixels are counted downwards.
+    for (line, side, axis, is_least) in
+        [(3, "east", 0, false), (14, "west", 0, true), (15, "south", 1, false), (16, "north", 1, true)]
+    {
+        let picture = picture(line);
+        assert_eq!(marks(&picture), marked("along", &format!("{side} bound")));
+        let tile = path(&picture, "tile").into_iter().map(|point| point[axis]);
+        let bound = if is_least { tile.reduce(f64::min) } else { tile.reduce(f64::max) };
+        assert!(path(&picture, "along").iter().all(|point| Some(point[axis]) == bound), "{side}");
+    }
+}
+
+/// An element of an SVG, with the text that stands in it.
+#[derive(Default)]
+struct Element {
+    name: String,
+    attributes: Vec<(String, String)>,
+    text: String,
+}
+
+impl Element {
+    fn class(&self) -> String {
+        self.attributes.iter().find(|(name, _)| name == "class").map_or(String::new(), |(_, class)| class.clone())
+    }
+}
+
+fn unescaped(text: &str) -> String {
+    assert!(!text.contains('>'), "{text}");
+    assert!(text.chars().all(|character| character == '\n' || !character.is_control()), "{text:?}");
+    let plain = text.replace("&lt;", "<").replace("&gt;", ">").replace("&amp;", "+");
+    assert!(!plain.contains('&'), "{text}");
+    text.replace("&lt;", "<").replace("&gt;", ">").replace("&amp;", "&")
+}
+
+/// The elements of a well-formed file, in the order in which they begin. What is not well-formed is told.
+fn elements(svg: &str) -> Vec<Element> {
+    let mut elements: Vec<Element> = Vec::new();
+    let mut open: Vec<usize> = Vec::new();
+    assert!(svg.starts_with("<svg ") && svg.ends_with("</svg>\n"));
+    for piece in svg.split('<').skip(1) {
+        let (tag, text) = piece.split_once('>').expect("a tag ends");
+        if let Some(name) = tag.strip_prefix('/') {
+            let begun = open.pop().expect("what ends has begun");
+            assert_eq!(elements[begun].name, name);
+        } else {
+            assert!(!open.is_empty() || elements.is_empty(), "there is one root");
+            elements.push(element(tag.trim_end_matches('/')));
+            if !tag.ends_with('/') {
+                open.push(elements.len() - 1);
+            }
+        }
+        match open.last() {
+            Some(&inner) => elements[inner].text.push_str(&unescaped(text)),
+            None => assert_eq!(text.trim(), ""),
+        }
+    }
+    assert!(open.is_empty(), "all that begins ends");
+    elements
+}
+
+/// An element by what stands between its brackets.
+fn element(tag: &str) -> Element {
+    let (name, mut rest) = tag.split_once(' ').unwrap_or((tag, ""));
+    let mut attributes = Vec::new();
+    while !rest.trim().is_empty() {
+        let (attribute, behind) = rest.trim_start().split_once("=\"").expect("an attribute has a value");
+        let (value, behind) = behind.split_once('"').expect("a value ends");
+        assert!(attributes.iter().all(|(other, _)| other != attribute), "{attribute} twice");
+        attributes.push((attribute.to_string(), unescaped(value)));
+        rest = behind;
+    }
+    Element { name: name.to_string(), attributes, text: String::new() }
+}
+
+/// All texts of a picture, each behind a blank, as a sentence may go on in the next.
+fn words(svg: &str) -> String {
+    elements(svg)
+        .into_iter()
+        .filter(|element| element.name == "text")
+        .map(|element| format!(" {}", element.text))
+        .collect()
+}
+
+/// That a picture is well-formed, all its numbers are finite and near its 480 pixels, and its texts fit.
+fn assert_sound(svg: &str) {
+    for Element { name, attributes, text } in elements(svg) {
+        for (attribute, value) in attributes {
+            let is_number = ["x", "y", "cx", "cy", "r", "width", "height", "d"].contains(&attribute.as_str());
+            for number in value.split([' ', 'M', 'L', 'Z', 'V']).filter(|word| is_number && !word.is_empty()) {
+                let number: f64 = number.parse().unwrap_or_else(|_| panic!("{attribute}=\"{value}\""));
+                assert!((-200.0..3000.0).contains(&number), "{attribute}=\"{value}\"");
+            }
+        }
+        assert!(name != "text" || text.chars().count() <= 80, "{text}");
+    }
+}
+
+/// The digits of a frame on these bounds; a part is its rings, a ring x, y numbers.
+fn frame(kind: Kind, flags: Flags, [west, south, east, north]: [f64; 4], buffer: f64, parts: &[&[&[f64]]]) -> String {
+    let mut room = [0; LONGEST_FRAME];
+    let bounds = Bounds { west, south, east, north };
+    let mut builder = FrameBuilder::new(kind, flags, bounds, buffer, &mut room).unwrap();
+    for part in parts {
+        builder.part(*part).unwrap();
+    }
+    digits(builder.finish().unwrap())
+}
+
+/// A frame of one polygon of one ring, with both flags.
+fn polygon(bounds: [f64; 4], buffer: f64, ring: &[f64]) -> String {
+    let flags = Flags { assume_simple: true, skip_boundary_fallback: true };
+    frame(Kind::Polygon, flags, bounds, buffer, &[&[ring]])
+}
+
+/// That a frame has a sound picture, in which this is said.
+fn assert_says(frame: &str, sentence: &str) {
+    let Ran { status, output, said } = draw(1, frame);
+    assert_eq!((status, said.as_str()), (0, ""));
+    assert_sound(&output);
+    assert!(words(&output).contains(sentence), "{sentence}: {}", words(&output));
+}
+
+#[test]
+fn bounds_of_every_kind_are_drawn_or_said_to_be_none() {
+    let said = |bounds, buffer, sentence: &str| assert_says(&polygon(bounds, buffer, SQUARE), sentence);
+    said([0., NAN, 10., 10.], 0., "the tile can't be drawn: south is NaN, and nothing lies inside such bounds");
+    said([10., 0., 0., 10.], 0., "the tile can't be drawn: west is 10 and east is 0, and nothing lies between");
+    said([0., 10., 10., 0.], 0., "the tile can't be drawn: south is 10 and north is 0, and nothing lies between");
+    said([-INF, -INF, INF, INF], 0., "the tile can't be drawn: north is inf, too far");
+    said([5., 0., 5., 10.], 0., "the tile has no width");
+    said([0., 5., 10., 5.], 0., "the tile has no height");
+    said([5., 5., 5., 5.], 0., "the tile has no width and no height");
+    said([10., 10., 0., 0.], 20., "without its buffer the tile can't be drawn: west is 10 and east is 0,");
+    said(TILE, -7., "with its buffer of -7 the tile can't be drawn: west is 7 and east is 3,");
+    said(TILE, NAN, "with its buffer of NaN the tile can't be drawn: west is NaN,");
+    said(TILE, 1e300, "with its buffer of 1e300 the tile can't be drawn:");
+    said(TILE, 1e6, "the tile with its buffer goes on beyond the picture on all sides");
+    said([0., 0., 1e-3, 100.], 0., "not to scale: it is drawn wider than it is");
+    said([0., 0., 1000., 1.], 0., "not to scale: it is drawn higher than it is");
+    assert_says(&polygon([5., 0., 5., 10.], 0., &[]), "the tile has no width");
+    assert_says(&polygon([7.; 4], 0., &[7., 7.]), "the tile has no width and no height");
+    for bounds in
+        [[0., 0., 5e-324, 5e-324], [100., 100., 100.00000000000001, 100.00000000000001], [-180., -90., 180., 90.]]
+    {
+        said(bounds, 0., "flags 3");
+    }
+}
+
+#[test]
+fn areas_of_every_kind_are_drawn_or_said_to_be_left_out() {
+    let said = |ring: &[f64], sentence: &str| assert_says(&polygon(TILE, 0., ring), sentence);
+    said(&[2., 2., 8., 2., NAN, 8.], "corner 2 of part 0 is not finite: (NaN,8)");
+    said(&[2., 2., -INF, 2., 2., 8.], "dropped as a whole: corner 1 of part 0 is not finite");
+    said(&[2., 2., 1e300, 2., 1e300, 8., 2., 8.], "corner 1 of part 0 is too large to be drawn: (1e300,2)");
+    said(&[1e300; 100], "47 corners more can't be drawn");
+    said(
+        &[1e140, -1e140, 1e140, 1e140, -1e140, 1e140, -1e149, -1e149],
+        "the area goes on beyond the picture on all sides",
+    );
+    said(&[1000., 1000., 1020., 1000., 1020., 1020.], "the area goes on beyond the picture to the east and north");
+    said(&[2., 2., 2.0001, 2., 2.0001, 2.0001], "a very small area");
+    said(&[], "nothing of it is left in the tile");
+    // Only its first edge can be placed, and is far longer than the picture.
+    said(&[5., 1e149, 5., -2e149, NAN, 0.], "the area goes on beyond the picture to the south and north");
+    said(&[7., 7.], "the exterior has fewer than 4 corners");
+    let huge = [-1.7e308, -1.7e308, 1.7e308, 1.7e308];
+    assert_says(
+        &polygon(huge, 0., &[-1e308, -1e308, 1e308, -1e308, 1e308, 1e308]),
+        "there is nothing that can be drawn",
+    );
+    let star: Vec<f64> = (0..600).map(|n| 7. + 6. * f64::from(n % 4) * f64::from(n).sin()).collect();
+    said(&star, "flags 3");
+}
+
+#[test]
+fn many_parts_are_said_and_labelled_as_far_as_there_is_room() {
+    let flags = Flags::default();
+    let multipolygon = |parts: &[&[&[f64]]]| frame(Kind::MultiPolygon, flags, TILE, 0., parts);
+    assert_says(&multipolygon(&[]), "nothing of it is left in the tile");
+    assert_says(&multipolygon(&[&[&[][..]][..]; 256]), "nothing of it is left in the tile");
+    let squares: Vec<[f64; 6]> =
+        (0..90).map(|n| (f64::from(n % 10), f64::from(n / 10))).map(|(x, y)| [x, y, x + 0.9, y, x, y + 0.9]).collect();
+    let rings: Vec<[&[f64]; 1]> = squares.iter().map(|square| [&square[..]]).collect();
+    let parts: Vec<&[&[f64]]> = rings.iter().map(|rings| &rings[..]).collect();
+    assert_says(&multipolygon(&parts), "a number in an area is that of the part");
+    assert_says(&multipolygon(&[parts[0]; 40]), "parts without a label, for want of room: 39");
+    let holes: Vec<&[f64]> = [SQUARE].into_iter().chain(squares.iter().map(|square| &square[..]).take(63)).collect();
+    assert_says(&multipolygon(&[&holes, &[&[8., 8., 12., 8., 12., 12.]]]), "part 0: ");
+}
+
+#[test]
+fn every_example_has_a_sound_picture_or_is_refused() {
+    let frames = read("frames.hex");
+    for (line, answer) in (1..).zip(read("answers.hex").lines()) {
+        let Ran { status, output, said } = draw(line, &frames);
+        match FrameAnswer::read_printed(&bytes_of(answer)).unwrap() {
+            Ok(_) => {
+                assert_eq!((status, said.as_str()), (0, ""));
+                assert_sound(&output);
+            }
+            Err(refusal) => {
+                assert_eq!((status, output.as_str(), said), (1, "", format!("picture: line {line}: {refusal}\n")));
+            }
+        }
+    }
+}
+
+#[test]
+fn a_title_is_written_as_it_is_and_broken_where_it_is_long() {
+    let with_title =
+        |title: &str| run(example("picture"), &["--title", title], polygon(TILE, 0., SQUARE).as_bytes()).output;
+    let titles = |title: &str| {
+        let svg = with_title(title);
+        assert_sound(&svg);
+        let titles: Vec<String> = elements(&svg)
+            .into_iter()
+            .filter(|element| element.class() == "title")
+            .map(|element| element.text)
+            .collect();
+        titles
+    };
+    assert_eq!(titles("A <b> & \"c\" > d"), ["A <b> & \"c\" > d"]);
+    assert_eq!(titles("a\u{1}b\nc"), ["a b c"]);
+    let long = "word ".repeat(30);
+    assert!(titles(&long).len() > 1 && titles(&long).iter().all(|line| line.len() <= 52));
+    assert_eq!(titles(&"x".repeat(120)).iter().map(String::len).collect::<Vec<_>>(), [52, 52, 16]);
+    assert!(titles("").is_empty());
+    assert!(draw(1, &polygon(TILE, 0., SQUARE)).output.contains("<title>The frame of line 1</title>"));
+}
+
+#[test]
+fn wrong_use_is_told() {
+    let frames = read("frames.hex");
+    let told = |arguments: &[&str], sentence: &str| {
+        let Ran { status, output, said } = run(example("picture"), arguments, frames.as_bytes());
+        assert_eq!((status, output.as_str()), (2, ""), "{arguments:?}");
+        assert!(said.starts_with(sentence), "{said}");
+    };
+    for arguments in
+        [&["x"][..], &["--title"], &["1", "2"], &["--help"], &["-1"], &["--list", "a"], &["--title", "a", "b"]]
+    {
+        told(arguments, "usage: picture [--title TITLE] [LINE] <FRAMES >PICTURE.svg\n");
+    }
+    told(&["0"], "picture: standard input has no line 0\n");
+    told(&["1000"], "picture: standard input has no line 1000\n");
+    let folder = new_folder("wrong use");
+    let (list, folder) = (folder.join("list"), folder.to_str().unwrap());
+    told(&["--list", list.to_str().unwrap(), folder], &format!("picture: {}: ", list.display()));
+    fs::write(&list, "1 a.svg\n").unwrap();
+    told(&["--list", list.to_str().unwrap(), folder], &format!("picture: {}: a row has ", list.display()));
+    fs::write(&list, "1 none/a.svg A title\n").unwrap();
+    told(&["--list", list.to_str().unwrap(), folder], &format!("picture: {folder}/none/a.svg: "));
+    let Ran { status, said, .. } = run(example("picture"), &[], b"0g\r\n");
+    assert_eq!((status, said), (1, format!("picture: line 1: {}\n", Refusal::Digits)));
+    let crlf = polygon(TILE, 0., SQUARE) + "\r\n";
+    assert_eq!(draw(1, &crlf).output, draw(1, crlf.trim_end()).output);
+}
