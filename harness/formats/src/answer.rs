@@ -113,7 +113,7 @@ impl Answer {
         let [number, head @ ..]: [u8; 5] = cursor.take().map_err(Fault::of_rings)?;
         let [guard_count, listed] = [[head[0], head[1]], [head[2], head[3]]].map(u16::from_le_bytes);
         let has_its_guard_count = match number {
-            0 | 3 => usize::from(guard_count) <= MOST_PARTS,
+            0 | 3 => usize::from(guard_count) + usize::from(listed) <= MOST_PARTS,
             1 => guard_count == 1,
             2 => guard_count == 0,
             _ => return Err(Fault::Number),
@@ -279,13 +279,14 @@ mod tests {
                      part 2 cut (0.5,1) corner 0, (2,-3) corner 258, (4,5) Top, (0.5,1) corner 0; \
                      hole (0.5,1) Left, (2,-3) Right, (4,5) Bottom, (0.5,1) Left; \
                      part 3 overlay, reason 6; part 4 overlay, reason 7: corner 315 is repeated; \
-                     part 255 overlay, reason 10: edges 258 and 1609 of the cut cross; guard count 256";
+                     part 255 overlay, reason 10: edges 258 and 1609 of the cut cross; guard count 251";
         for (answer, words) in [
             (Answer::Nothing { guard_count: 0 }, "nothing"),
             (Answer::Nothing { guard_count: 2 }, "nothing; guard count 2"),
             (Answer::Dropped, "dropped; guard count 1"),
             (Answer::Unchanged, "unchanged"),
-            (Answer::Listed { guard_count: 256, parts }, words),
+            (Answer::Listed { guard_count: 251, parts }, words),
+            (Answer::Nothing { guard_count: 256 }, "nothing; guard count 256"),
         ] {
             let bytes = answer.encode();
             let read = Answer::decode(&bytes).expect("these are an answer's bytes").expect("no refusal's");
@@ -299,16 +300,18 @@ mod tests {
     /// A coordinate of a cut has 18 bytes: x, y, origin. Without origins it has the 16 of a frame that is lent.
     #[test]
     fn a_coordinate_is_followed_by_its_origin() {
-        let cut = CutRing { ring: vec![(0.5, f64::NAN), (2.0, -0.0)], origins: vec![258, 65_534] };
+        let ring = vec![(0.5, f64::NAN), (2.0, -0.0), (0.5, 0.5), (2.0, 2.0)];
+        let cut = CutRing { ring, origins: vec![258, 65_534, 0, 1] };
         let parts = vec![ListedPart { index: 1, listed: Listed::Cut(vec![cut]) }];
         let answer = Answer::Listed { guard_count: 0, parts };
-        let head = [3, 0, 0, 1, 0, 1, 0, 4, 0, 1, 0, 2, 0];
-        let numbers = [0x3fe0, 0x7ff8, 0x4000, 0x8000_u64].map(|high| (high << 48).to_le_bytes());
-        let coordinates = [numbers[..2].concat(), numbers[2..].concat()];
-        let origins = [[2, 1], [0xfe, 0xff]];
-        let bytes = [&head, &coordinates[0][..], &origins[0], &coordinates[1], &origins[1]].concat();
+        let head = [3, 0, 0, 1, 0, 1, 0, 4, 0, 1, 0, 4, 0];
+        let [half, nan, two, minus_zero] = [0x3fe0, 0x7ff8, 0x4000, 0x8000_u64].map(|high| (high << 48).to_le_bytes());
+        let coordinates = [[half, nan], [two, minus_zero], [half, half], [two, two]].map(|both| both.concat());
+        let origins = [[2, 1], [0xfe, 0xff], [0, 0], [1, 0]];
+        let with_origins = coordinates.iter().zip(origins).map(|(both, origin)| [both, &origin[..]].concat());
+        let bytes = [head.to_vec(), with_origins.flatten().collect()].concat();
         assert_eq!(answer.encode(), bytes);
-        assert_eq!(answer.encode_without_origins(), [&head, &coordinates[0][..], &coordinates[1]].concat());
+        assert_eq!(answer.encode_without_origins(), [head.to_vec(), coordinates.concat()].concat());
         assert_eq!(Answer::decode(&bytes).unwrap().unwrap().encode(), bytes);
         assert!(Answer::decode(&answer.encode_without_origins()).is_none());
     }
@@ -344,7 +347,7 @@ mod tests {
                 Fault::GuardCount,
                 vec![vec![0, 1, 1, 9, 9], vec![1, 0, 0, 9, 9], vec![1, 1, 1, 9, 9], vec![2, 1, 0, 9, 9]],
             ),
-            (Fault::GuardCount, vec![vec![3, 1, 1, 0, 0]]),
+            (Fault::GuardCount, vec![vec![3, 1, 1, 0, 0], vec![3, 0, 1, 1, 0], vec![3, 0, 0, 1, 1]]),
             (
                 Fault::ListedCount,
                 vec![vec![0, 0, 0, 1, 0], vec![1, 1, 0, 0, 1], vec![2, 0, 0, 1, 0], vec![3, 0, 1, 0, 0]],
@@ -360,7 +363,7 @@ mod tests {
             (Fault::Reason, vec![listing(&[0, 0, 5, 0, 0, 0, 0, 0]), listing(&[0, 0, 5, 11, 0, 0, 0, 0])]),
             (Fault::Reason, vec![listing(&[0, 0, 5, 6, 1, 0, 0, 0]), listing(&[0, 0, 5, 8, 0, 1, 1, 0])]),
             (Fault::RingCount, vec![cut(&[0, 0]), cut(&[65, 0]), cut(&[1, 1])]),
-            (Fault::CoordinateCount, vec![cut(&[1, 0, 0, 0]), cut(&[1, 0, 1, 16])]),
+            (Fault::CoordinateCount, vec![cut(&[1, 0, 0, 0]), cut(&[1, 0, 3, 0]), cut(&[1, 0, 1, 16])]),
             (Fault::Trailing, vec![vec![2, 0, 0, 0, 0, 0], listing(&[0, 0, 2, 0, 0])]),
         ] {
             for bytes in faulty {

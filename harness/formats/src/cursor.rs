@@ -29,9 +29,9 @@ impl Cursor<'_> {
         self.rings(0, |cursor| cursor.coordinate())
     }
 
-    /// A cut part, as it is answered: an origin follows each coordinate, of which a ring has one at least.
+    /// A cut part, as it is answered: an origin follows each coordinate, of which a ring has four at least.
     pub fn cut_part(&mut self) -> Result<Vec<CutRing>, Refusal> {
-        self.rings(1, |cursor| Ok((cursor.coordinate()?, cursor.count()? as u16)))
+        self.rings(4, |cursor| Ok((cursor.coordinate()?, cursor.count()? as u16)))
     }
 
     fn rings<T, R: FromIterator<T>>(

@@ -83,13 +83,14 @@ impl Writer<'_> {
     fn put_answer(&mut self) {
         let number = self.rng.pick(&[0, 1, 2, 3, 3, 3, 3, 3, 3, 10, 18]);
         self.put_byte(number);
+        let listed = if number == 3 { 1 + self.rng.below(5) } else { 0 };
+        let most = 256 - listed;
         let guard_count = match number {
-            0 | 3 => self.rng.pick(&[0, 0, 1, 2, 255, 256]),
+            0 | 3 => self.rng.pick(&[0, 0, 1, 2, most - 1, most]),
             1 => 1,
             _ => 0,
         };
         self.put_count(guard_count);
-        let listed = if number == 3 { 1 + self.rng.below(5) } else { 0 };
         self.put_count(listed);
         let mut next = 0;
         for _ in 0..listed {
@@ -123,7 +124,7 @@ impl Writer<'_> {
         let rings = 1 + self.rng.below(3);
         self.put_count(rings);
         for _ in 0..rings {
-            let coordinates = 1 + self.rng.below(6);
+            let coordinates = if self.rng.once_in(60) { 3 } else { 4 + self.rng.below(6) };
             self.put_count(coordinates);
             for _ in 0..coordinates {
                 self.put_vertex();
@@ -158,11 +159,13 @@ fn at_a_limit(rng: &mut Rng) -> Vec<u8> {
             answer.bytes.extend([1, 0, 255, 0, 4, 0]);
             answer.put_count(rings);
             for _ in less..rings {
-                answer.bytes.extend([1, 0]);
-                answer.put_vertex();
+                answer.bytes.extend([4, 0]);
+                (0..4).for_each(|_| answer.put_vertex());
             }
         }
         _ => {
+            // Dropped parts count beside those that are listed.
+            answer.bytes[1] = answer.rng.pick(&[0, 0, 0, 1]);
             let parts = answer.rng.pick(&[255, 256, 257, 300]);
             answer.put_count(parts);
             for number in 0..parts - less {

@@ -238,7 +238,11 @@ fn other_fault<const FAULT: usize>(bytes: &[u8]) -> Result<Answer, Fault> {
     (RIGHT.read_answer)(bytes).map_err(|fault| if fault == Fault::ALL[FAULT] { other } else { fault })
 }
 
-const MISTAKEN_READERS_OF_ANSWERS: [(&str, ReadAnswer); 25] = [
+fn has_ring_of_four(part: &ListedPart) -> bool {
+    matches!(&part.listed, Listed::Cut(rings) if rings.iter().any(|cut| cut.ring.len() == 4))
+}
+
+const MISTAKEN_READERS_OF_ANSWERS: [(&str, ReadAnswer); 28] = [
     ("x and y exchanged", |bytes| changed_vertices(bytes, |coord, _| *coord = exchanged(*coord))),
     ("an origin read big-endian", |bytes| changed_vertices(bytes, |_, origin| *origin = origin.swap_bytes())),
     ("Left for Right", |bytes| changed_vertices(bytes, |_, origin| *origin -= u16::from(*origin == 65_533))),
@@ -288,6 +292,20 @@ const MISTAKEN_READERS_OF_ANSWERS: [(&str, ReadAnswer); 25] = [
     ("no guard count", |bytes| changed_guard_count(bytes, |_, _| 0)),
     ("one byte of the guard count", |bytes| changed_guard_count(bytes, |count, _| count & 255)),
     ("the guard count of the wrong bytes", |bytes| changed_guard_count(bytes, |_, bytes| bytes[3].into())),
+    ("rings of four refused", |bytes| match (RIGHT.read_answer)(bytes)? {
+        Answer::Listed { parts, .. } if parts.iter().any(has_ring_of_four) => Err(Fault::CoordinateCount),
+        answer => Ok(answer),
+    }),
+    ("256 parts dropped and listed refused", |bytes| match (RIGHT.read_answer)(bytes)? {
+        Answer::Listed { guard_count, parts } if usize::from(guard_count) + parts.len() == 256 => {
+            Err(Fault::GuardCount)
+        }
+        answer => Ok(answer),
+    }),
+    ("257 parts dropped and listed taken", |bytes| match (RIGHT.read_answer)(bytes) {
+        Err(Fault::GuardCount) if bytes[0] == 3 => (RIGHT.read_answer)(&[&[3, 0, 0], &bytes[3..]].concat()),
+        read => read,
+    }),
     ("bytes behind taken", |bytes| match (RIGHT.read_answer)(bytes) {
         Err(Fault::Trailing) => (RIGHT.read_answer)(&bytes[..bytes.len() - 1]),
         read => read,

@@ -19,7 +19,8 @@ pub enum AnswerError {
     Truncated,
     /// Its first byte is not 0 to 3, nor, in what the program prints, a refusal's that the program gives.
     Number,
-    /// Its guard count is over 256, or not the one that such an answer has: 1 where all is dropped, 0 where all is unchanged or refused.
+    /// Its guard count is not the one that such an answer has, 1 where all is dropped and 0 where all is unchanged or refused; or it
+    /// makes over 256 parts with those that are listed.
     GuardCount,
     /// Parts are listed in an answer that has none, or none in one that has some.
     ListedCount,
@@ -31,7 +32,7 @@ pub enum AnswerError {
     Reason,
     /// A cut has no ring or over 64.
     RingCount,
-    /// A ring of a cut has no coordinate or over 4,096.
+    /// A ring of a cut has fewer than 4 coordinates or over 4,096.
     CoordinateCount,
     /// Bytes follow its last part.
     Trailing,
@@ -42,7 +43,9 @@ impl Display for AnswerError {
         f.write_str(match self {
             AnswerError::Truncated => "the answer ends before a count, a number or a coordinate is whole",
             AnswerError::Number => "the first byte of the answer is none that an answer begins with",
-            AnswerError::GuardCount => "the guard count is over 256, or is none that such an answer has",
+            AnswerError::GuardCount => {
+                "the guard count is none that such an answer has, or makes over 256 parts with those listed"
+            }
             AnswerError::ListedCount => "parts are listed in an answer that has none, or none in one that has some",
             AnswerError::PartNumber => {
                 "the number of a part is over 255, or not higher than that of the part before it"
@@ -52,7 +55,7 @@ impl Display for AnswerError {
             }
             AnswerError::Reason => "there is no such reason for an overlay, or its positions are not such as it has",
             AnswerError::RingCount => "a cut has no ring or over 64",
-            AnswerError::CoordinateCount => "a ring of a cut has no coordinate or over 4,096",
+            AnswerError::CoordinateCount => "a ring of a cut has fewer than 4 coordinates or over 4,096",
             AnswerError::Trailing => "bytes follow the answer's last part",
         })
     }

@@ -1,5 +1,6 @@
 //! Frames: the bytes that a frame call takes, read and built.
 
+use core::fmt::{self, Debug, Formatter};
 use core::iter::FusedIterator;
 
 use crate::cursor::Cursor;
@@ -137,7 +138,7 @@ fn read_part<'a>(cursor: &mut Cursor<'a>) -> Result<Rings<'a, [f64; 2]>, Refusal
 }
 
 /// The parts of a frame, one at a time; of each its rings. [`len`](ExactSizeIterator::len) says how many are left.
-#[derive(Clone, Debug)]
+#[derive(Clone)]
 pub struct Parts<'a> {
     left: usize,
     cursor: Cursor<'a>,
@@ -160,8 +161,14 @@ impl<'a> Iterator for Parts<'a> {
 impl ExactSizeIterator for Parts<'_> {}
 impl FusedIterator for Parts<'_> {}
 
-/// Builds a frame in lent bytes, part by part. What breaks a limit of frames is refused as a frame call would refuse it, and leaves the
-/// frame as it was built so far.
+impl Debug for Parts<'_> {
+    fn fmt(&self, f: &mut Formatter) -> fmt::Result {
+        f.debug_list().entries(self.clone()).finish()
+    }
+}
+
+/// Builds a frame in lent bytes, part by part. What breaks a limit of frames is refused as a frame call would refuse it, and a ring that is
+/// not x, y numbers as the other calls would ([`Refusal::Lengths`]). The frame is then as it was built so far.
 ///
 /// ```
 /// use ringcut::{Bounds, Flags, FrameBuilder, Kind, Refusal, LONGEST_FRAME};
@@ -182,7 +189,6 @@ impl FusedIterator for Parts<'_> {}
 /// assert_eq!(builder.finish()?.len(), 44 + (2 + 2 * (2 + 3 * 16)) + (2 + 2 + 2 * 16));
 /// # Ok::<(), Refusal>(())
 /// ```
-#[derive(Debug)]
 pub struct FrameBuilder<'a> {
     kind: Kind,
     parts: usize,
@@ -220,7 +226,7 @@ impl<'a> FrameBuilder<'a> {
     /// were lent ([`Refusal::Output`]). The frame is then as it was before this part.
     ///
     /// The count of rings takes its two bytes before the rings are counted, and a ring's numbers are counted before they take any: so no
-    /// ring at all, in a frame that is full, is refused for the size.
+    /// ring at all, in a frame that is full, is refused for the size or for the room.
     pub fn part(
         &mut self,
         rings: impl IntoIterator<Item = impl AsRef<[f64]>>,
@@ -249,8 +255,14 @@ impl<'a> FrameBuilder<'a> {
     }
 }
 
+impl Debug for FrameBuilder<'_> {
+    fn fmt(&self, f: &mut Formatter) -> fmt::Result {
+        let FrameBuilder { kind, parts, out } = self;
+        f.debug_struct("FrameBuilder").field("kind", kind).field("parts", parts).field("len", &out.len).finish()
+    }
+}
+
 /// A frame that grows in lent bytes: its first `len` of these.
-#[derive(Debug)]
 struct Writer<'a> {
     out: &'a mut [u8],
     len: usize,

@@ -1,5 +1,6 @@
 //! Answers to frames, read from their bytes.
 
+use core::fmt::{self, Debug, Formatter};
 use core::iter::FusedIterator;
 
 use crate::cursor::Cursor;
@@ -19,6 +20,9 @@ use crate::{AnswerError, Reason, Refusal, Rings, Vertex};
 /// | 2 | of a cut: how many rings, exterior first; of each: |
 /// | 2 | how many coordinates; of each: |
 /// | 8, 8, 2 | x, y and its [origin](crate::Origin::number); a NaN has the bits 7ff8000000000000 |
+///
+/// What is read needs no frame beside it. So in bytes that came from elsewhere, a part's number, a position or an origin may lie beyond
+/// what was sent: look these up with [`get`](slice::get).
 ///
 /// ```
 /// use ringcut::{answer_frame, Bounds, Flags, FrameAnswer, FrameBuilder, Kind, PartAnswer, LONGEST_FRAME, MOST_FRAME_OUTPUT};
@@ -103,17 +107,17 @@ impl<'a> FrameAnswer<'a> {
     pub fn read(bytes: &'a [u8]) -> Result<FrameAnswer<'a>, AnswerError> {
         let mut cursor = Cursor { rest: bytes };
         let Head { number, guard_count, listed } = Head::read(&mut cursor)?;
-        let (guard_counts, has_parts) = match number {
-            0 => (0..=MOST_PARTS, false),
-            1 => (1..=1, false),
-            2 => (0..=0, false),
-            3 => (0..=MOST_PARTS, true),
+        let has_its_guard_count = match number {
+            // A part that was dropped is not listed.
+            0 | 3 => usize::from(guard_count) + usize::from(listed) <= MOST_PARTS,
+            1 => guard_count == 1,
+            2 => guard_count == 0,
             _ => return Err(AnswerError::Number),
         };
-        if !guard_counts.contains(&usize::from(guard_count)) {
+        if !has_its_guard_count {
             return Err(AnswerError::GuardCount);
         }
-        if has_parts != (listed > 0) {
+        if (number == 3) != (listed > 0) {
             return Err(AnswerError::ListedCount);
         }
         let parts = ListedParts::read(&mut cursor, listed)?;
@@ -194,7 +198,7 @@ impl<'a> PartAnswer<'a> {
 }
 
 /// The listed parts of an answer, one at a time, by rising numbers. [`len`](ExactSizeIterator::len) says how many are left.
-#[derive(Clone, Debug)]
+#[derive(Clone)]
 pub struct ListedParts<'a> {
     left: usize,
     /// What the number of the next is at least.
@@ -240,3 +244,9 @@ impl<'a> Iterator for ListedParts<'a> {
 
 impl ExactSizeIterator for ListedParts<'_> {}
 impl FusedIterator for ListedParts<'_> {}
+
+impl Debug for ListedParts<'_> {
+    fn fmt(&self, f: &mut Formatter) -> fmt::Result {
+        f.debug_list().entries(self.clone()).finish()
+    }
+}

@@ -6,7 +6,7 @@ use core::fmt::{self, Display, Formatter};
 /// Why a call was refused. A refused call leaves every lent buffer as it was; the [crate's page](crate) says what of that is proved.
 ///
 /// A frame call gives 11 to 18 and 22, a slice call and a ring call 19 to 22, a mending call 19, 20, 22 and 26. The program `ringcut`
-/// prints 10 to 18. What reads or builds frames here gives those that a frame call would give.
+/// prints 10 to 18. What reads a frame here gives those that a frame call would give, and what builds one also 19.
 ///
 /// ```
 /// use ringcut::{cut_ring, Bounds, Refusal, RingBuffers};

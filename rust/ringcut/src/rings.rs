@@ -14,20 +14,23 @@ pub(crate) const MOST_RINGS: usize = 64;
 pub(crate) const MOST_COORDINATES: usize = 4_096;
 
 /// What a coordinate of a ring is read as: `[f64; 2]`, x and y, in a frame, and a [`Vertex`] in a cut. There are no others.
-pub trait Coordinate: Copy + Debug {
+pub trait Coordinate: Stored {}
+
+impl Coordinate for [f64; 2] {}
+impl Coordinate for Vertex {}
+
+/// How a coordinate stands in bytes. Its name can't be said outside of the crate, so that [`Coordinate`] is for these two alone.
+pub trait Stored: Copy + Debug {
     /// How many bytes it takes.
-    #[doc(hidden)]
     const SIZE: usize;
-    /// How few of them a ring may have.
-    #[doc(hidden)]
+    /// How few of them a ring has.
     const FEWEST: usize;
 
     /// The coordinate of so many bytes.
-    #[doc(hidden)]
     fn from_bytes(bytes: &[u8]) -> Option<Self>;
 }
 
-impl Coordinate for [f64; 2] {
+impl Stored for [f64; 2] {
     const SIZE: usize = 16;
     const FEWEST: usize = 0;
 
@@ -37,9 +40,10 @@ impl Coordinate for [f64; 2] {
     }
 }
 
-impl Coordinate for Vertex {
+impl Stored for Vertex {
     const SIZE: usize = 18;
-    const FEWEST: usize = 1;
+    /// A cut exterior that has fewer wants an overlay, and a cut hole that has fewer is left out.
+    const FEWEST: usize = 4;
 
     fn from_bytes(bytes: &[u8]) -> Option<Self> {
         let mut cursor = Cursor { rest: bytes };
@@ -115,7 +119,7 @@ impl<'a, C: Coordinate> Ring<'a, C> {
 }
 
 /// The coordinates of a ring, one at a time. [`len`](ExactSizeIterator::len) says how many are left.
-#[derive(Clone, Debug)]
+#[derive(Clone)]
 pub struct Coordinates<'a, C> {
     chunks: ChunksExact<'a, u8>,
     coordinate: PhantomData<C>,
@@ -161,6 +165,15 @@ impl<'a, C: Coordinate> IntoIterator for Ring<'a, C> {
     }
 }
 
+impl<'a, C: Coordinate> IntoIterator for &Ring<'a, C> {
+    type Item = C;
+    type IntoIter = Coordinates<'a, C>;
+
+    fn into_iter(self) -> Coordinates<'a, C> {
+        self.iter()
+    }
+}
+
 impl<C: Coordinate> Debug for Rings<'_, C> {
     fn fmt(&self, f: &mut Formatter) -> fmt::Result {
         f.debug_list().entries(self.clone()).finish()
@@ -170,5 +183,11 @@ impl<C: Coordinate> Debug for Rings<'_, C> {
 impl<C: Coordinate> Debug for Ring<'_, C> {
     fn fmt(&self, f: &mut Formatter) -> fmt::Result {
         f.debug_list().entries(self.iter()).finish()
+    }
+}
+
+impl<C: Coordinate> Debug for Coordinates<'_, C> {
+    fn fmt(&self, f: &mut Formatter) -> fmt::Result {
+        f.debug_list().entries(self.clone()).finish()
     }
 }

@@ -4,8 +4,8 @@ use core::fmt::{self, Display, Formatter};
 
 use crate::raw;
 
-/// The version of this crate. The library that is linked has its own, [`library_version`]: where the two differ, they were not made to
-/// go together.
+/// The version of this crate. The library that is linked has its own, [`library_version`]: the two come together, so where they differ one
+/// of them is left over from another build.
 pub const VERSION: Version = Version { major: 1, minor: 0, patch: 0 };
 
 /// A version, as the repository's CHANGELOG.md lists them. As text it is `1.0.0`.
@@ -14,7 +14,7 @@ pub const VERSION: Version = Version { major: 1, minor: 0, patch: 0 };
 /// use ringcut::{library_version, VERSION};
 ///
 /// assert_eq!(library_version(), VERSION);
-/// assert_eq!(VERSION.to_string(), env!("CARGO_PKG_VERSION"));
+/// assert_eq!(format!("{VERSION}"), "1.0.0");
 /// ```
 #[derive(Clone, Copy, Debug, PartialEq, Eq, PartialOrd, Ord, Hash)]
 pub struct Version {
@@ -50,7 +50,12 @@ mod tests {
 
     use std::string::ToString;
 
-    use super::Version;
+    use super::{Version, VERSION};
+
+    #[test]
+    fn the_version_is_the_packages() {
+        assert_eq!(VERSION.to_string(), env!("CARGO_PKG_VERSION"));
+    }
 
     #[test]
     fn a_number_has_three_digits_each_for_minor_and_patch() {

@@ -251,9 +251,9 @@ fn cut(rings: &[u8]) -> Vec<u8> {
     listed(&[&[0, 0, 4, 0], rings].concat())
 }
 
-/// So many rings of one coordinate.
-fn rings_of_one(rings: usize) -> Vec<u8> {
-    [&count(rings)[..], &[&[1, 0][..], &[0; 18]].concat().repeat(rings)].concat()
+/// So many of the shortest rings, which have four coordinates.
+fn shortest_rings(rings: usize) -> Vec<u8> {
+    [&count(rings)[..], &[&[4, 0][..], &[0; 4 * 18]].concat().repeat(rings)].concat()
 }
 
 /// One ring of so many coordinates.
@@ -271,21 +271,22 @@ fn unchanged_parts(first: usize, parts: usize) -> Vec<u8> {
 fn every_error_of_an_answer() {
     for (error, answers) in [
         (AnswerError::Truncated, vec![vec![], vec![9, 9, 9, 9], listed(&[0]), listed(&[0, 0, 9]), cut(&[1])]),
-        (AnswerError::Truncated, vec![listed(&[0, 0, 5, 9, 9, 9, 9]), cut(&[1, 0, 1]), cut(&ring_of(2)[..39])]),
+        (AnswerError::Truncated, vec![listed(&[0, 0, 5, 9, 9, 9, 9]), cut(&[1, 0, 1]), cut(&ring_of(4)[..75])]),
         (AnswerError::Number, vec![vec![4, 0, 0, 0, 0], vec![11, 0, 0, 0, 0], vec![255, 9, 9, 9, 9]]),
         (AnswerError::GuardCount, vec![vec![0, 1, 1, 0, 0], vec![1, 0, 0, 0, 0], vec![1, 2, 0, 0, 0]]),
         (AnswerError::GuardCount, vec![vec![2, 1, 0, 9, 9], vec![2, 0, 1, 0, 0], vec![3, 1, 1, 0, 0]]),
+        (AnswerError::GuardCount, vec![unchanged_parts(0, 257), [&[3, 255, 0], &unchanged_parts(0, 2)[3..]].concat()]),
         (AnswerError::ListedCount, vec![vec![0, 0, 0, 1, 0], vec![1, 1, 0, 0, 1], vec![2, 0, 0, 1, 0]]),
         (AnswerError::ListedCount, vec![vec![3, 0, 0, 0, 0]]),
-        (AnswerError::PartNumber, vec![listed(&[0, 1]), unchanged_parts(0, 257), unchanged_parts(256, 1)]),
+        (AnswerError::PartNumber, vec![listed(&[0, 1]), unchanged_parts(256, 1)]),
         (AnswerError::PartNumber, vec![vec![3, 0, 0, 2, 0, 7, 0, 2, 0, 7, 0], vec![3, 0, 0, 2, 0, 7, 0, 2, 0, 6, 0]]),
         (AnswerError::PartAnswer, vec![listed(&[0, 0, 0, 0]), listed(&[0, 0, 3, 0]), listed(&[0, 0, 6, 0])]),
         (AnswerError::PartAnswer, vec![listed(&[0, 0, 2, 1]), listed(&[0, 0, 4, 1])]),
         (AnswerError::Reason, vec![listed(&[0, 0, 5, 0, 0, 0, 0, 0]), listed(&[0, 0, 5, 11, 0, 0, 0, 0])]),
         (AnswerError::Reason, vec![listed(&[0, 0, 5, 4, 0, 1, 0, 0]), listed(&[0, 0, 5, 8, 0, 1, 255, 0])]),
-        (AnswerError::RingCount, vec![cut(&[0, 0]), cut(&rings_of_one(65)), cut(&[0, 1])]),
-        (AnswerError::CoordinateCount, vec![cut(&[1, 0, 0, 0]), cut(&ring_of(4_097))]),
-        (AnswerError::Trailing, vec![vec![2, 0, 0, 0, 0, 0], [cut(&ring_of(1)), vec![0]].concat()]),
+        (AnswerError::RingCount, vec![cut(&[0, 0]), cut(&shortest_rings(65)), cut(&[0, 1])]),
+        (AnswerError::CoordinateCount, vec![cut(&ring_of(0)), cut(&ring_of(3)), cut(&ring_of(4_097))]),
+        (AnswerError::Trailing, vec![vec![2, 0, 0, 0, 0, 0], [cut(&ring_of(4)), vec![0]].concat()]),
     ] {
         for bytes in answers {
             assert_eq!(FrameAnswer::read(&bytes).unwrap_err(), error, "{bytes:?}");
@@ -299,8 +300,9 @@ fn an_answer_at_a_limit_is_read() {
         vec![0, 0, 1, 0, 0],
         unchanged_parts(0, 256),
         unchanged_parts(255, 1),
-        cut(&rings_of_one(64)),
-        cut(&ring_of(1)),
+        [&[3, 255, 0], &unchanged_parts(0, 1)[3..]].concat(),
+        cut(&shortest_rings(64)),
+        cut(&ring_of(4)),
         cut(&ring_of(4_096)),
     ] {
         assert_eq!(written(&FrameAnswer::read(&bytes).unwrap()), bytes);
@@ -348,10 +350,11 @@ fn what_is_over_255_is_read_from_both_bytes() {
     assert_eq!(FrameAnswer::read(&[0, 0, 1, 0, 0]).unwrap().guard_count(), 256);
 
     let coordinates = |origin: [u8; 2]| [&[0; 16][..], &origin].concat();
-    let rings = [[1, 0, 2, 0].to_vec(), coordinates([2, 1]), coordinates([0xfd, 0xff])].concat();
-    let bytes = cut(&rings);
+    let ring = [[2, 1], [0xfd, 0xff], [0, 1], [1, 0]].map(coordinates).concat();
+    let bytes = cut(&[&[1, 0, 4, 0], &ring[..]].concat());
     let FrameAnswer::Listed { mut parts, .. } = FrameAnswer::read(&bytes).unwrap() else { panic!("it is listed") };
     let PartAnswer::Cut(mut rings) = parts.next().unwrap().answer else { panic!("it is cut") };
     let origins: Vec<_> = rings.next().unwrap().iter().map(|vertex| vertex.origin).collect();
-    assert_eq!(origins, [Origin::Position(258), Origin::Line(Edge::Right)]);
+    let position = Origin::Position;
+    assert_eq!(origins, [position(258), Origin::Line(Edge::Right), position(256), position(1)]);
 }
