@@ -44,9 +44,10 @@ extern "C" {
 #define RINGCUT_VERSION_TEXT "1.0.0"
 
 /*
- * The version of the library that the program runs with, as RINGCUT_VERSION has the header's. A program compares the two before its first
- * call, and stops where they differ: then it was compiled with the header of another version, and a call might read its arguments from
- * the wrong places or answer in another format. A library that does not have this function is older than 1.0.0.
+ * The version of the library that the program runs with, as RINGCUT_VERSION has the header's. The two come together, so a program
+ * compares them before its first call, and stops where they differ: one of them is left over from another build. Where the major numbers
+ * differ, a call may read its arguments from the wrong places or answer in another format. A library that does not have this function
+ * is older than 1.0.0.
  */
 uint32_t ringcut_version(void);
 
