@@ -25,6 +25,7 @@ const CRATES: &str = "crates";
 const CALLS: &str = "crates/ringcut_calls/";
 const CALLS_CODE: &str = "crates/ringcut_calls/src/lib.rt";
 const CALLS_VERSION: &str = "crates/ringcut_calls/specs/Version.antt";
+const CALLS_EDIT: &str = "crates/ringcut_calls/must-fail/patch_one_too_high.edit";
 const PROGRAM: &str = "crates/ringcut/src/main.rt";
 const HEADER: &str = "include/ringcut.h";
 const RAW: &str = "rust/ringcut/src/raw.rs";
@@ -32,12 +33,17 @@ const REFUSALS: &str = "rust/ringcut/src/refusal.rs";
 const MANIFEST: &str = "rust/ringcut/Cargo.toml";
 const CRATE_VERSION: &str = "rust/ringcut/src/version.rs";
 const WORDS: &str = "scripts/words";
+const PYTHON: &str = "examples/python/ringcut.py";
+const README: &str = "README.md";
 const CHANGES: &str = "CHANGELOG.md";
+/// What is read beside the code of the Rattle crates.
+const OTHERS: [&str; 11] =
+    [HEADER, RAW, REFUSALS, MANIFEST, CRATE_VERSION, WORDS, PYTHON, README, CHANGES, CALLS_VERSION, CALLS_EDIT];
 
-/// The files that are compared: the code of every crate, and those that users read.
+/// The files that are compared: the code of every crate, and those beside it.
 pub fn read(root: &Path) -> io::Result<Files> {
     let mut files = Files::new();
-    for path in [HEADER, RAW, REFUSALS, MANIFEST, CRATE_VERSION, WORDS, CHANGES, CALLS_VERSION] {
+    for path in OTHERS {
         files.insert(path.to_string(), fs::read_to_string(root.join(path))?);
     }
     read_rattle(root, CRATES, &mut files)?;

@@ -6,6 +6,7 @@ use exports::{declaration_mistakes, mistakes, read, Files};
 
 const CALLS: &str = "crates/ringcut_calls/src/lib.rt";
 const CALLS_VERSION: &str = "crates/ringcut_calls/specs/Version.antt";
+const CALLS_EDIT: &str = "crates/ringcut_calls/must-fail/patch_one_too_high.edit";
 const PROBE: &str = "crates/probe/src/lib.rt";
 const PROGRAM: &str = "crates/ringcut/src/main.rt";
 const HEADER: &str = "include/ringcut.h";
@@ -14,6 +15,8 @@ const REFUSALS: &str = "rust/ringcut/src/refusal.rs";
 const MANIFEST: &str = "rust/ringcut/Cargo.toml";
 const CRATE_VERSION: &str = "rust/ringcut/src/version.rs";
 const WORDS: &str = "scripts/words";
+const PYTHON: &str = "examples/python/ringcut.py";
+const README: &str = "README.md";
 const CHANGES: &str = "CHANGELOG.md";
 
 fn repository() -> Files {
@@ -288,91 +291,107 @@ const OF_REFUSALS: [Mistake; 12] = [
     ),
 ];
 
-const OF_VERSIONS: [Mistake; 12] = [
-    (
-        HEADER,
-        "#define RINGCUT_VERSION_TEXT \"1.0.0\"",
-        "#define RINGCUT_VERSION_TEXT \"1.0\"",
-        "include/ringcut.h: behind `#define RINGCUT_VERSION_TEXT ` stands `\"1.0\"`, by include/ringcut.h it is `\"1.0.0\"`",
-    ),
-    (
-        MANIFEST,
-        "version = \"1.0.0\"",
-        "version = \"1.0.1\"",
-        "rust/ringcut/Cargo.toml: behind `version = ` stands `\"1.0.1\"`, by include/ringcut.h it is `\"1.0.0\"`",
-    ),
-    (
-        CRATE_VERSION,
-        "minor: 0, patch: 0 };",
-        "minor: 0, patch: 1 };",
-        "rust/ringcut/src/version.rs: behind `pub const VERSION: Version = ` stands `Version { major: 1, minor: 0, patch: 1 };`, \
-         by include/ringcut.h it is `Version { major: 1, minor: 0, patch: 0 };`",
-    ),
-    (
-        CALLS,
-        "const VERSION: u32 = 1000000;",
-        "const VERSION: u32 = 100000;",
-        "crates/ringcut_calls/src/lib.rt: behind `const VERSION: u32 = ` stands `100000;`, by include/ringcut.h it is `1000000;`",
-    ),
-    (
-        CALLS_VERSION,
-        "\nminor = 0",
-        "\nminor = 1",
-        "crates/ringcut_calls/specs/Version.antt: behind `minor = ` stands `1`, by include/ringcut.h it is `0`",
-    ),
-    (
-        PROGRAM,
-        "b\"ringcut 1.0.0\\n\"",
-        "b\"ringcut 1.1.0\\n\"",
-        "crates/ringcut/src/main.rt: behind `b\"ringcut ` stands `1.1.0\\n\";`, by include/ringcut.h it is `1.0.0\\n\";`",
-    ),
-    // None.
-    (
-        PROGRAM,
-        "b\"ringcut 1.0.0\\n\"",
-        "b\"1.0.0\\n\"",
-        "crates/ringcut/src/main.rt: behind `b\"ringcut ` stands `missing`, by include/ringcut.h it is `1.0.0\\n\";`",
-    ),
-    // A version of which only callers are told yet.
-    (
-        CHANGES,
-        "\n## 1.0.0",
-        "\n## 1.1.0\n\n## 1.0.0",
-        "CHANGELOG.md: behind `## ` stands `1.1.0`, by include/ringcut.h it is `1.0.0`",
-    ),
-    // The header's own numbers: every other place then differs, as far as it has that number.
-    (
-        HEADER,
-        "#define RINGCUT_VERSION_PATCH 0",
-        "#define RINGCUT_VERSION_PATCH 7",
-        "include/ringcut.h: behind `#define RINGCUT_VERSION_TEXT ` stands `\"1.0.0\"`, by include/ringcut.h it is `\"1.0.7\"`\n\
-         rust/ringcut/Cargo.toml: behind `version = ` stands `\"1.0.0\"`, by include/ringcut.h it is `\"1.0.7\"`\n\
-         rust/ringcut/src/version.rs: behind `pub const VERSION: Version = ` stands `Version { major: 1, minor: 0, patch: 0 };`, \
-         by include/ringcut.h it is `Version { major: 1, minor: 0, patch: 7 };`\n\
-         crates/ringcut_calls/src/lib.rt: behind `const VERSION: u32 = ` stands `1000000;`, by include/ringcut.h it is `1000007;`\n\
-         crates/ringcut_calls/specs/Version.antt: behind `patch = ` stands `0`, by include/ringcut.h it is `7`\n\
-         crates/ringcut/src/main.rt: behind `b\"ringcut ` stands `1.0.0\\n\";`, by include/ringcut.h it is `1.0.7\\n\";`\n\
-         CHANGELOG.md: behind `## ` stands `1.0.0`, by include/ringcut.h it is `1.0.7`",
-    ),
-    // One that is not there, one that is no number, and one that reaches into the place of the number before it.
-    (HEADER, "#define RINGCUT_VERSION_MINOR 0", "", NO_VERSION),
-    (HEADER, "#define RINGCUT_VERSION_MAJOR 1", "#define RINGCUT_VERSION_MAJOR one", NO_VERSION),
-    (HEADER, "#define RINGCUT_VERSION_PATCH 0", "#define RINGCUT_VERSION_PATCH 1000", NO_VERSION),
-];
-
 const NO_VERSION: &str =
     "include/ringcut.h: the three numbers of the version, minor and patch under 1000, are not read";
+
+/// The names of a version's three numbers in the header.
+const NUMBERS: [&str; 3] = ["MAJOR", "MINOR", "PATCH"];
+
+/// The header's line that has one of the three numbers.
+fn defined(name: &str, number: u32) -> String {
+    format!("\n#define RINGCUT_VERSION_{name} {number}\n")
+}
+
+/// The version that the header has: the tests hold for each.
+fn version(files: &Files) -> [u32; 3] {
+    NUMBERS.map(|name| (0..1000).find(|&number| files[HEADER].contains(&defined(name, number))).unwrap())
+}
+
+/// Each place that repeats a version: its file, the text before it, and what stands there.
+fn places([major, minor, patch]: [u32; 3]) -> [(&'static str, &'static str, String); 13] {
+    let text = format!("{major}.{minor}.{patch}");
+    let number = 1_000_000 * major + 1_000 * minor + patch;
+    let of_crate = format!("Version {{ major: {major}, minor: {minor}, patch: {patch} }};");
+    [
+        (HEADER, "#define RINGCUT_VERSION_TEXT ", format!("\"{text}\"")),
+        (MANIFEST, "version = ", format!("\"{text}\"")),
+        (CRATE_VERSION, "pub const VERSION: Version = ", of_crate),
+        (CALLS, "const VERSION: u32 = ", format!("{number};")),
+        (CALLS_EDIT, "old: const VERSION: u32 = ", format!("{number};")),
+        (CALLS_EDIT, "new: const VERSION: u32 = ", format!("{};", number + 1)),
+        (CALLS_VERSION, "major = ", format!("{major}")),
+        (CALLS_VERSION, "minor = ", format!("{minor}")),
+        (CALLS_VERSION, "patch = ", format!("{patch}")),
+        (PROGRAM, "b\"ringcut ", format!("{text}\\n\";")),
+        (README, "`ringcut --version` prints `ringcut ", text.clone()),
+        (PYTHON, "ringcut ", text.clone()),
+        (CHANGES, "## ", text),
+    ]
+}
+
+fn differs(path: &str, before: &str, found: &str, right: &str) -> String {
+    format!("{path}: behind `{before}` stands `{found}`, by include/ringcut.h it is `{right}`")
+}
+
+/// With a text of a file replaced, this is told.
+fn assert_told(files: &Files, path: &str, text: &str, wrong: &str, told: &str) {
+    let mut files = files.clone();
+    let changed = files[path].replacen(text, wrong, 1);
+    assert!(changed != files[path], "{path} does not have {text:?}");
+    files.insert(path.to_string(), changed);
+    assert_eq!(mistakes(&files).join("\n"), told, "with {wrong:?} in {path}");
+}
 
 #[test]
 fn each_mistake_is_told() {
     let files = repository();
-    for (path, text, wrong, told) in OF_DECLARATIONS.into_iter().chain(OF_REFUSALS).chain(OF_VERSIONS) {
-        let mut files = files.clone();
-        let changed = files[path].replacen(text, wrong, 1);
-        assert_ne!(changed, files[path], "{path} does not have {text:?}");
-        files.insert(path.to_string(), changed);
-        assert_eq!(mistakes(&files).join("\n"), told, "with {wrong:?} in {path}");
+    for (path, text, wrong, told) in OF_DECLARATIONS.into_iter().chain(OF_REFUSALS) {
+        assert_told(&files, path, text, wrong, told);
     }
+}
+
+#[test]
+fn each_place_of_another_version_is_told() {
+    let files = repository();
+    let version = version(&files);
+    for ((path, before, right), (.., wrong)) in places(version).into_iter().zip(places(version.map(|n| n + 1))) {
+        let [text, other] = [&right, &wrong].map(|written| format!("{before}{written}"));
+        assert_told(&files, path, &text, &other, &differs(path, before, &wrong, &right));
+        // None. The list of changes has older ones behind it.
+        if path != CHANGES {
+            assert_told(&files, path, &text, "", &differs(path, before, "missing", &right));
+        }
+    }
+    // A version of which only callers are told yet.
+    let [.., (path, before, right)] = places(version);
+    assert_told(&files, path, "\n## ", "\n## next\n\n## ", &differs(path, before, "next", &right));
+}
+
+/// Every other place then differs, as far as it has that number.
+#[test]
+fn another_number_in_the_header_is_told() {
+    let files = repository();
+    let version = version(&files);
+    for (at, name) in NUMBERS.into_iter().enumerate() {
+        let mut raised = version;
+        raised[at] = (raised[at] + 1) % 1000;
+        let pairs = places(version).into_iter().zip(places(raised));
+        let told = pairs
+            .filter(|(found, right)| found != right)
+            .map(|((path, before, found), (.., right))| differs(path, before, &found, &right));
+        let told = told.collect::<Vec<_>>().join("\n");
+        assert_told(&files, HEADER, &defined(name, version[at]), &defined(name, raised[at]), &told);
+    }
+}
+
+/// One that is not there, one that is no number, and one that reaches into the place of the number before it.
+#[test]
+fn a_header_without_a_version_is_told() {
+    let files = repository();
+    let [major, minor, patch] = version(&files);
+    assert_told(&files, HEADER, &defined("MINOR", minor), "\n", NO_VERSION);
+    assert_told(&files, HEADER, &defined("MAJOR", major), "\n#define RINGCUT_VERSION_MAJOR one\n", NO_VERSION);
+    assert_told(&files, HEADER, &defined("PATCH", patch), &defined("PATCH", 1000), NO_VERSION);
 }
 
 /// Forms that the exports may have and that today's have not: arrays, single numbers that are lent, no result. The brackets, signs of
