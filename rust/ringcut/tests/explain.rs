@@ -2,11 +2,13 @@
 //! WKT reads back; that it says what scripts/words says; and what it does with input and arguments that it is not made for.
 
 mod examples;
+mod hexadecimal;
 
 use std::fs;
 use std::process::{Command, Stdio};
 
 use examples::{digits, example, run, Ran, ROOT};
+use hexadecimal::{bytes_of, lines_of};
 use ringcut::{AnswerError, Bounds, Flags, Frame, FrameBuilder, Kind, Refusal, LONGEST_FRAME};
 
 const BOUNDS: Bounds = Bounds { west: 0.0, south: 0.0, east: 10.0, north: 10.0 };
@@ -15,17 +17,15 @@ fn explain(what: &str, input: &[u8]) -> Ran {
     run(example("explain"), &[what], input)
 }
 
-fn lines_of(name: &str) -> Vec<String> {
-    let text = fs::read_to_string(format!("{ROOT}/examples/{name}")).unwrap();
-    text.lines().map(String::from).collect()
-}
-
 /// The blocks that lines are explained by, each without its headline's number.
 fn blocks(what: &str, lines: &[String]) -> Vec<String> {
     let Ran { status, output, said } = explain(what, (lines.join("\n") + "\n").as_bytes());
     assert_eq!((status, said.as_str()), (0, ""));
-    let blocks = output.strip_suffix('\n').unwrap().split("\n\n").enumerate();
-    blocks.map(|(n, block)| block.strip_prefix(&format!("line {}: ", n + 1)).unwrap().to_string()).collect()
+    let blocks: Vec<&str> = output.strip_suffix('\n').unwrap().split("\n\n").collect();
+    assert_eq!(blocks.len(), lines.len());
+    let without_number =
+        |(n, block): (usize, &&str)| block.strip_prefix(&format!("line {}: ", n + 1)).map(String::from);
+    blocks.iter().enumerate().map(without_number).collect::<Option<_>>().unwrap()
 }
 
 /// The block of a line of the repository's examples, from 1.
@@ -135,8 +135,7 @@ fn the_examples_wkt_has_their_coordinates() {
     let mut compared = 0;
     for (line, block) in frames.iter().zip(blocks("frames", &frames)) {
         let Some(wkt) = wkt_of(&block).next() else { continue };
-        let bytes: Vec<u8> =
-            (0..line.len()).step_by(2).map(|at| u8::from_str_radix(&line[at..at + 2], 16).unwrap()).collect();
+        let bytes = bytes_of(line).unwrap();
         let rings = Frame::read(&bytes).unwrap().parts().flatten().map(|ring| {
             let ring: Vec<[f64; 2]> = ring.iter().collect();
             if ring.first() == ring.last() {
@@ -200,7 +199,10 @@ fn beginning_of(piece: &str) -> String {
 /// Cuts with their origins, sentences of reasons with how corners and edges are numbered, and those of refusals: the examples have all.
 #[test]
 fn the_words_are_those_of_the_script() {
-    for (block, (words, meaning)) in blocks("answers", &lines_of("answers.hex")).into_iter().zip(in_words()) {
+    let (blocks, in_words) = (blocks("answers", &lines_of("answers.hex")), in_words());
+    assert_eq!(blocks.len(), in_words.len());
+    for (block, (words, meaning)) in blocks.into_iter().zip(in_words) {
+        assert!(!words.is_empty(), "the script says nothing of {block}");
         for beginning in words.split("; ").map(beginning_of) {
             assert!(
                 block.lines().any(|line| line.trim_start().starts_with(&beginning)),

@@ -1,8 +1,9 @@
 //! Frames that are built and read, and answers that are read: every limit of a frame from both sides, every error of an answer in few
 //! bytes, and the repository's examples.
 
-use std::fs;
+mod hexadecimal;
 
+use hexadecimal::{bytes_of, lines_of};
 use ringcut::{
     answer_frame, AnswerError, Bounds, Edge, Flags, Frame, FrameAnswer, FrameBuilder, Issue, Kind, ListedPart, Origin,
     PartAnswer, Reason, Refusal, Vertex, LONGEST_FRAME, MOST_FRAME_OUTPUT,
@@ -163,13 +164,6 @@ fn a_frame_is_read_as_it_was_built() {
     assert_eq!(built_again(&frame).unwrap(), bytes);
 }
 
-fn example(name: &str) -> Vec<Option<Vec<u8>>> {
-    let file = format!("{}/../../examples/{name}", env!("CARGO_MANIFEST_DIR"));
-    let byte = |pair: &[u8]| u8::from_str_radix(std::str::from_utf8(pair).ok()?, 16).ok();
-    let text = fs::read_to_string(file).unwrap();
-    text.lines().map(|line| line.as_bytes().chunks(2).map(byte).collect()).collect()
-}
-
 /// An answer as bytes.
 fn written(answer: &FrameAnswer) -> Vec<u8> {
     let (number, parts) = match answer {
@@ -215,11 +209,11 @@ fn write_part(ListedPart { number, answer }: ListedPart, bytes: &mut Vec<u8>) {
 /// Each frame is read and built again, and each answer is read and written again, to the same bytes.
 #[test]
 fn the_examples_of_the_repository() {
-    let (frames, answers) = (example("frames.hex"), example("answers.hex"));
+    let [frames, answers] = ["frames.hex", "answers.hex"].map(lines_of);
     let (mut read, mut refused) = (0, 0);
     for (line, (frame, printed)) in (1..).zip(frames.iter().zip(&answers)) {
-        let printed = printed.as_ref().unwrap();
-        let right = match FrameAnswer::read_printed(printed).unwrap() {
+        let (frame, printed) = (bytes_of(frame), bytes_of(printed).unwrap());
+        let right = match FrameAnswer::read_printed(&printed).unwrap() {
             Ok(answer) => answer,
             Err(refusal) => {
                 let is_frame = frame.as_ref().map_or(Err(Refusal::Digits), |bytes| Frame::read(bytes).map(|_| ()));
@@ -232,10 +226,10 @@ fn the_examples_of_the_repository() {
                 continue;
             }
         };
-        let bytes = frame.as_ref().unwrap();
-        assert_eq!(built_again(&Frame::read(bytes).unwrap()).as_ref(), Ok(bytes), "line {line}");
-        assert_eq!(written(&right), *printed, "line {line}");
-        assert_eq!(written(&answer_frame(bytes, &mut [0; MOST_FRAME_OUTPUT]).unwrap()), *printed, "line {line}");
+        let bytes = frame.unwrap();
+        assert_eq!(built_again(&Frame::read(&bytes).unwrap()).as_ref(), Ok(&bytes), "line {line}");
+        assert_eq!(written(&right), printed, "line {line}");
+        assert_eq!(written(&answer_frame(&bytes, &mut [0; MOST_FRAME_OUTPUT]).unwrap()), printed, "line {line}");
         read += 1;
     }
     assert_eq!((read, refused, frames.len(), answers.len()), (38, 9, 47, 47));

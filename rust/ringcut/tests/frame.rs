@@ -1,8 +1,9 @@
 //! The frame call: document 01's worked cases, a cut's origins, an overlay's reasons with their positions, the repository's examples,
 //! every refusal, outputs exact, one short and larger.
 
-use std::fs;
+mod hexadecimal;
 
+use hexadecimal::{bytes_of, lines_of};
 use ringcut::{cut_frame, Refusal, MOST_FRAME_OUTPUT};
 
 /// What an output byte that no call has written holds here.
@@ -86,11 +87,6 @@ fn refusal(frame: &[u8]) -> Option<Refusal> {
     answer(frame, MOST_FRAME_OUTPUT).err()
 }
 
-fn from_hex(line: &str) -> Option<Vec<u8>> {
-    let digits = line.as_bytes().chunks(2).map(|pair| std::str::from_utf8(pair).unwrap());
-    digits.map(|pair| u8::from_str_radix(pair, 16).ok()).collect()
-}
-
 #[test]
 fn worked_frames() {
     for flags in 0..4 {
@@ -163,12 +159,11 @@ fn other_listed_parts_have_no_positions() {
 /// The lines that the program `ringcut` answers; 10, for a line that is no frame, is the program's alone.
 #[test]
 fn the_examples_of_the_repository() {
-    let read =
-        |name: &str| fs::read_to_string(format!("{}/../../examples/{name}", env!("CARGO_MANIFEST_DIR"))).unwrap();
-    let (frames, answers) = (read("frames.hex"), read("answers.hex"));
+    let [frames, answers] = ["frames.hex", "answers.hex"].map(lines_of);
+    assert_eq!(frames.len(), answers.len());
     let mut compared = 0;
-    for (line, expected) in frames.lines().zip(answers.lines()) {
-        let Some(frame) = from_hex(line) else {
+    for (line, expected) in frames.iter().zip(&answers) {
+        let Some(frame) = bytes_of(line) else {
             assert_eq!(expected, "0a00000000");
             continue;
         };
@@ -176,11 +171,10 @@ fn the_examples_of_the_repository() {
             Ok(bytes) => bytes,
             Err(refusal) => vec![refusal.number(), 0, 0, 0, 0],
         };
-        assert_eq!(Some(printed), from_hex(expected), "{line}");
+        assert_eq!(Some(printed), bytes_of(expected), "{line}");
         compared += 1;
     }
     assert_eq!(compared, 46);
-    assert_eq!(frames.lines().count(), answers.lines().count());
 }
 
 #[test]

@@ -1,8 +1,9 @@
 //! The mending call: worked rings, every refusal in its order, outputs exact, one short and larger, with what a call leaves in them; what
 //! holds of mended rings of many shapes; and that the slice call finds no repeated corner in them.
 
-use std::fs;
+mod hexadecimal;
 
+use hexadecimal::{bytes_of, lines_of};
 use ringcut::{cut_polygon, mend, raw, room_for_ring, Answer, Bounds, Flags, Issue, PolygonBuffers, Reason, Refusal};
 
 const BOUNDS: Bounds = Bounds { west: 0., south: 0., east: 10., north: 10. };
@@ -292,10 +293,7 @@ fn no_exterior_wants_an_overlay_for_a_repeated_corner_once_it_is_mended() {
 
 /// The exterior of a frame that has one ring, and the bytes before its count of coordinates.
 fn exterior(line: usize) -> (Vec<u8>, Vec<f64>) {
-    let frames = fs::read_to_string(concat!(env!("CARGO_MANIFEST_DIR"), "/../../examples/frames.hex")).unwrap();
-    let digits = frames.lines().nth(line - 1).unwrap().as_bytes().chunks(2);
-    let mut bytes: Vec<u8> =
-        digits.map(|pair| u8::from_str_radix(std::str::from_utf8(pair).unwrap(), 16).unwrap()).collect();
+    let mut bytes = bytes_of(&lines_of("frames.hex")[line - 1]).unwrap();
     let ring: Vec<f64> = bytes[48..].chunks(8).map(|number| f64::from_le_bytes(number.try_into().unwrap())).collect();
     assert_eq!(bytes[46..48], (ring.len() as u16 / 2).to_le_bytes());
     bytes.truncate(46);

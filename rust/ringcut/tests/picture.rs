@@ -2,12 +2,14 @@
 //! of the repository's examples; that every frame, however odd, gets an SVG that is one; and what it does with wrong use.
 
 mod examples;
+mod hexadecimal;
 
 use std::collections::BTreeSet;
 use std::fs;
 use std::path::{Path, PathBuf};
 
 use examples::{digits, example, run, Ran, ROOT};
+use hexadecimal::{bytes_of, lines_of};
 use ringcut::{
     is_along_tile, Bounds, Flags, Frame, FrameAnswer, FrameBuilder, Kind, PartAnswer, Refusal, Vertex, LONGEST_FRAME,
 };
@@ -63,13 +65,9 @@ fn the_repositorys_pictures_are_those_that_are_drawn() {
     }
 }
 
-fn bytes_of(line: &str) -> Vec<u8> {
-    (0..line.len()).step_by(2).map(|at| u8::from_str_radix(&line[at..at + 2], 16).unwrap()).collect()
-}
-
 /// The rings of the only cut that a line of the examples, from 1, is answered with; of each the numbers of its edges that are borders.
 fn borders(line: usize) -> Vec<Vec<usize>> {
-    let [frame, answer] = ["frames.hex", "answers.hex"].map(|name| bytes_of(read(name).lines().nth(line - 1).unwrap()));
+    let [frame, answer] = ["frames.hex", "answers.hex"].map(|name| bytes_of(&lines_of(name)[line - 1]).unwrap());
     let frame = Frame::read(&frame).unwrap();
     let bounds = frame.bounds.widened(frame.buffer);
     let Ok(FrameAnswer::Listed { mut parts, .. }) = FrameAnswer::read(&answer) else { panic!("no part is listed") };
@@ -380,9 +378,11 @@ fn many_parts_are_said_and_labelled_as_far_as_there_is_room() {
 #[test]
 fn every_example_has_a_sound_picture_or_is_refused() {
     let frames = read("frames.hex");
-    for (line, answer) in (1..).zip(read("answers.hex").lines()) {
+    let answers = lines_of("answers.hex");
+    assert_eq!(answers.len(), frames.lines().count());
+    for (line, answer) in (1..).zip(&answers) {
         let Ran { status, output, said } = draw(line, &frames);
-        match FrameAnswer::read_printed(&bytes_of(answer)).unwrap() {
+        match FrameAnswer::read_printed(&bytes_of(answer).unwrap()).unwrap() {
             Ok(_) => {
                 assert_eq!((status, said.as_str()), (0, ""));
                 assert_sound(&output);
