@@ -255,7 +255,7 @@ fn every_reason_and_every_refusal_is_said() {
 
 #[test]
 fn what_is_no_answer_is_said_to_be_none() {
-    let digits = "the line is not pairs of hexadecimal digits".to_string();
+    let digits = Refusal::Digits.to_string();
     let cases = [
         ("", AnswerError::Truncated.to_string()),
         ("0", digits.clone()),
@@ -280,6 +280,32 @@ fn what_is_no_frame_is_said_to_be_refused() {
     let digits = format!("a frame that is refused\n  {}\n", Refusal::Digits);
     let size = format!("a frame that is refused\n  {}\n", Refusal::Size);
     assert_eq!(output, format!("line 1: {digits}\nline 2: {size}\nline 3: {digits}"));
+}
+
+/// What each line of the examples is said to be instead, where it is given as the other kind.
+fn taken_for(what: &str, name: &str) -> Vec<Option<String>> {
+    let lines = lines_of(name);
+    let Ran { output, said, .. } = explain(what, (lines.join("\n") + "\n").as_bytes());
+    let instead = |block: &str| block.lines().nth(2).map(String::from);
+    let blocks: Vec<_> = output.split("\n\n").map(instead).collect();
+    assert_eq!((blocks.len(), said.as_str()), (lines.len(), ""));
+    blocks
+}
+
+#[test]
+fn a_frame_among_answers_is_said_to_be_one() {
+    for (line, instead) in lines_of("frames.hex").iter().zip(taken_for("answers", "frames.hex")) {
+        let is_frame = bytes_of(line).is_some_and(|bytes| Frame::read(&bytes).is_ok());
+        let said = is_frame.then_some("  it is a frame: `explain frames` says it");
+        assert_eq!(instead.as_deref(), said, "{line}");
+    }
+}
+
+#[test]
+fn an_answer_among_frames_is_said_to_be_one() {
+    for (line, instead) in lines_of("answers.hex").iter().zip(taken_for("frames", "answers.hex")) {
+        assert_eq!(instead.as_deref(), Some("  it is an answer: `explain answers` says it"), "{line}");
+    }
 }
 
 #[test]

@@ -1,6 +1,6 @@
 //! Answers in words, and what is cut as WKT.
 
-use ringcut::{FrameAnswer, Issue, ListedPart, ListedParts, PartAnswer, Reason, Refusal, Ring, Vertex};
+use ringcut::{Frame, FrameAnswer, Issue, ListedPart, ListedParts, PartAnswer, Reason, Refusal, Ring, Vertex};
 
 use crate::shared::{lines, number};
 use crate::{wkt, Explained};
@@ -10,6 +10,8 @@ const DROPPED: &str = "it was dropped as a whole: a coordinate is not finite, \
                        or it is a polygon that wants an overlay and has a coordinate of magnitude 1e150 or more";
 const UNCHANGED: &str = "it lies inside the tile, widened by its buffer, as a whole: it is to be drawn as it was sent";
 
+const IS_FRAME: &str = "it is a frame: `explain frames` says it";
+
 /// What the words behind the coordinates of a cut mean.
 const ORIGINS: [&str; 2] = [
     "a corner with a number is one of the ring that was sent, counted from 0; one with a bound was made there by the cut",
@@ -17,16 +19,19 @@ const ORIGINS: [&str; 2] = [
 ];
 
 pub fn explain(line: &[u8]) -> Explained {
-    let Some(bytes) = lines::bytes_of(line) else { return no_answer("the line is not pairs of hexadecimal digits") };
+    let Some(bytes) = lines::bytes_of(line) else { return no_answer(&Refusal::Digits.to_string(), None) };
     match FrameAnswer::read_printed(&bytes) {
         Ok(Ok(answer)) => words(&answer),
         Ok(Err(refusal)) => refused(refusal),
-        Err(error) => no_answer(&error.to_string()),
+        Err(error) => no_answer(&error.to_string(), Frame::read(&bytes).is_ok().then_some(IS_FRAME)),
     }
 }
 
-fn no_answer(why: &str) -> Explained {
-    Explained { headline: "not an answer".to_string(), lines: vec![format!("  {why}")], is_readable: false }
+/// Why it is no answer, and what it is instead, if that is known.
+fn no_answer(why: &str, instead: Option<&str>) -> Explained {
+    let mut lines = vec![format!("  {why}")];
+    lines.extend(instead.map(|words| format!("  {words}")));
+    Explained { headline: "not an answer".to_string(), lines, is_readable: false }
 }
 
 fn refused(refusal: Refusal) -> Explained {

@@ -1,24 +1,25 @@
 //! Frames in words and as WKT.
 
-use ringcut::{Bounds, Frame, Kind, Refusal, Ring};
+use ringcut::{Bounds, Frame, FrameAnswer, Kind, Refusal, Ring};
 
 use crate::shared::{lines, number, words};
 use crate::{wkt, Explained};
 
+const IS_ANSWER: &str = "it is an answer: `explain answers` says it";
+
 pub fn explain(line: &[u8]) -> Explained {
-    let Some(bytes) = lines::bytes_of(line) else { return refused(Refusal::Digits) };
+    let Some(bytes) = lines::bytes_of(line) else { return refused(Refusal::Digits, None) };
     match Frame::read(&bytes) {
         Ok(frame) => Explained { headline: headline(&frame), lines: frame_words(&frame), is_readable: true },
-        Err(refusal) => refused(refusal),
+        Err(refusal) => refused(refusal, FrameAnswer::read_printed(&bytes).is_ok().then_some(IS_ANSWER)),
     }
 }
 
-fn refused(refusal: Refusal) -> Explained {
-    Explained {
-        headline: "a frame that is refused".to_string(),
-        lines: vec![format!("  {refusal}")],
-        is_readable: true,
-    }
+/// Why it is refused, and what it is instead, if that is known.
+fn refused(refusal: Refusal, instead: Option<&str>) -> Explained {
+    let mut lines = vec![format!("  {refusal}")];
+    lines.extend(instead.map(|words| format!("  {words}")));
+    Explained { headline: "a frame that is refused".to_string(), lines, is_readable: true }
 }
 
 fn headline(frame: &Frame) -> String {

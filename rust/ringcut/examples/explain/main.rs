@@ -31,6 +31,7 @@
 //! ```
 //!
 //! So `grep -E '^(MULTI)?POLYGON'` leaves the WKT alone. A number has the fewest digits that read back as the same double.
+//! Of an answer among frames, and of a frame among answers, the words say that it is one.
 //!
 //! A carriage return at a line's end is passed over; the program `ringcut` refuses such a line with 10. The exit status is 1 where a
 //! line is not an answer, 2 where the arguments are others or standard input or output fails, else 0. A frame that is refused is no
