@@ -4,12 +4,12 @@
  * number in the ring that was lent, or the line that made it. Between two corners stands -- where a border is to be drawn, and .. where
  * the cut runs along the tile's edge. In the repository's root, with the library built by `rt staticlib ringcut_calls`:
  *
- *   cc -std=c11 -Wall -Wextra -I include examples/c/ringcut.c target/staticlib/libringcut_calls.a -o target/ringcut-in-c
- *   target/ringcut-in-c
+ *   cc -std=c11 -Wall -Wextra -I include examples/c/ringcut.c target/staticlib/libringcut_calls.a -o ringcut-in-c
+ *   ./ringcut-in-c
  *
  * or, where scripts/install has put the library, with the installed one:
  *
- *   cc -std=c11 -Wall -Wextra examples/c/ringcut.c $(pkg-config --cflags --libs ringcut) -o target/ringcut-in-c
+ *   cc -std=c11 -Wall -Wextra examples/c/ringcut.c $(pkg-config --cflags --libs ringcut) -o ringcut-in-c
  *
  * It prints the exterior and the hole of a rectangle across the east bound, then a corner that was sent twice and the area's cut once
  * it is mended, then two edges that cross:
