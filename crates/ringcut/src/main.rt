@@ -2,8 +2,8 @@
 // which bytes are to be printed; and here, that the line which `feed_all` answers for a block goes on from the one that it was given. No
 // contract speaks of what is read or written, so not proved: that all of the input is read, in order, that the next block is fed with that
 // line and with `kept` as it was left, that the bytes made are those written, once and in order, and that the last line is finished; nor
-// that the first read or write that fails ends the work and is told on standard error (rust/program tests it). A line that a failed read
-// cut off gets no answer: it is not the line that was sent.
+// that the first read or write that fails ends the work and is told on standard error, nor what is done with arguments (rust/program tests
+// both). A line that a failed read cut off gets no answer: it is not the line that was sent.
 mod arguments;
 mod streams;
 
