@@ -126,7 +126,7 @@ impl Answer {
         }
         let mut parts = Vec::new();
         for _ in 0..listed {
-            parts.push(ListedPart::decode(parts.last(), &mut cursor)?);
+            parts.push(ListedPart::read(parts.last(), &mut cursor)?);
         }
         match (number, cursor.rest) {
             (_, [_, ..]) => Err(Fault::Trailing),
@@ -180,7 +180,7 @@ impl ListedPart {
     }
 
     /// The part that stands behind `before`, or first.
-    fn decode(before: Option<&ListedPart>, cursor: &mut Cursor) -> Result<ListedPart, Fault> {
+    fn read(before: Option<&ListedPart>, cursor: &mut Cursor) -> Result<ListedPart, Fault> {
         let index = cursor.count().map_err(Fault::of_rings)?;
         if index >= MOST_PARTS || before.is_some_and(|before| index <= usize::from(before.index)) {
             return Err(Fault::PartNumber);

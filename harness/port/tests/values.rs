@@ -169,7 +169,7 @@ const MISTAKEN_BUILDERS: [(&str, BuildFrame); 19] = [
     }),
     ("a polygon without its part taken", |building| {
         let built = (RIGHT.build_frame)(building);
-        Built { frame: built.frame.or(Ok(Vec::new())), ..built }
+        Built { frame: if built.frame == Err(14) { Ok(Vec::new()) } else { built.frame }, ..built }
     }),
     ("a refused part counted", |building| changed_if_refused(building, |frame| frame[42] ^= 1)),
     ("a refused part left in the frame", |building| changed_if_refused(building, |frame| frame.extend([1, 0]))),
@@ -355,7 +355,7 @@ fn mistaken_calls_that_read_the_answer_are_found() {
     assert_found("the room's last byte not asked for", answers::compare, with_more_room);
 }
 
-/// Yields one less, or one more, than it says.
+/// Yields as many as are left, whatever it says.
 struct Miscounted {
     said: usize,
     left: usize,

@@ -1,10 +1,10 @@
 //! Runs the crate's examples. `cargo test` builds them before the tests; `cargo test --test NAME` alone does not.
 
-use std::env;
 use std::io::Write;
 use std::path::{Path, PathBuf};
 use std::process::{Command, Stdio};
-use std::thread;
+use std::time::SystemTime;
+use std::{env, fs, thread};
 
 /// The repository's root.
 pub const ROOT: &str = concat!(env!("CARGO_MANIFEST_DIR"), "/../..");
@@ -16,12 +16,29 @@ pub struct Ran {
     pub said: String,
 }
 
-/// A built example of the crate: it stands beside the folder of this test.
+/// A built example of the crate: it stands beside the folder of this test. One that is older than its sources would be another program.
 pub fn example(name: &str) -> PathBuf {
     let test = env::current_exe().unwrap();
     let example = test.ancestors().nth(2).unwrap().join("examples").join(name);
     assert!(example.is_file(), "{} is missing: cargo build --examples", example.display());
+    let sources = ["src", "examples/shared", &format!("examples/{name}")].map(newest);
+    let is_current = sources.iter().all(|&source| source <= modified(&example));
+    assert!(
+        is_current,
+        "{} is older than its sources: cargo build --examples, with --release if so",
+        example.display()
+    );
     example
+}
+
+fn modified(file: &Path) -> SystemTime {
+    fs::metadata(file).unwrap().modified().unwrap()
+}
+
+/// When the newest file of a folder of the crate was changed.
+fn newest(folder: &str) -> SystemTime {
+    let files = fs::read_dir(Path::new(env!("CARGO_MANIFEST_DIR")).join(folder)).unwrap();
+    files.map(|file| modified(&file.unwrap().path())).max().unwrap()
 }
 
 /// Runs a program with these arguments and this standard input.
