@@ -7,6 +7,7 @@
 
 mod declared;
 mod exported;
+pub mod paths;
 mod refusals;
 mod versions;
 mod words;
@@ -17,25 +18,16 @@ use std::{fs, io};
 
 use declared::Declaration;
 use exported::Export;
+use paths::{
+    CALLS_EDIT, CALLS_VERSION, CHANGES, CRATE_VERSION, HEADER, MANIFEST, PYTHON, RAW, README, REFUSALS, WORDS,
+};
 
 /// Files by their paths from the repository's root.
 pub type Files = BTreeMap<String, String>;
 
 const CRATES: &str = "crates";
 const CALLS: &str = "crates/ringcut_calls/";
-const CALLS_CODE: &str = "crates/ringcut_calls/src/lib.rt";
-const CALLS_VERSION: &str = "crates/ringcut_calls/specs/Version.antt";
-const CALLS_EDIT: &str = "crates/ringcut_calls/must-fail/patch_one_too_high.edit";
-const PROGRAM: &str = "crates/ringcut/src/main.rt";
-const HEADER: &str = "include/ringcut.h";
-const RAW: &str = "rust/ringcut/src/raw.rs";
-const REFUSALS: &str = "rust/ringcut/src/refusal.rs";
-const MANIFEST: &str = "rust/ringcut/Cargo.toml";
-const CRATE_VERSION: &str = "rust/ringcut/src/version.rs";
-const WORDS: &str = "scripts/words";
-const PYTHON: &str = "examples/python/ringcut.py";
-const README: &str = "README.md";
-const CHANGES: &str = "CHANGELOG.md";
+
 /// What is read beside the code of the Rattle crates.
 const OTHERS: [&str; 11] =
     [HEADER, RAW, REFUSALS, MANIFEST, CRATE_VERSION, WORDS, PYTHON, README, CHANGES, CALLS_VERSION, CALLS_EDIT];

@@ -3,8 +3,9 @@
 use std::collections::{BTreeMap, BTreeSet};
 use std::ops::RangeInclusive;
 
+use crate::paths::{HEADER, REFUSALS, WORDS};
 use crate::words::{closing, split, starts_with, words};
-use crate::{Files, HEADER, REFUSALS, WORDS};
+use crate::Files;
 
 /// The refusal that no call gives, so that the header doesn't have it: only the program reads digits.
 const OF_THE_PROGRAM: &str = "Digits";

@@ -1,8 +1,8 @@
 //! The version, which the C header gives by three numbers, and the places that repeat it.
 
-use crate::{
-    Files, CALLS_CODE, CALLS_EDIT, CALLS_VERSION, CHANGES, CRATE_VERSION, HEADER, MANIFEST, PROGRAM, PYTHON, README,
-};
+use crate::paths::{CALLS_CODE, CALLS_EDIT, CALLS_VERSION, CHANGES, CRATE_VERSION, HEADER};
+use crate::paths::{MANIFEST, PROGRAM, PYTHON, README};
+use crate::Files;
 
 struct Version {
     major: u32,

@@ -2,22 +2,10 @@
 
 use std::path::Path;
 
+use exports::paths::*;
 use exports::{declaration_mistakes, mistakes, read, Files};
 
-const CALLS: &str = "crates/ringcut_calls/src/lib.rt";
-const CALLS_VERSION: &str = "crates/ringcut_calls/specs/Version.antt";
-const CALLS_EDIT: &str = "crates/ringcut_calls/must-fail/patch_one_too_high.edit";
 const PROBE: &str = "crates/probe/src/lib.rt";
-const PROGRAM: &str = "crates/ringcut/src/main.rt";
-const HEADER: &str = "include/ringcut.h";
-const RAW: &str = "rust/ringcut/src/raw.rs";
-const REFUSALS: &str = "rust/ringcut/src/refusal.rs";
-const MANIFEST: &str = "rust/ringcut/Cargo.toml";
-const CRATE_VERSION: &str = "rust/ringcut/src/version.rs";
-const WORDS: &str = "scripts/words";
-const PYTHON: &str = "examples/python/ringcut.py";
-const README: &str = "README.md";
-const CHANGES: &str = "CHANGELOG.md";
 
 fn repository() -> Files {
     read(Path::new(concat!(env!("CARGO_MANIFEST_DIR"), "/../.."))).unwrap()
@@ -35,7 +23,7 @@ type Mistake = (&'static str, &'static str, &'static str, &'static str);
 const OF_DECLARATIONS: [Mistake; 25] = [
     // A flag as a u32: in the export, where both declarations differ from it, and in each declaration.
     (
-        CALLS,
+        CALLS_CODE,
         "assume_simple: u8,",
         "assume_simple: u32,",
         "include/ringcut.h: ringcut_polygon: parameter 1 is `uint8_t assume_simple`, by the export it is `uint32_t assume_simple`\n\
@@ -55,7 +43,7 @@ const OF_DECLARATIONS: [Mistake; 25] = [
     ),
     // A `requires`, also in a crate for tests, where the harness calls by the export.
     (
-        CALLS,
+        CALLS_CODE,
         "fn ringcut_frame(frame: &[u8], out: &mut [u8]) -> i64",
         "fn ringcut_frame(frame: &[u8], out: &mut [u8]) -> i64\n    requires { ⌜ 0 < length (now (out .entry)) ⌝ }",
         "crates/ringcut_calls/src/lib.rt: ringcut_frame: it has a `requires`, and nothing proves that a caller meets it",
@@ -149,7 +137,7 @@ const OF_DECLARATIONS: [Mistake; 25] = [
     ),
     // An export that is not declared, and a declaration that is not exported.
     (
-        CALLS,
+        CALLS_CODE,
         "pub extern \"C\" fn ringcut_frame",
         "pub extern \"C\" fn ringcut_bytes",
         "include/ringcut.h: ringcut_frame: it is declared here, and crates/ringcut_calls/ does not export it\n\
@@ -316,7 +304,7 @@ fn places([major, minor, patch]: [u32; 3]) -> [(&'static str, &'static str, Stri
         (HEADER, "#define RINGCUT_VERSION_TEXT ", format!("\"{text}\"")),
         (MANIFEST, "version = ", format!("\"{text}\"")),
         (CRATE_VERSION, "pub const VERSION: Version = ", of_crate),
-        (CALLS, "const VERSION: u32 = ", format!("{number};")),
+        (CALLS_CODE, "const VERSION: u32 = ", format!("{number};")),
         (CALLS_EDIT, "old: const VERSION: u32 = ", format!("{number};")),
         (CALLS_EDIT, "new: const VERSION: u32 = ", format!("{};", number + 1)),
         (CALLS_VERSION, "major = ", format!("{major}")),
@@ -434,7 +422,7 @@ fn other_forms_are_read() {
         );
         fn version() -> u16;
     }"#;
-    let files = [(CALLS, rattle), (HEADER, header), (RAW, raw)];
+    let files = [(CALLS_CODE, rattle), (HEADER, header), (RAW, raw)];
     let files = files.map(|(path, text)| (path.to_string(), text.to_string()));
     assert_eq!(declaration_mistakes(&Files::from(files)), [""; 0]);
 }
