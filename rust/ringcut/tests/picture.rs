@@ -344,11 +344,13 @@ fn areas_of_every_kind_are_drawn_or_said_to_be_left_out() {
         &[1e140, -1e140, 1e140, 1e140, -1e140, 1e140, -1e149, -1e149],
         "the area goes on beyond the picture on all sides",
     );
-    said(&[1000., 1000., 1020., 1000., 1020., 1020.], "the area goes on beyond the picture to the east and north");
+    said(&[1000., 1000., 1020., 1000., 1020., 1020.], "the area lies beyond the picture, to the north and east");
+    said(&[-90., -90., 90., -90., 90., -80.], "the area lies beyond the picture, to the south");
+    said(&[-30., 2., 5., 2., 5., 8.], "the area goes on beyond the picture to the west");
     said(&[2., 2., 2.0001, 2., 2.0001, 2.0001], "a very small area");
     said(&[], "nothing of it is left in the tile");
     // Only its first edge can be placed, and is far longer than the picture.
-    said(&[5., 1e149, 5., -2e149, NAN, 0.], "the area goes on beyond the picture to the south and north");
+    said(&[5., 1e149, 5., -2e149, NAN, 0.], "the area goes on beyond the picture to the north and south");
     said(&[7., 7.], "the exterior has fewer than 4 corners");
     let huge = [-1.7e308, -1.7e308, 1.7e308, 1.7e308];
     assert_says(

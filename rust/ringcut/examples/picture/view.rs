@@ -123,16 +123,28 @@ impl View {
         (west <= east && south <= north).then_some(Bounds { west, south, east, north })
     }
 
+    /// The sides of the picture on which all of the bounds lie beyond it.
+    pub fn sides_beyond(&self, bounds: Bounds) -> Vec<&'static str> {
+        let window = self.window;
+        let is_beyond = [
+            ("north", bounds.south > window.north),
+            ("south", bounds.north < window.south),
+            ("east", bounds.west > window.east),
+            ("west", bounds.east < window.west),
+        ];
+        is_beyond.into_iter().filter(|&(_, is_beyond)| is_beyond).map(|(side, _)| side).collect()
+    }
+
     /// The sides on which the bounds go on beyond the picture. What differs by less than a pixel is a rounding.
     pub fn beyond(&self, bounds: Bounds) -> Vec<&'static str> {
         let Place { left, top, width, height } = self.place;
         let (west, north) = self.pixel([bounds.west, bounds.north]);
         let (east, south) = self.pixel([bounds.east, bounds.south]);
         let by = [
-            ("west", left - west),
+            ("north", top - north),
             ("south", south - (top + height)),
             ("east", east - (left + width)),
-            ("north", top - north),
+            ("west", left - west),
         ];
         by.into_iter().filter(|&(_, pixels)| pixels > 1.0).map(|(side, _)| side).collect()
     }

@@ -150,13 +150,21 @@ pub fn of_drawing(frame: &Frame, misfits: &[Misfit], view: Option<(&View, Option
         notes.push("there is nothing that can be drawn".to_string());
         return notes;
     };
-    notes.extend(area.and_then(|area| going_on(view, area)).map(|on| format!("the area goes on {on}")));
+    notes.extend(area.and_then(|area| of_area(view, area)));
     let widened = drawable(frame.bounds.widened(frame.buffer));
     notes.extend(
         widened.and_then(|bounds| going_on(view, bounds)).map(|on| format!("the tile with its buffer goes on {on}")),
     );
     notes.extend(view.stretched.map(|how| format!("not to scale: it is drawn {how} than it is")));
     notes
+}
+
+/// Where the area lies beyond the picture, as a whole or with what goes on there.
+fn of_area(view: &View, area: Bounds) -> Option<String> {
+    match view.shown(area) {
+        None => Some(format!("the area lies beyond the picture, to the {}", listed(&view.sides_beyond(area)))),
+        Some(_) => going_on(view, area).map(|on| format!("the area goes on {on}")),
+    }
 }
 
 /// Where the bounds go on beyond the picture, if they do.
