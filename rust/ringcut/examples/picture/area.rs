@@ -37,9 +37,9 @@ impl Misfit {
         self.point.iter().all(|number| number.is_finite())
     }
 
-    /// Which corner it is.
+    /// Which corner it is. Holes are counted from 1: ring 0 is the exterior.
     pub fn name(&self) -> String {
-        let hole = if self.ring > 0 { "a hole of " } else { "" };
+        let hole = if self.ring > 0 { format!("hole {} of ", self.ring) } else { String::new() };
         format!("corner {} of {hole}part {}", self.corner, self.part)
     }
 }
