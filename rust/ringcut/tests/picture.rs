@@ -280,6 +280,17 @@ fn assert_sound(svg: &str) {
         }
         assert!(name != "text" || text.chars().count() <= 80, "{text}");
     }
+    assert_legend_fits(svg);
+}
+
+/// That what the legend shows, each beside its words, is in the drawing too.
+fn assert_legend_fits(svg: &str) {
+    let elements = elements(svg);
+    let entries = elements.windows(2).filter(|pair| pair[1].class() == "legend");
+    for shown in entries.map(|pair| pair[0].class()) {
+        let is_shown = |element: &&Element| element.class().split(' ').next() == Some(&shown);
+        assert!(elements.iter().filter(is_shown).count() > 1, "{shown}");
+    }
 }
 
 /// The digits of a frame on these bounds; a part is its rings, a ring x, y numbers.
@@ -359,6 +370,57 @@ fn areas_of_every_kind_are_drawn_or_said_to_be_left_out() {
     );
     let star: Vec<f64> = (0..600).map(|n| 7. + 6. * f64::from(n % 4) * f64::from(n).sin()).collect();
     said(&star, "flags 3");
+}
+
+/// The words of the legend.
+fn legend(svg: &str) -> Vec<String> {
+    elements(svg).into_iter().filter(|element| element.class() == "legend").map(|element| element.text).collect()
+}
+
+#[test]
+fn the_legend_has_what_is_drawn() {
+    let legend_of = |bounds, buffer, ring: &[f64]| legend(&draw(1, &polygon(bounds, buffer, ring)).output);
+    let around = [-20., 30., 60., 30., 60., 70., -20., 70.];
+    let small = [9.84375, 47.98992, 9.86572, 48.00462];
+    assert_eq!(legend_of(small, 0., &around), ["tile", "cut", "cut, not a border", "made by a bound"]);
+    assert_eq!(legend_of(small, 1000., &around), ["tile", "unchanged"]);
+    assert_eq!(legend_of(small, 0., &[]), ["tile"]);
+    // A large area of which only a corner is in the picture is no small one, and neither is a slender one.
+    let [tiny, hidden, slender] = [2.0001, 500., 8.].map(|end| [2., 2., end, 2., end, 2.0001, 2., 2.0001]);
+    assert_eq!(legend_of(TILE, 0., &tiny), ["tile", "input outline", "a very small area", "unchanged"]);
+    assert_eq!(legend_of(TILE, 0., &slender), ["tile", "input outline", "unchanged"]);
+    assert!(!legend_of(TILE, 0., &hidden.map(|number| number + 12.95)).contains(&"a very small area".to_string()));
+}
+
+#[test]
+fn what_is_marked_beyond_the_picture_is_said() {
+    let said = |frame: &str, sentence: &str| {
+        assert_says(frame, sentence);
+        assert_eq!(marks(&draw(1, frame).output), marked("", ""));
+    };
+    let repeated = [5., 5., 100., 5., 100., 100., 100., 100., 5., 100.];
+    said(&polygon(TILE, 0., &repeated), "corner 2 lies beyond the picture, at (100,100)");
+    let (kind, flags) = (Kind::MultiPolygon, Flags::default());
+    let parts: [&[&[f64]]; 2] = [&[SQUARE], &[&repeated]];
+    said(&frame(kind, flags, TILE, 0., &parts), "corner 2 of part 1 lies beyond the picture, at (100,100)");
+    let crossing = [5., 5., 100., 5., 300., 300., 100., 300., 300., 5.5, 5., 6.];
+    let crossing = frame(Kind::Polygon, flags, TILE, 0., &[&[&crossing]]);
+    said(&crossing, "edge 1 lies beyond the picture, from (100,5) to (300,300)");
+    said(&crossing, "edge 3 lies beyond the picture, from (100,300) to (300,5.5)");
+    let bridge = frame(Kind::Polygon, flags, TILE, 1000., &[&[&[5., 5., 2000., 5., 2000., 8., 5., 8.]]]);
+    said(&bridge, "the east bound, with the buffer at 1010, lies beyond the picture");
+    // The picture ends at a corner, whose distance from the tile is not exact, and the corner is in it.
+    let at_end = polygon([-0.5, -0.5, 0.096, 0.096], 0., &[0., 0., 0.44, 0., 0.44, 0.44, 0.44, 0.44, 0., 0.44]);
+    assert_eq!(marks(&draw(1, &at_end).output), marked("repeated", "2"));
+}
+
+#[test]
+fn a_cut_that_holds_no_number_is_said_to() {
+    let nan = polygon(TILE, 0., &[8., 2., 1e308, 1e308, -1.7e308, -1.7e308, 3., 8.]);
+    assert_says(&nan, "a corner of the cut of part 0 is not a number");
+    assert_eq!(legend(&draw(1, &nan).output)[..3], ["tile", "input outline", "border"]);
+    let huge = polygon([-1e300, -1e300, 1e300, 1e300], 0., &[0., 0., 1e200, 0., 5., 5., 0., 5.]);
+    assert_eq!(legend(&draw(1, &huge).output), ["input outline", "unchanged"]);
 }
 
 #[test]

@@ -7,7 +7,7 @@ use ringcut::{Bounds, Frame};
 use crate::canvas::Canvas;
 use crate::legend::Entry;
 use crate::shared::number;
-use crate::view::{bounds_of, is_placeable, Point, View};
+use crate::view::{bounds_of, is_placeable, Pixel, Point, View};
 
 /// The class of the circle around an area that is too small to be seen, in the legend too, and its radius in pixels.
 pub const CIRCLED: &str = "speck";
@@ -63,38 +63,48 @@ pub fn misfits_of(parts: &[Vec<Ring>]) -> Vec<Misfit> {
     misfits
 }
 
-/// Draws the area between rings, exterior first. Of a ring with a corner that can't be placed only the edges between others are drawn,
-/// and where that is the exterior, there is no area.
-pub fn draw(canvas: &mut Canvas, view: &View, class: &str, rings: &[Ring]) {
-    let is_whole = |ring: &&Ring| ring.iter().all(|&point| is_placeable(point));
-    let (whole, broken): (Vec<&Ring>, Vec<&Ring>) = rings.iter().partition(is_whole);
-    if rings.first().is_some_and(|exterior| is_whole(&exterior)) {
-        let cut: Vec<_> = whole.into_iter().map(|ring| view.cut(ring)).collect();
-        canvas.area(class, &cut);
-    } else {
-        whole.into_iter().for_each(|ring| draw_line(canvas, view, &closed(ring)));
+/// The area between rings, exterior first, as far as it shows. A ring with a corner that can't be placed is left out, and where that is
+/// the exterior, there is no area.
+pub fn shape(view: &View, rings: &[Ring]) -> Vec<Vec<Pixel>> {
+    match rings.first() {
+        Some(exterior) if is_whole(exterior) => {
+            rings.iter().filter(|ring| is_whole(ring)).map(|ring| view.cut(ring)).collect()
+        }
+        _ => Vec::new(),
     }
-    for ring in broken {
-        closed(ring).split(|&point| !is_placeable(point)).for_each(|line| draw_line(canvas, view, line));
+}
+
+pub fn is_whole(ring: &Ring) -> bool {
+    ring.iter().all(|&point| is_placeable(point))
+}
+
+/// Draws the outlines of rings, without edges that have a corner that can't be placed. Answers whether any is in the picture.
+pub fn draw_outlines(canvas: &mut Canvas, view: &View, class: &str, rings: &[Ring]) -> bool {
+    let mut lines = Vec::new();
+    for ring in rings {
+        closed(ring).split(|&point| !is_placeable(point)).for_each(|line| lines.extend(view.stretches(line)));
     }
+    canvas.lines(class, &lines)
 }
 
 /// Puts a circle around an area that is too small to be seen. How large one is with a corner that can't be placed is not known.
 pub fn draw_speck(canvas: &mut Canvas, view: &View, rings: &[Ring]) -> Option<Entry> {
-    if !rings.iter().flatten().all(|&point| is_placeable(point)) {
+    if !rings.iter().all(is_whole) {
         return None;
     }
-    let Bounds { west, south, east, north } = view.shown(bounds_of(rings.iter().flatten().copied())?)?;
-    let ((left, bottom), (right, top)) = (view.pixel([west, south]), view.pixel([east, north]));
-    let is_speck = right - left < SPECK && bottom - top < SPECK;
-    is_speck.then(|| {
-        canvas.circle(CIRCLED, ((left + right) / 2.0, (top + bottom) / 2.0), RADIUS);
-        (CIRCLED, "a very small area")
-    })
+    let bounds = bounds_of(rings.iter().flatten().copied())?;
+    let ((left, bottom), (right, top)) = corners(view, bounds);
+    if right - left >= SPECK || bottom - top >= SPECK {
+        return None;
+    }
+    let ((left, bottom), (right, top)) = corners(view, view.shown(bounds)?);
+    canvas.circle(CIRCLED, ((left + right) / 2.0, (top + bottom) / 2.0), RADIUS);
+    Some((CIRCLED, "a very small area"))
 }
 
-fn draw_line(canvas: &mut Canvas, view: &View, line: &[Point]) {
-    canvas.lines("input", &view.stretches(line));
+/// The lower left and the upper right of bounds, in pixels.
+pub fn corners(view: &View, Bounds { west, south, east, north }: Bounds) -> (Pixel, Pixel) {
+    (view.pixel([west, south]), view.pixel([east, north]))
 }
 
 /// The ring as a call takes it: where its last coordinate does not equal its first, this one is appended.

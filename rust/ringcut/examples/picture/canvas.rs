@@ -46,6 +46,7 @@ text{fill:#e6edf3}
 .repeated,.crossing,.along{stroke:#f778ba}
 .mark{fill:#f778ba;stroke:#0d1117}
 }
+path.broken{fill:none}
 ";
 
 const HATCH: &str = "<defs><pattern id=\"hatch\" width=\"7\" height=\"7\" patternUnits=\"userSpaceOnUse\" \
@@ -76,20 +77,22 @@ impl Canvas {
         self.put("</g>\n");
     }
 
-    /// The area between closed lines: what lies in an odd number of them.
-    pub fn area(&mut self, class: &str, rings: &[Vec<Pixel>]) {
+    /// The area between closed lines: what lies in an odd number of them. Answers whether there is any.
+    pub fn area(&mut self, class: &str, rings: &[Vec<Pixel>]) -> bool {
         let path: String = rings.iter().filter(|ring| !ring.is_empty()).map(|ring| path(ring) + "Z").collect();
         if !path.is_empty() {
             self.put(&format!("<path class=\"{class}\" fill-rule=\"evenodd\" d=\"{path}\"/>\n"));
         }
+        !path.is_empty()
     }
 
-    /// Lines from each point to the next.
-    pub fn lines(&mut self, class: &str, lines: &[Vec<Pixel>]) {
+    /// Lines from each point to the next. Answers whether there is any.
+    pub fn lines(&mut self, class: &str, lines: &[Vec<Pixel>]) -> bool {
         let path: String = lines.iter().map(|line| path(line)).collect();
         if !path.is_empty() {
             self.put(&format!("<path class=\"{class}\" d=\"{path}\"/>\n"));
         }
+        !path.is_empty()
     }
 
     pub fn circle(&mut self, class: &str, (x, y): Pixel, radius: f64) {

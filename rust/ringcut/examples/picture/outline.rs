@@ -1,6 +1,8 @@
 //! The outline of a cut, drawn otherwise where it is a border than where it runs along the tile's edge and is none; and its corners,
 //! drawn otherwise where they were sent than where a bound made them.
 
+use std::collections::BTreeSet;
+
 use ringcut::{is_along_tile, Bounds, Origin, Vertex};
 
 use crate::canvas::Canvas;
@@ -18,19 +20,26 @@ pub const RADIUS: f64 = 3.5;
 const MANY: usize = 60;
 const SMALL_RADIUS: f64 = 2.0;
 
-/// Draws the outlines of rings that were cut at these bounds, the buffer's.
-pub fn draw(canvas: &mut Canvas, view: &View, bounds: Bounds, rings: &[Vec<Vertex>]) -> [Entry; 4] {
+const ENTRIES: [Entry; 4] =
+    [(BORDER, "border"), (EDGE, "cut, not a border"), (SENT, "corner as sent"), (MADE, "made by a bound")];
+
+/// Draws the outlines of rings that were cut at these bounds, the buffer's. Answers the legend's entries for what is in the picture.
+pub fn draw(canvas: &mut Canvas, view: &View, bounds: Bounds, rings: &[Vec<Vertex>]) -> Vec<Entry> {
     let radius = if rings.iter().flatten().count() > MANY { SMALL_RADIUS } else { RADIUS };
+    let mut drawn = BTreeSet::new();
     for ring in rings {
         for (class, stretch) in stretches(bounds, ring) {
-            canvas.lines(class, &view.stretches(&stretch));
+            if canvas.lines(class, &view.stretches(&stretch)) {
+                drawn.insert(class);
+            }
         }
         for &corner in ring.iter().filter(|&&corner| view.shows(point(corner))) {
             let class = if matches!(corner.origin, Origin::Line(_)) { MADE } else { SENT };
             canvas.circle(class, view.pixel(point(corner)), radius);
+            drawn.insert(class);
         }
     }
-    [(BORDER, "border"), (EDGE, "cut, not a border"), (SENT, "corner as sent"), (MADE, "made by a bound")]
+    ENTRIES.into_iter().filter(|(class, _)| drawn.contains(class)).collect()
 }
 
 pub fn point(corner: Vertex) -> Point {

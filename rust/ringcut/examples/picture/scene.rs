@@ -5,9 +5,10 @@ use ringcut::{Bounds, Frame, FrameAnswer, ListedPart, PartAnswer, Vertex};
 use crate::area::{self, Misfit, Ring};
 use crate::canvas::{Anchor, Canvas, WIDTH};
 use crate::legend::{self, Entry};
+use crate::marks::Told;
 use crate::shared::number;
 use crate::text::{in_lines, width_of, Labels};
-use crate::view::{bounds_of, drawable, union, Place, Point, View};
+use crate::view::{bounds_of, drawable, is_placeable, union, Place, Point, View};
 use crate::{marks, outline, words};
 
 /// Characters that a line has room for: of the title, of words above and of notes below.
@@ -43,6 +44,8 @@ struct Scene<'a> {
     canvas: Canvas,
     labels: Labels,
     legend: Vec<Entry>,
+    /// What is not drawn, or not as it is, in sentences that stand below the drawing.
+    left_out: Vec<String>,
     /// How many parts have no label for want of room.
     unlabelled: usize,
 }
@@ -58,6 +61,7 @@ pub fn draw(title: &str, frame: &Frame, answer: &FrameAnswer) -> String {
         canvas: Canvas::default(),
         labels: Labels::default(),
         legend: Vec::new(),
+        left_out: Vec::new(),
         unlabelled: 0,
     };
     scene.draw(title)
@@ -88,9 +92,9 @@ impl Scene<'_> {
             base_line += TITLE_LINE;
             self.canvas.text("title", Anchor::Middle, (WIDTH / 2.0, base_line), &line);
         }
-        let flags = crate::shared::words::flags(self.frame.flags);
+        let settings = words::of_settings(self.frame);
         let answer = words::of_answer(self.frame, &self.misfits, self.answer);
-        for line in [flags].iter().chain(&answer).flat_map(|words| in_lines(words, LINE_LENGTH)) {
+        for line in [settings].iter().chain(&answer).flat_map(|words| in_lines(words, LINE_LENGTH)) {
             base_line += LINE;
             self.canvas.text("answer", Anchor::Middle, (WIDTH / 2.0, base_line), &line);
         }
@@ -100,6 +104,7 @@ impl Scene<'_> {
     /// What is to be known of the drawing.
     fn notes(&self, view: Option<&View>) -> Vec<String> {
         let mut notes = words::of_drawing(self.frame, &self.misfits, view.map(|view| (view, self.area())));
+        notes.extend(words::first_of(&self.left_out));
         if self.parts.len() > MANY {
             notes.push("a number in an area is that of the part".to_string());
         }
@@ -121,7 +126,8 @@ impl Scene<'_> {
         let is_point = |bounds: &Bounds| bounds.west == bounds.east && bounds.south == bounds.north;
         let shown = tile.filter(|tile| !is_point(tile)).or(widened).or(tile).or(area)?;
         let all = [tile, widened, area].into_iter().flatten().fold(shown, union);
-        let numbers = [self.frame.bounds.south, self.frame.bounds.north].map(|bound| width_of(&number::text(bound)));
+        let numbers =
+            [self.frame.bounds.south, self.frame.bounds.north].map(|bound| width_of("small", &number::text(bound)));
         let left = if tile.is_some() { BESIDE.max(numbers[0].max(numbers[1]) + 30.0) } else { BESIDE };
         let room = Place { left, top, width: WIDTH - BESIDE - left, height: HIGHEST };
         Some(View::new(shown, all, room))
@@ -134,18 +140,19 @@ impl Scene<'_> {
         }
         self.canvas.open_clip(view.rim());
         if let Some(tile) = drawable(self.frame.bounds) {
-            self.legend.push(("tile", "tile"));
-            self.canvas.area("tile", &[view.cut(&rectangle(tile))]);
+            if self.canvas.area("tile", &[view.cut(&rectangle(tile))]) {
+                self.legend.push(("tile", "tile"));
+            }
         }
         if let Some(widened) = drawable(self.widened).filter(|_| self.frame.buffer != 0.0) {
-            self.legend.push(("buffer", "tile with its buffer"));
-            self.canvas.area("buffer", &[view.cut(&rectangle(widened))]);
-        }
-        if !self.parts.is_empty() {
-            self.legend.push(("input", "input outline"));
+            if area::draw_outlines(&mut self.canvas, view, "buffer", &[rectangle(widened)]) {
+                self.legend.push(("buffer", "tile with its buffer"));
+            }
         }
         for part in &self.parts {
-            area::draw(&mut self.canvas, view, "input", part);
+            if area::draw_outlines(&mut self.canvas, view, "input", part) {
+                self.legend.push(("input", "input outline"));
+            }
             self.legend.extend(area::draw_speck(&mut self.canvas, view, part));
         }
         self.draw_answer(view);
@@ -160,26 +167,44 @@ impl Scene<'_> {
         }
     }
 
+    /// Draws the area between rings with its entry in the legend, if any of it is in the picture.
+    fn draw_area(&mut self, view: &View, entry: Entry, rings: &[Ring]) {
+        if self.canvas.area(entry.0, &area::shape(view, rings)) {
+            self.legend.push(entry);
+        }
+    }
+
     fn draw_unchanged(&mut self, view: &View, number: usize) {
-        area::draw(&mut self.canvas, view, "unchanged", &self.parts[number]);
-        self.legend.push(("unchanged", "unchanged"));
+        let rings = self.parts[number].clone();
+        self.draw_area(view, ("unchanged", "unchanged"), &rings);
+        if !rings.iter().all(area::is_whole) && area::draw_outlines(&mut self.canvas, view, "unchanged broken", &rings)
+        {
+            self.legend.push(("unchanged", "unchanged"));
+        }
     }
 
     fn draw_part(&mut self, view: &View, ListedPart { number, answer }: ListedPart) {
         match answer {
             PartAnswer::Unchanged => self.draw_unchanged(view, number),
             PartAnswer::Cut(rings) => {
-                let rings: Vec<Vec<Vertex>> = rings.map(|ring| ring.iter().collect()).collect();
-                let areas: Vec<Ring> =
-                    rings.iter().map(|ring| ring.iter().map(|&corner| outline::point(corner)).collect()).collect();
-                area::draw(&mut self.canvas, view, "cut", &areas);
-                self.legend.push(("cut", "cut"));
-                self.legend.extend(outline::draw(&mut self.canvas, view, self.widened, &rings));
+                self.draw_cut(view, number, &rings.map(|ring| ring.iter().collect()).collect::<Vec<_>>())
             }
             PartAnswer::Overlay(_) => {
-                area::draw(&mut self.canvas, view, "overlay", &self.parts[number]);
-                self.legend.push(("overlay", "overlay wanted"));
+                let rings = self.parts[number].clone();
+                self.draw_area(view, ("overlay", "overlay wanted"), &rings);
             }
+        }
+    }
+
+    fn draw_cut(&mut self, view: &View, number: usize, rings: &[Vec<Vertex>]) {
+        let areas: Vec<Ring> =
+            rings.iter().map(|ring| ring.iter().map(|&corner| outline::point(corner)).collect()).collect();
+        self.draw_area(view, ("cut", "cut"), &areas);
+        self.legend.extend(outline::draw(&mut self.canvas, view, self.widened, rings));
+        if let Some(point) = areas.iter().flatten().find(|&&point| !is_placeable(point)) {
+            let is_nan = point.iter().any(|number| number.is_nan());
+            let why = if is_nan { "not a number" } else { "too large to be drawn" };
+            self.left_out.push(format!("a corner of the cut of part {number} is {why}"));
         }
     }
 
@@ -188,8 +213,16 @@ impl Scene<'_> {
         if let FrameAnswer::Listed { parts, .. } = self.answer {
             for ListedPart { number, answer } in parts.clone() {
                 let PartAnswer::Overlay(reason) = answer else { continue };
-                let (exterior, labels) = (&self.parts[number][0], &mut self.labels);
-                self.legend.extend(marks::draw(&mut self.canvas, view, labels, exterior, self.widened, reason));
+                let told = Told {
+                    reason,
+                    exterior: &self.parts[number][0],
+                    of_part: if self.parts.len() > 1 { format!(" of part {number}") } else { String::new() },
+                    bounds: self.widened,
+                    has_buffer: self.frame.buffer != 0.0,
+                };
+                let marked = marks::draw(&mut self.canvas, view, &mut self.labels, &told);
+                self.legend.extend(marked.entry);
+                self.left_out.extend(marked.left_out);
             }
         }
         self.label_tile(view);
@@ -205,13 +238,13 @@ impl Scene<'_> {
         let ((left, bottom), (right, top)) = (view.pixel([tile.west, tile.south]), view.pixel([tile.east, tile.north]));
         let [west, south, east, north] = [west, south, east, north].map(number::text);
         // Where the tile is small, the numbers of two opposite bounds move apart.
-        let apart = ((width_of(&west) + width_of(&east)) / 2.0 + 6.0 - (right - left)).max(0.0) / 2.0;
+        let apart = ((width_of("small", &west) + width_of("small", &east)) / 2.0 + 6.0 - (right - left)).max(0.0) / 2.0;
         let upright = (13.0 - (bottom - top)).max(0.0) / 2.0;
         for (x, words) in [(left - apart, west), (right + apart, east)] {
             self.labels.put(&mut self.canvas, "small", (x, bottom + upright + 11.0), &words);
         }
         for (y, words) in [(bottom + upright, south), (top - upright, north)] {
-            let x = left - width_of(&words) / 2.0 - 6.0;
+            let x = left - width_of("small", &words) / 2.0 - 6.0;
             self.labels.put(&mut self.canvas, "small", (x, y), &words);
         }
     }
@@ -225,7 +258,7 @@ impl Scene<'_> {
         let words = if self.parts.len() > MANY { number.to_string() } else { format!("part {number}") };
         let ((left, bottom), (right, top)) = (view.pixel([west, south]), view.pixel([east, north]));
         let (x, y) = ((left + right) / 2.0, (top + bottom) / 2.0);
-        let half = width_of(&words) / 2.0;
+        let half = width_of("part", &words) / 2.0;
         let beside = [(x, top - 12.0), (x, bottom + 12.0), (right + half + 8.0, y), (left - half - 8.0, y)];
         let has_room = right - left > 2.0 * half && bottom - top > LINE;
         let places = if has_room { &[(x, y)][..] } else { &beside };

@@ -6,8 +6,10 @@ use crate::view::Pixel;
 /// Pixels from the picture's edge to any text.
 const MARGIN: f64 = 8.0;
 
-/// Pixels that a character takes, as a rule, and those from the base line of a label to the next above or below.
+/// Pixels that a character takes, as a rule, and one of a mark, which is bold; and those from the base line of a label to the next above
+/// or below.
 const CHARACTER: f64 = 6.4;
+const BOLD_CHARACTER: f64 = 7.6;
 const LABEL_HEIGHT: f64 = 13.0;
 
 /// Breaks words into lines of so many characters, between words where it can be.
@@ -35,9 +37,19 @@ pub fn in_lines(words: &str, length: usize) -> Vec<String> {
     lines
 }
 
-/// How many pixels a label takes, nearly.
-pub fn width_of(words: &str) -> f64 {
-    CHARACTER * words.chars().count() as f64
+/// The class of labels in bold.
+pub const MARK: &str = "mark";
+
+/// How many pixels a label of this class takes, nearly.
+pub fn width_of(class: &str, words: &str) -> f64 {
+    let character = if class == MARK { BOLD_CHARACTER } else { CHARACTER };
+    character * words.chars().count() as f64
+}
+
+/// Where the middle of words of this width stands that is put there, moved so that they are in the picture.
+pub fn moved_inside(x: f64, width: f64) -> f64 {
+    let half = (width / 2.0).min(WIDTH / 2.0 - MARGIN);
+    x.clamp(MARGIN + half, WIDTH - MARGIN - half)
 }
 
 /// The labels that stand in the picture.
@@ -54,10 +66,10 @@ struct Spot {
 }
 
 impl Spot {
-    /// Where words stand whose middle is there, moved so that they are in the picture.
-    fn new((x, y): Pixel, words: &str) -> Spot {
-        let half = (width_of(words) / 2.0).min(WIDTH / 2.0 - MARGIN);
-        Spot { x: x.clamp(MARGIN + half, WIDTH - MARGIN - half), y, half }
+    /// Where words of this width stand whose middle is there, moved so that they are in the picture.
+    fn new((x, y): Pixel, width: f64) -> Spot {
+        let half = (width / 2.0).min(WIDTH / 2.0 - MARGIN);
+        Spot { x: moved_inside(x, width), y, half }
     }
 
     fn is_apart(&self, other: &Spot) -> bool {
@@ -68,14 +80,14 @@ impl Spot {
 impl Labels {
     /// Puts words with their middle there.
     pub fn put(&mut self, canvas: &mut Canvas, class: &str, middle: Pixel, words: &str) {
-        let spot = Spot::new(middle, words);
+        let spot = Spot::new(middle, width_of(class, words));
         canvas.text(class, Anchor::Middle, (spot.x, spot.y + 4.0), words);
         self.taken.push(spot);
     }
 
     /// Puts words with their middle there, unless others stand in the way or the picture ends; answers whether it did.
     pub fn put_if_free(&mut self, canvas: &mut Canvas, class: &str, middle: Pixel, words: &str) -> bool {
-        let spot = Spot::new(middle, words);
+        let spot = Spot::new(middle, width_of(class, words));
         let is_free = spot.x == middle.0 && self.taken.iter().all(|taken| taken.is_apart(&spot));
         if is_free {
             self.put(canvas, class, middle, words);

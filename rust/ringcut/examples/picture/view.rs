@@ -155,23 +155,23 @@ impl View {
         Place { left: left - RIM, top: top - RIM, width: width + 2.0 * RIM, height: height + 2.0 * RIM }
     }
 
-    /// The window with what is around it as far as anything is drawn.
-    fn around(&self) -> Bounds {
+    /// The window with so many pixels around it.
+    fn window_with(&self, pixels: f64) -> Bounds {
         let Bounds { west, south, east, north } = self.window;
-        let aside = BEYOND_RIM * ((east - west) / self.place.width);
-        let up = BEYOND_RIM * ((north - south) / self.place.height);
+        let aside = pixels * ((east - west) / self.place.width);
+        let up = pixels * ((north - south) / self.place.height);
         Bounds { west: west - aside, south: south - up, east: east + aside, north: north + up }
     }
 
     /// The ring, cut to what is drawn. What the cut makes of it runs where nothing shows.
     pub fn cut(&self, ring: &[Point]) -> Vec<Pixel> {
-        let around = self.around();
+        let around = self.window_with(BEYOND_RIM);
         cut_to(around, ring).into_iter().map(|point| self.pixel(clamped(around, point))).collect()
     }
 
-    /// The stretches that are drawn of a line through these points.
+    /// The stretches that are drawn of a line through these points: those of which something shows.
     pub fn stretches(&self, line: &[Point]) -> Vec<Vec<Pixel>> {
-        let around = self.around();
+        let (around, rim) = (self.window_with(BEYOND_RIM), self.window_with(RIM));
         let mut stretches: Vec<Vec<Point>> = Vec::new();
         for edge in line.windows(2) {
             let Some([from, to]) = piece(around, [edge[0], edge[1]]) else { continue };
@@ -180,6 +180,7 @@ impl View {
                 _ => stretches.push(vec![from, to]),
             }
         }
+        stretches.retain(|stretch| stretch.windows(2).any(|edge| piece(rim, [edge[0], edge[1]]).is_some()));
         stretches.into_iter().map(|stretch| stretch.into_iter().map(|point| self.pixel(point)).collect()).collect()
     }
 }
@@ -191,12 +192,15 @@ fn window(tile: Bounds, all: Bounds) -> Bounds {
         0.0 => larger_side(all),
         size => size,
     };
-    let reach = |distance: f64| if distance <= NEAR * size { distance } else { CUT_OFF * size };
+    // The very number where the area ends, so that a corner there is in the picture.
+    let reach =
+        |tile: f64, all: f64, cut_off: f64| if (all - tile).abs() <= NEAR * size { all } else { tile + cut_off };
+    let cut_off = CUT_OFF * size;
     with_width_and_height(Bounds {
-        west: tile.west - reach(tile.west - all.west),
-        south: tile.south - reach(tile.south - all.south),
-        east: tile.east + reach(all.east - tile.east),
-        north: tile.north + reach(all.north - tile.north),
+        west: reach(tile.west, all.west, -cut_off),
+        south: reach(tile.south, all.south, -cut_off),
+        east: reach(tile.east, all.east, cut_off),
+        north: reach(tile.north, all.north, cut_off),
     })
 }
 

@@ -5,13 +5,24 @@ use std::collections::BTreeSet;
 use ringcut::{Bounds, Frame, FrameAnswer, PartAnswer, Reason};
 
 use crate::area::Misfit;
-use crate::shared::number;
+use crate::shared::{self, number};
 use crate::view::{drawable, View};
 
 /// More sentences on parts, more numbers in one and more corners that can't be drawn are only counted.
 const MOST_SENTENCES: usize = 10;
 const MOST_NUMBERS: usize = 12;
 const MOST_CORNERS: usize = 3;
+const MOST_LEFT_OUT: usize = 4;
+
+/// The flags, and the buffer if there is one.
+pub fn of_settings(frame: &Frame) -> String {
+    let flags = shared::words::flags(frame.flags);
+    if frame.buffer == 0.0 {
+        flags
+    } else {
+        format!("{flags}; buffer {}", number::text(frame.buffer))
+    }
+}
 
 /// The answer to a frame with these corners that can't be drawn.
 pub fn of_answer(frame: &Frame, misfits: &[Misfit], answer: &FrameAnswer) -> Vec<String> {
@@ -156,6 +167,22 @@ pub fn of_drawing(frame: &Frame, misfits: &[Misfit], view: Option<(&View, Option
         widened.and_then(|bounds| going_on(view, bounds)).map(|on| format!("the tile with its buffer goes on {on}")),
     );
     notes.extend(view.stretched.map(|how| format!("not to scale: it is drawn {how} than it is")));
+    notes
+}
+
+/// The first sentences on what is left out, each once, and how many more there are.
+pub fn first_of(left_out: &[String]) -> Vec<String> {
+    let mut notes: Vec<String> = Vec::new();
+    for note in left_out {
+        if !notes.contains(note) {
+            notes.push(note.clone());
+        }
+    }
+    let more = notes.len().saturating_sub(MOST_LEFT_OUT);
+    notes.truncate(MOST_LEFT_OUT);
+    if more > 0 {
+        notes.push(format!("{} more left out", counted(more, "sentence")));
+    }
     notes
 }
 
