@@ -175,12 +175,19 @@ fn what_a_reason_tells_is_marked() {
     assert_eq!(marks(&draw(1, &open).output), marked("crossing crossing", "edge 1, edge 3"));
 }
 
-/// The first path of a class as x and y in pixels.
+/// The paths of a class, each as lines of x and y in pixels.
+fn paths(svg: &str, class: &str) -> Vec<Vec<Vec<[f64; 2]>>> {
+    let line = |commands: &str| -> Vec<[f64; 2]> {
+        let points = commands.split(['L', 'Z']).filter_map(|point| point.split_once(' '));
+        points.map(|(x, y)| [x.parse().unwrap(), y.parse().unwrap()]).collect()
+    };
+    let paths = elements(svg).into_iter().filter(|element| element.class() == class && element.name == "path");
+    paths.map(|path| path.attribute("d").split('M').skip(1).map(line).collect()).collect()
+}
+
+/// The points of the first path of a class.
 fn path(svg: &str, class: &str) -> Vec<[f64; 2]> {
-    let path = elements(svg).into_iter().find(|element| element.class() == class).unwrap();
-    let (_, commands) = path.attributes.iter().find(|(name, _)| name == "d").unwrap();
-    let points = commands.split(['M', 'L', 'Z']).filter_map(|point| point.split_once(' '));
-    points.map(|(x, y)| [x.parse().unwrap(), y.parse().unwrap()]).collect()
+    paths(svg, class)[0].concat()
 }
 
 #[test]
@@ -206,8 +213,18 @@ struct Element {
 }
 
 impl Element {
+    /// The value of an attribute, empty where there is none.
+    fn attribute(&self, name: &str) -> &str {
+        self.attributes.iter().find(|(other, _)| other == name).map_or("", |(_, value)| value)
+    }
+
     fn class(&self) -> String {
-        self.attributes.iter().find(|(name, _)| name == "class").map_or(String::new(), |(_, class)| class.clone())
+        self.attribute("class").to_string()
+    }
+
+    /// Two attributes as a place in pixels.
+    fn place(&self, [x, y]: [&str; 2]) -> [f64; 2] {
+        [x, y].map(|name| self.attribute(name).parse().unwrap())
     }
 }
 
@@ -372,6 +389,41 @@ fn areas_of_every_kind_are_drawn_or_said_to_be_left_out() {
     said(&star, "flags 3");
 }
 
+/// Whether a point lies in an odd number of closed lines.
+fn is_inside(lines: &[Vec<[f64; 2]>], [x, y]: [f64; 2]) -> bool {
+    let edges = lines.iter().flat_map(|line| line.windows(2));
+    let is_to_the_right = |edge: &&[[f64; 2]]| {
+        let [[from_x, from_y], [to_x, to_y]] = [edge[0], edge[1]];
+        (from_y > y) != (to_y > y) && from_x + (y - from_y) / (to_y - from_y) * (to_x - from_x) > x
+    };
+    edges.filter(is_to_the_right).count() % 2 == 1
+}
+
+fn square(west: f64, south: f64, east: f64, north: f64) -> [f64; 8] {
+    [west, south, east, south, east, north, west, north]
+}
+
+#[test]
+fn the_name_of_a_part_stands_in_it_and_in_no_other() {
+    let (ring, hole, island) = (square(1., 1., 9., 9.), square(2.5, 2.5, 7.5, 7.5), square(3., 3., 7., 7.));
+    let angle = [1., 1., 9., 1., 9., 9., 8., 9., 8., 2., 1., 2.];
+    let cases: [&[&[&[f64]]]; 3] = [
+        &[&[&ring, &hole], &[&island]],
+        // Around the other's middle, and over the other.
+        &[&[&angle], &[&square(2., 3., 7.5, 8.)]],
+        &[&[&ring], &[&square(4., 4., 20., 6.)]],
+    ];
+    for parts in cases {
+        let svg = draw(1, &frame(Kind::MultiPolygon, Flags::default(), TILE, 0., parts)).output;
+        let areas = paths(&svg, "input");
+        for part in 0..2 {
+            let words = format!("part {part}");
+            let label = elements(&svg).into_iter().find(|element| element.text == words).unwrap();
+            assert_eq!([0, 1].map(|area| is_inside(&areas[area], label.place(["x", "y"]))), [part == 0, part == 1]);
+        }
+    }
+}
+
 /// The words of the legend.
 fn legend(svg: &str) -> Vec<String> {
     elements(svg).into_iter().filter(|element| element.class() == "legend").map(|element| element.text).collect()
@@ -433,8 +485,9 @@ fn many_parts_are_said_and_labelled_as_far_as_there_is_room() {
         (0..90).map(|n| (f64::from(n % 10), f64::from(n / 10))).map(|(x, y)| [x, y, x + 0.9, y, x, y + 0.9]).collect();
     let rings: Vec<[&[f64]; 1]> = squares.iter().map(|square| [&square[..]]).collect();
     let parts: Vec<&[&[f64]]> = rings.iter().map(|rings| &rings[..]).collect();
-    assert_says(&multipolygon(&parts), "a number in an area is that of the part");
-    assert_says(&multipolygon(&[parts[0]; 40]), "parts without a label, for want of room: 39");
+    assert_says(&multipolygon(&parts), "a number in an area, or beside a small one, is that of the part");
+    // One number has room in it, and four beside it.
+    assert_says(&multipolygon(&[parts[0]; 40]), "parts without a label, for want of room: 35");
     let holes: Vec<&[f64]> = [SQUARE].into_iter().chain(squares.iter().map(|square| &square[..]).take(63)).collect();
     assert_says(&multipolygon(&[&holes, &[&[8., 8., 12., 8., 12., 12.]]]), "part 0: ");
 }

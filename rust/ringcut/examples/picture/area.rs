@@ -6,6 +6,7 @@ use ringcut::{Bounds, Frame};
 
 use crate::canvas::Canvas;
 use crate::legend::Entry;
+use crate::room::Shape;
 use crate::shared::number;
 use crate::view::{bounds_of, is_placeable, Pixel, Point, View};
 
@@ -65,7 +66,7 @@ pub fn misfits_of(parts: &[Vec<Ring>]) -> Vec<Misfit> {
 
 /// The area between rings, exterior first, as far as it shows. A ring with a corner that can't be placed is left out, and where that is
 /// the exterior, there is no area.
-pub fn shape(view: &View, rings: &[Ring]) -> Vec<Vec<Pixel>> {
+pub fn shape(view: &View, rings: &[Ring]) -> Shape {
     match rings.first() {
         Some(exterior) if is_whole(exterior) => {
             rings.iter().filter(|ring| is_whole(ring)).map(|ring| view.cut(ring)).collect()

@@ -22,6 +22,7 @@ mod canvas;
 mod legend;
 mod marks;
 mod outline;
+mod room;
 mod scene;
 #[path = "../shared/mod.rs"]
 mod shared;

@@ -6,10 +6,11 @@ use crate::area::{self, Misfit, Ring};
 use crate::canvas::{Anchor, Canvas, WIDTH};
 use crate::legend::{self, Entry};
 use crate::marks::Told;
+use crate::room::Shape;
 use crate::shared::number;
 use crate::text::{in_lines, width_of, Labels};
-use crate::view::{bounds_of, drawable, is_placeable, union, Place, Point, View};
-use crate::{marks, outline, words};
+use crate::view::{bounds_of, drawable, is_placeable, union, Pixel, Place, Point, View};
+use crate::{marks, outline, room, words};
 
 /// Characters that a line has room for: of the title, of words above and of notes below.
 const TITLE_LENGTH: usize = 52;
@@ -106,7 +107,7 @@ impl Scene<'_> {
         let mut notes = words::of_drawing(self.frame, &self.misfits, view.map(|view| (view, self.area())));
         notes.extend(words::first_of(&self.left_out));
         if self.parts.len() > MANY {
-            notes.push("a number in an area is that of the part".to_string());
+            notes.push("a number in an area, or beside a small one, is that of the part".to_string());
         }
         if self.unlabelled > 0 {
             notes.push(format!("parts without a label, for want of room: {}", self.unlabelled));
@@ -227,7 +228,7 @@ impl Scene<'_> {
         }
         self.label_tile(view);
         if self.parts.len() > 1 {
-            (0..self.parts.len()).for_each(|number| self.label_part(view, number));
+            self.label_parts(view);
         }
     }
 
@@ -249,19 +250,38 @@ impl Scene<'_> {
         }
     }
 
-    /// The part's number in the middle of what is shown of it, or beside it where there is no room for the words.
-    fn label_part(&mut self, view: &View, number: usize) {
+    /// The parts' numbers, each in its part and in no other, if there is room for it.
+    fn label_parts(&mut self, view: &View) {
+        let shapes: Vec<Shape> = self.parts.iter().map(|part| area::shape(view, part)).collect();
+        for number in 0..shapes.len() {
+            let is_other = |&(other, _): &(usize, &Shape)| other != number;
+            let others: Vec<&Shape> = shapes.iter().enumerate().filter(is_other).map(|(_, shape)| shape).collect();
+            self.label_part(view, number, &shapes[number], &others);
+        }
+    }
+
+    fn label_part(&mut self, view: &View, number: usize, shape: &Shape, others: &[&Shape]) {
         let points = self.parts[number].iter().flatten().copied();
-        let Some(Bounds { west, south, east, north }) = bounds_of(points).and_then(|bounds| view.shown(bounds)) else {
-            return;
-        };
+        let Some(shown) = bounds_of(points).and_then(|bounds| view.shown(bounds)) else { return };
         let words = if self.parts.len() > MANY { number.to_string() } else { format!("part {number}") };
-        let ((left, bottom), (right, top)) = (view.pixel([west, south]), view.pixel([east, north]));
-        let (x, y) = ((left + right) / 2.0, (top + bottom) / 2.0);
-        let half = width_of("part", &words) / 2.0;
-        let beside = [(x, top - 12.0), (x, bottom + 12.0), (right + half + 8.0, y), (left - half - 8.0, y)];
-        let has_room = right - left > 2.0 * half && bottom - top > LINE;
-        let places = if has_room { &[(x, y)][..] } else { &beside };
+        let ((left, bottom), (right, top)) = area::corners(view, shown);
+        let width = width_of("part", &words);
+        let place = Place { left, top, width: right - left, height: bottom - top };
+        let mut places = room::places_in(shape, others, place, width);
+        // A part that has no room of its own may have some that is another's too.
+        places.extend(room::places_in(shape, &[], place, width));
+        if places.is_empty() {
+            let (x, y) = ((left + right) / 2.0, (top + bottom) / 2.0);
+            let aside = width / 2.0 + 8.0;
+            let beside = [(x, top - 12.0), (x, bottom + 12.0), (right + aside, y), (left - aside, y)];
+            let (apart, in_others): (Vec<Pixel>, _) =
+                beside.into_iter().partition(|&place| room::is_apart(place, width, others));
+            places = apart;
+            // A bare number there would be taken for the other's.
+            if self.parts.len() <= MANY {
+                places.extend::<Vec<Pixel>>(in_others);
+            }
+        }
         if !places.iter().any(|&place| self.labels.put_if_free(&mut self.canvas, "part", place, &words)) {
             self.unlabelled += 1;
         }
