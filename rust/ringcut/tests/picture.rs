@@ -529,7 +529,13 @@ fn a_title_is_written_as_it_is_and_broken_where_it_is_long() {
     assert_eq!(titles("a\u{1}b\nc"), ["a b c"]);
     let long = "word ".repeat(30);
     assert!(titles(&long).len() > 1 && titles(&long).iter().all(|line| line.len() <= 52));
-    assert_eq!(titles(&"x".repeat(120)).iter().map(String::len).collect::<Vec<_>>(), [52, 52, 16]);
+    // A line has 464 pixels, and a letter 15 upwards: of the widest letters, and of characters as wide as high, it holds fewer.
+    let lengths = |title: &str| titles(title).iter().map(|line| line.chars().count()).collect::<Vec<_>>();
+    assert_eq!(lengths(&"x".repeat(120)), [42, 42, 36]);
+    assert_eq!(lengths(&"W".repeat(60)), [27, 27, 6]);
+    assert_eq!(lengths(&"域".repeat(30)), [27, 3]);
+    let end = &titles(&"x ".repeat(500))[2..];
+    assert!(end.len() == 1 && end[0].ends_with(" x.."), "{end:?}");
     assert!(titles("").is_empty());
     assert!(draw(1, &polygon(TILE, 0., SQUARE)).output.contains("<title>The frame of line 1</title>"));
 }

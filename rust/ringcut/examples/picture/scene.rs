@@ -8,12 +8,11 @@ use crate::legend::{self, Entry};
 use crate::marks::Told;
 use crate::room::Shape;
 use crate::shared::number;
-use crate::text::{in_lines, width_of, Labels};
+use crate::text::{in_lines, title_lines, width_of, Labels};
 use crate::view::{bounds_of, drawable, is_placeable, union, Pixel, Place, Point, View};
 use crate::{marks, outline, room, words};
 
-/// Characters that a line has room for: of the title, of words above and of notes below.
-const TITLE_LENGTH: usize = 52;
+/// Characters that a line has room for: of words above and of notes below.
 const LINE_LENGTH: usize = 70;
 const NOTE_LENGTH: usize = 76;
 
@@ -89,7 +88,7 @@ impl Scene<'_> {
     /// The title, the flags and the answer, and where they end.
     fn draw_words(&mut self, title: &str) -> f64 {
         let mut base_line = 6.0;
-        for line in in_lines(title, TITLE_LENGTH) {
+        for line in title_lines(title) {
             base_line += TITLE_LINE;
             self.canvas.text("title", Anchor::Middle, (WIDTH / 2.0, base_line), &line);
         }

@@ -12,27 +12,63 @@ const CHARACTER: f64 = 6.4;
 const BOLD_CHARACTER: f64 = 7.6;
 const LABEL_HEIGHT: f64 = 13.0;
 
+/// The lines of a title, and the room for one as a multiple of the letters' height; what goes on behind them is `..`.
+const TITLE_LINES: usize = 3;
+const TITLE_ROOM: f64 = 30.0;
+
 /// Breaks words into lines of so many characters, between words where it can be.
 pub fn in_lines(words: &str, length: usize) -> Vec<String> {
+    broken(words, length as f64, |_| 1.0)
+}
+
+/// Breaks a title into lines, and ends it where there are many.
+pub fn title_lines(title: &str) -> Vec<String> {
+    let mut lines = broken(title, TITLE_ROOM, title_width);
+    if lines.len() > TITLE_LINES {
+        lines.truncate(TITLE_LINES);
+        lines[TITLE_LINES - 1].push_str("..");
+    }
+    lines
+}
+
+/// The width of a character of a title as a multiple of its height, rather too large than too small, since fonts differ.
+fn title_width(character: char) -> f64 {
+    match character {
+        'm' | 'w' | 'M' | 'W' | '@' | '%' | '&' => 1.1,
+        'f' | 'i' | 'j' | 'l' | 'r' | 't' | 'I' | ' ' | '!' | '\'' | '(' | ')' | ',' | '-' | '.' | ':' | ';' => 0.45,
+        'A'..='Z' | '\u{c0}'..='\u{24f}' => 0.85,
+        // Put over the character before it.
+        '\u{300}'..='\u{36f}' => 0.0,
+        other if other.is_ascii() => 0.7,
+        _ => 1.1,
+    }
+}
+
+/// Breaks words into lines, between words where it can be.
+fn broken(words: &str, room: f64, width: impl Fn(char) -> f64) -> Vec<String> {
     let mut lines = Vec::new();
-    let mut line: Vec<char> = Vec::new();
+    let (mut line, mut taken) = (String::new(), 0.0);
     for word in words.split_whitespace() {
-        let mut word: Vec<char> = word.chars().collect();
-        if !line.is_empty() && line.len() + 1 + word.len() > length {
-            lines.push(std::mem::take(&mut line).into_iter().collect());
-        }
-        while word.len() > length {
-            let rest = word.split_off(length);
-            lines.push(word.into_iter().collect());
-            word = rest;
+        let whole: f64 = word.chars().map(&width).sum();
+        if !line.is_empty() && taken + width(' ') + whole > room {
+            lines.push(std::mem::take(&mut line));
+            taken = 0.0;
         }
         if !line.is_empty() {
             line.push(' ');
+            taken += width(' ');
         }
-        line.extend(word);
+        for character in word.chars() {
+            if taken + width(character) > room {
+                lines.push(std::mem::take(&mut line));
+                taken = 0.0;
+            }
+            line.push(character);
+            taken += width(character);
+        }
     }
     if !line.is_empty() {
-        lines.push(line.into_iter().collect());
+        lines.push(line);
     }
     lines
 }
