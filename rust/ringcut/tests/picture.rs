@@ -100,16 +100,17 @@ fn the_tiles_edge_is_no_border() {
 }
 
 /// The stretches of an outline that are drawn as borders and those along the tile's edge, in the order of the ring.
+fn outline(svg: &str) -> Vec<String> {
+    let classes = elements(svg).into_iter().filter(|element| element.name == "path").map(|path| path.class());
+    // The last two are the legend's.
+    let mut outline: Vec<String> = classes.filter(|class| class == "border" || class == "edge").collect();
+    outline.truncate(outline.len() - 2);
+    outline
+}
+
 #[test]
 fn borders_are_drawn_otherwise_than_the_tiles_edge() {
-    let classes = |line: usize| -> Vec<String> {
-        let picture = picture(line);
-        let classes = elements(&picture).into_iter().filter(|element| element.name == "path").map(|path| path.class());
-        // The last two are the legend's.
-        let mut outline: Vec<String> = classes.filter(|class| class == "border" || class == "edge").collect();
-        outline.truncate(outline.len() - 2);
-        outline
-    };
+    let classes = |line: usize| outline(&picture(line));
     assert_eq!(classes(2), ["border", "edge", "border"]);
     assert_eq!(classes(8), ["border", "edge", "border"]);
     assert_eq!(classes(9), ["border", "edge", "border", "edge", "border"]);
@@ -175,6 +176,32 @@ fn what_a_reason_tells_is_marked() {
     assert_eq!(marks(&draw(1, &open).output), marked("crossing crossing", "edge 1, edge 3"));
 }
 
+/// The places of circles of a class, in pixels.
+fn circles(svg: &str, class: &str) -> Vec<[f64; 2]> {
+    let circles = elements(svg).into_iter().filter(|element| element.class() == class && element.name == "circle");
+    circles.map(|circle| circle.place(["cx", "cy"])).collect()
+}
+
+#[test]
+fn marks_stand_where_corners_and_edges_are() {
+    let svg = picture(36);
+    let input = path(&svg, "input");
+    assert_eq!(circles(&svg, "repeated")[0], input[3]);
+    assert_ne!(input[3], input[5]);
+    let svg = picture(37);
+    let input = path(&svg, "input");
+    let crossing = paths(&svg, "crossing").into_iter().map(|path| path.concat());
+    assert!(crossing.take(2).eq([input[0..2].to_vec(), input[4..6].to_vec()]));
+    // In a cut the corner that touches the tile, an edge to the west bound, and the third that was sent, behind two that the bound made.
+    let svg = picture(13);
+    assert_eq!(circles(&svg, "repeated")[0], path(&svg, "input")[0]);
+    let svg = picture(39);
+    let (input, west) = (path(&svg, "input"), path(&svg, "tile")[0][0]);
+    let crossing: Vec<_> = paths(&svg, "crossing").into_iter().map(|path| path.concat()).collect();
+    assert_eq!((crossing[0][0], crossing[0][1][0]), (input[0], west));
+    assert_eq!(crossing[1], input[2..4]);
+}
+
 /// The paths of a class, each as lines of x and y in pixels.
 fn paths(svg: &str, class: &str) -> Vec<Vec<Vec<[f64; 2]>>> {
     let line = |commands: &str| -> Vec<[f64; 2]> {
@@ -202,6 +229,44 @@ fn the_bound_that_a_cut_runs_along_is_marked() {
         let bound = if is_least { tile.reduce(f64::min) } else { tile.reduce(f64::max) };
         assert!(path(&picture, "along").iter().all(|point| Some(point[axis]) == bound), "{side}");
     }
+}
+
+/// The least and the greatest number of an axis.
+fn extent(points: &[[f64; 2]], axis: usize) -> [f64; 2] {
+    let numbers = || points.iter().map(|point| point[axis]);
+    [numbers().fold(INF, f64::min), numbers().fold(-INF, f64::max)]
+}
+
+#[test]
+fn with_a_buffer_its_bound_is_marked() {
+    let cases = [
+        ("east", 11., square(5., 4., 15., 6.), 0, 1),
+        ("west", -1., square(-5., 4., 5., 6.), 0, 0),
+        ("south", -1., square(4., -5., 6., 5.), 1, 1),
+        ("north", 11., square(4., 5., 6., 15.), 1, 0),
+    ];
+    for (side, number, ring, axis, end) in cases {
+        let bridge = frame(Kind::Polygon, Flags::default(), TILE, 1., &[&[&ring]]);
+        assert_says(&bridge, "flags 0: none; buffer 1");
+        let svg = draw(1, &bridge).output;
+        assert_eq!(marks(&svg), marked("along", &format!("{side} bound with the buffer, {number}")));
+        let bound = extent(&path(&svg, "buffer"), axis)[end];
+        assert_eq!(extent(&path(&svg, "along"), axis), [bound; 2]);
+        assert_eq!(extent(&path(&svg, "along"), 1 - axis), extent(&path(&svg, "buffer"), 1 - axis));
+        assert_ne!(extent(&path(&svg, "tile"), axis)[end], bound);
+    }
+}
+
+#[test]
+fn with_a_buffer_a_cut_runs_along_its_bounds() {
+    let svg = draw(1, &polygon(TILE, 1., &square(5., 5., 30., 30.))).output;
+    // The cut begins where it leaves the north bound.
+    assert_eq!(outline(&svg), ["border", "edge"]);
+    let buffer = path(&svg, "buffer");
+    let ([_, east], [north, _]) = (extent(&buffer, 0), extent(&buffer, 1));
+    let [x, y] = path(&svg, "input")[0];
+    assert_eq!(path(&svg, "border"), [[x, north], [x, y], [east, y]]);
+    assert_eq!(path(&svg, "edge"), [[east, y], [east, north], [x, north]]);
 }
 
 /// An element of an SVG, with the text that stands in it.
@@ -476,6 +541,23 @@ fn a_cut_that_holds_no_number_is_said_to() {
 }
 
 #[test]
+fn what_was_dropped_is_said_as_far_as_it_is_known() {
+    let flags = Flags { assume_simple: true, skip_boundary_fallback: true };
+    let said = |parts: &[&[&[f64]]], sentence: &str| {
+        assert_says(&frame(Kind::MultiPolygon, flags, TILE, 0., parts), sentence);
+    };
+    let cut: &[&[f64]] = &[&[2., 2., 1e300, 2., 3., 5.]];
+    let dropped: &[&[f64]] = &[&[5., 5., 5., 5., 1e300, 5., 6., 8.]];
+    let apart: &[&[f64]] = &[&[1e300, 1e300, 1.1e300, 1e300, 1e300, 1.1e300]];
+    said(&[cut, dropped], "part 0: cut part 1: dropped: an overlay is wanted, and a coordinate is too large for it");
+    said(&[dropped, apart], "parts 0 and 1: nothing is left in the tile, or dropped; 1 part dropped in all");
+    said(
+        &[&[SQUARE, SQUARE, &[3., 3., NAN, 3., 4., 4.]]],
+        "dropped as a whole: corner 1 of hole 2 of part 0 is not finite",
+    );
+}
+
+#[test]
 fn many_parts_are_said_and_labelled_as_far_as_there_is_room() {
     let flags = Flags::default();
     let multipolygon = |parts: &[&[&[f64]]]| frame(Kind::MultiPolygon, flags, TILE, 0., parts);
@@ -486,6 +568,12 @@ fn many_parts_are_said_and_labelled_as_far_as_there_is_room() {
     let rings: Vec<[&[f64]; 1]> = squares.iter().map(|square| [&square[..]]).collect();
     let parts: Vec<&[&[f64]]> = rings.iter().map(|rings| &rings[..]).collect();
     assert_says(&multipolygon(&parts), "a number in an area, or beside a small one, is that of the part");
+    let labels = |count: usize| -> Vec<String> {
+        let svg = draw(1, &multipolygon(&parts[..count])).output;
+        elements(&svg).into_iter().filter(|element| element.class() == "part").map(|label| label.text).collect()
+    };
+    assert_eq!(labels(21), (0..21).map(|number| number.to_string()).collect::<Vec<_>>());
+    assert!(labels(20).iter().all(|label| label.starts_with("part ")));
     // One number has room in it, and four beside it.
     assert_says(&multipolygon(&[parts[0]; 40]), "parts without a label, for want of room: 35");
     let holes: Vec<&[f64]> = [SQUARE].into_iter().chain(squares.iter().map(|square| &square[..]).take(63)).collect();
