@@ -254,6 +254,10 @@ fn with_a_buffer_its_bound_is_marked() {
         assert_eq!(extent(&path(&svg, "along"), axis), [bound; 2]);
         assert_eq!(extent(&path(&svg, "along"), 1 - axis), extent(&path(&svg, "buffer"), 1 - axis));
         assert_ne!(extent(&path(&svg, "tile"), axis)[end], bound);
+        // Bold letters of 12 pixels are 7.6 wide or less, as a rule.
+        let label = elements(&svg).into_iter().find(|element| element.class() == "mark").unwrap();
+        let half = 3.8 * label.text.len() as f64;
+        assert!((half..480. - half).contains(&label.place(["x", "y"])[0]), "{}", label.text);
     }
 }
 
@@ -502,6 +506,8 @@ fn the_legend_has_what_is_drawn() {
     assert_eq!(legend_of(small, 0., &around), ["tile", "cut", "cut, not a border", "made by a bound"]);
     assert_eq!(legend_of(small, 1000., &around), ["tile", "unchanged"]);
     assert_eq!(legend_of(small, 0., &[]), ["tile"]);
+    // A line that runs ten pixels beyond the drawing is behind its rim, which is eight wide.
+    assert_eq!(legend_of(TILE, 0., &square(15.375, 2., 1000., 8.)), ["tile"]);
     // A large area of which only a corner is in the picture is no small one, and neither is a slender one.
     let [tiny, hidden, slender] = [2.0001, 500., 8.].map(|end| [2., 2., end, 2., end, 2.0001, 2., 2.0001]);
     assert_eq!(legend_of(TILE, 0., &tiny), ["tile", "input outline", "a very small area", "unchanged"]);
@@ -526,6 +532,9 @@ fn what_is_marked_beyond_the_picture_is_said() {
     said(&crossing, "edge 3 lies beyond the picture, from (100,300) to (300,5.5)");
     let bridge = frame(Kind::Polygon, flags, TILE, 1000., &[&[&[5., 5., 2000., 5., 2000., 8., 5., 8.]]]);
     said(&bridge, "the east bound, with the buffer at 1010, lies beyond the picture");
+    let touching = polygon(TILE, 1000., &square(1010., 1010., 1020., 1020.));
+    said(&touching, "corner 0 of the cut lies beyond the picture, at (1010,1010)");
+    said(&frame(kind, flags, TILE, 0., &[parts[1]; 7]), "and 3 more that can't be shown");
     // The picture ends at a corner, whose distance from the tile is not exact, and the corner is in it.
     let at_end = polygon([-0.5, -0.5, 0.096, 0.096], 0., &[0., 0., 0.44, 0., 0.44, 0.44, 0.44, 0.44, 0., 0.44]);
     assert_eq!(marks(&draw(1, &at_end).output), marked("repeated", "2"));
@@ -537,7 +546,9 @@ fn a_cut_that_holds_no_number_is_said_to() {
     assert_says(&nan, "a corner of the cut of part 0 is not a number");
     assert_eq!(legend(&draw(1, &nan).output)[..3], ["tile", "input outline", "border"]);
     let huge = polygon([-1e300, -1e300, 1e300, 1e300], 0., &[0., 0., 1e200, 0., 5., 5., 0., 5.]);
-    assert_eq!(legend(&draw(1, &huge).output), ["input outline", "unchanged"]);
+    let huge = draw(1, &huge).output;
+    assert_eq!(legend(&huge), ["input outline", "unchanged"]);
+    assert_eq!(paths(&huge, "unchanged broken"), paths(&huge, "input"));
 }
 
 #[test]
@@ -568,12 +579,17 @@ fn many_parts_are_said_and_labelled_as_far_as_there_is_room() {
     let rings: Vec<[&[f64]; 1]> = squares.iter().map(|square| [&square[..]]).collect();
     let parts: Vec<&[&[f64]]> = rings.iter().map(|rings| &rings[..]).collect();
     assert_says(&multipolygon(&parts), "a number in an area, or beside a small one, is that of the part");
-    let labels = |count: usize| -> Vec<String> {
-        let svg = draw(1, &multipolygon(&parts[..count])).output;
+    let labels = |parts: &[&[&[f64]]]| -> Vec<String> {
+        let svg = draw(1, &multipolygon(parts)).output;
         elements(&svg).into_iter().filter(|element| element.class() == "part").map(|label| label.text).collect()
     };
-    assert_eq!(labels(21), (0..21).map(|number| number.to_string()).collect::<Vec<_>>());
-    assert!(labels(20).iter().all(|label| label.starts_with("part ")));
+    assert_eq!(labels(&parts[..21]), (0..21).map(|number| number.to_string()).collect::<Vec<_>>());
+    assert!(labels(&parts[..20]).iter().all(|label| label.starts_with("part ")));
+    // Beside a small part in a large one a number would be taken for that of the large one.
+    let specks = [0; 21].map(|_| [&[3., 3., 3.01, 3., 3., 3.01][..]]);
+    let around = [&[SQUARE][..]].into_iter().chain(specks.iter().map(|speck| &speck[..])).collect::<Vec<_>>();
+    assert_eq!(labels(&around), ["0"]);
+    assert_eq!(labels(&around[..2]), ["part 0", "part 1"]);
     // One number has room in it, and four beside it.
     assert_says(&multipolygon(&[parts[0]; 40]), "parts without a label, for want of room: 35");
     let holes: Vec<&[f64]> = [SQUARE].into_iter().chain(squares.iter().map(|square| &square[..]).take(63)).collect();

@@ -2,13 +2,13 @@
 
 use std::fmt::{self, Display, Formatter};
 
-use ringcut::{Bounds, Frame};
+use ringcut::Frame;
 
 use crate::canvas::Canvas;
 use crate::legend::Entry;
 use crate::room::Shape;
 use crate::shared::number;
-use crate::view::{bounds_of, is_placeable, Pixel, Point, View};
+use crate::view::{bounds_of, is_placeable, Point, View};
 
 /// The class of the circle around an area that is too small to be seen, in the legend too, and its radius in pixels.
 pub const CIRCLED: &str = "speck";
@@ -75,6 +75,11 @@ pub fn shape(view: &View, rings: &[Ring]) -> Shape {
     }
 }
 
+/// Draws the area between rings, exterior first. Answers the legend's entry for it, if any of it is in the picture.
+pub fn draw(canvas: &mut Canvas, view: &View, entry: Entry, rings: &[Ring]) -> Option<Entry> {
+    canvas.area(entry.0, &shape(view, rings)).then_some(entry)
+}
+
 pub fn is_whole(ring: &Ring) -> bool {
     ring.iter().all(|&point| is_placeable(point))
 }
@@ -94,18 +99,13 @@ pub fn draw_speck(canvas: &mut Canvas, view: &View, rings: &[Ring]) -> Option<En
         return None;
     }
     let bounds = bounds_of(rings.iter().flatten().copied())?;
-    let ((left, bottom), (right, top)) = corners(view, bounds);
+    let ((left, bottom), (right, top)) = view.corners(bounds);
     if right - left >= SPECK || bottom - top >= SPECK {
         return None;
     }
-    let ((left, bottom), (right, top)) = corners(view, view.shown(bounds)?);
+    let ((left, bottom), (right, top)) = view.corners(view.shown(bounds)?);
     canvas.circle(CIRCLED, ((left + right) / 2.0, (top + bottom) / 2.0), RADIUS);
     Some((CIRCLED, "a very small area"))
-}
-
-/// The lower left and the upper right of bounds, in pixels.
-pub fn corners(view: &View, Bounds { west, south, east, north }: Bounds) -> (Pixel, Pixel) {
-    (view.pixel([west, south]), view.pixel([east, north]))
 }
 
 /// The ring as a call takes it: where its last coordinate does not equal its first, this one is appended.

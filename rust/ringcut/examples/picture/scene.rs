@@ -85,7 +85,7 @@ impl Scene<'_> {
         self.canvas.finish(title, end + 4.0)
     }
 
-    /// The title, the flags and the answer, and where they end.
+    /// The title, the flags with the buffer, and the answer; answers where they end.
     fn draw_words(&mut self, title: &str) -> f64 {
         let mut base_line = 6.0;
         for line in title_lines(title) {
@@ -167,19 +167,12 @@ impl Scene<'_> {
         }
     }
 
-    /// Draws the area between rings with its entry in the legend, if any of it is in the picture.
-    fn draw_area(&mut self, view: &View, entry: Entry, rings: &[Ring]) {
-        if self.canvas.area(entry.0, &area::shape(view, rings)) {
-            self.legend.push(entry);
-        }
-    }
-
     fn draw_unchanged(&mut self, view: &View, number: usize) {
-        let rings = self.parts[number].clone();
-        self.draw_area(view, ("unchanged", "unchanged"), &rings);
-        if !rings.iter().all(area::is_whole) && area::draw_outlines(&mut self.canvas, view, "unchanged broken", &rings)
-        {
-            self.legend.push(("unchanged", "unchanged"));
+        let (rings, entry) = (&self.parts[number], ("unchanged", "unchanged"));
+        self.legend.extend(area::draw(&mut self.canvas, view, entry, rings));
+        let is_whole = rings.iter().all(area::is_whole);
+        if !is_whole && area::draw_outlines(&mut self.canvas, view, "unchanged broken", rings) {
+            self.legend.push(entry);
         }
     }
 
@@ -187,11 +180,12 @@ impl Scene<'_> {
         match answer {
             PartAnswer::Unchanged => self.draw_unchanged(view, number),
             PartAnswer::Cut(rings) => {
-                self.draw_cut(view, number, &rings.map(|ring| ring.iter().collect()).collect::<Vec<_>>())
+                let rings: Vec<Vec<Vertex>> = rings.map(|ring| ring.iter().collect()).collect();
+                self.draw_cut(view, number, &rings);
             }
             PartAnswer::Overlay(_) => {
-                let rings = self.parts[number].clone();
-                self.draw_area(view, ("overlay", "overlay wanted"), &rings);
+                let entry = ("overlay", "overlay wanted");
+                self.legend.extend(area::draw(&mut self.canvas, view, entry, &self.parts[number]));
             }
         }
     }
@@ -199,7 +193,7 @@ impl Scene<'_> {
     fn draw_cut(&mut self, view: &View, number: usize, rings: &[Vec<Vertex>]) {
         let areas: Vec<Ring> =
             rings.iter().map(|ring| ring.iter().map(|&corner| outline::point(corner)).collect()).collect();
-        self.draw_area(view, ("cut", "cut"), &areas);
+        self.legend.extend(area::draw(&mut self.canvas, view, ("cut", "cut"), &areas));
         self.legend.extend(outline::draw(&mut self.canvas, view, self.widened, rings));
         if let Some(point) = areas.iter().flatten().find(|&&point| !is_placeable(point)) {
             let is_nan = point.iter().any(|number| number.is_nan());
@@ -235,7 +229,7 @@ impl Scene<'_> {
     fn label_tile(&mut self, view: &View) {
         let Some(tile) = drawable(self.frame.bounds).and_then(|tile| view.shown(tile)) else { return };
         let Bounds { west, south, east, north } = self.frame.bounds;
-        let ((left, bottom), (right, top)) = (view.pixel([tile.west, tile.south]), view.pixel([tile.east, tile.north]));
+        let ((left, bottom), (right, top)) = view.corners(tile);
         let [west, south, east, north] = [west, south, east, north].map(number::text);
         // Where the tile is small, the numbers of two opposite bounds move apart.
         let apart = ((width_of("small", &west) + width_of("small", &east)) / 2.0 + 6.0 - (right - left)).max(0.0) / 2.0;
@@ -263,7 +257,7 @@ impl Scene<'_> {
         let points = self.parts[number].iter().flatten().copied();
         let Some(shown) = bounds_of(points).and_then(|bounds| view.shown(bounds)) else { return };
         let words = if self.parts.len() > MANY { number.to_string() } else { format!("part {number}") };
-        let ((left, bottom), (right, top)) = area::corners(view, shown);
+        let ((left, bottom), (right, top)) = view.corners(shown);
         let width = width_of("part", &words);
         let place = Place { left, top, width: right - left, height: bottom - top };
         let mut places = room::places_in(shape, others, place, width);

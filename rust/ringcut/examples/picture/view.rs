@@ -108,6 +108,11 @@ impl View {
         (self.place.left + right * self.place.width, self.place.top + down * self.place.height)
     }
 
+    /// The lower left and the upper right of bounds.
+    pub fn corners(&self, Bounds { west, south, east, north }: Bounds) -> (Pixel, Pixel) {
+        (self.pixel([west, south]), self.pixel([east, north]))
+    }
+
     pub fn shows(&self, [x, y]: Point) -> bool {
         let Bounds { west, south, east, north } = self.window;
         (west..=east).contains(&x) && (south..=north).contains(&y)

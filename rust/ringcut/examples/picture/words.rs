@@ -8,7 +8,7 @@ use crate::area::Misfit;
 use crate::shared::{self, number};
 use crate::view::{drawable, View};
 
-/// More sentences on parts, more numbers in one and more corners that can't be drawn are only counted.
+/// More sentences on parts, more numbers in one, more corners that can't be drawn and more of what is left out are only counted.
 const MOST_SENTENCES: usize = 10;
 const MOST_NUMBERS: usize = 12;
 const MOST_CORNERS: usize = 3;
@@ -181,7 +181,7 @@ pub fn first_of(left_out: &[String]) -> Vec<String> {
     let more = notes.len().saturating_sub(MOST_LEFT_OUT);
     notes.truncate(MOST_LEFT_OUT);
     if more > 0 {
-        notes.push(format!("{} more left out", counted(more, "sentence")));
+        notes.push(format!("and {more} more that can't be shown"));
     }
     notes
 }
