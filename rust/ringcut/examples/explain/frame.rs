@@ -2,7 +2,7 @@
 
 use ringcut::{Bounds, Frame, FrameAnswer, Kind, Refusal, Ring};
 
-use crate::shared::{lines, number, words};
+use crate::shared::{lines, number, ring, words};
 use crate::{wkt, Explained};
 
 const IS_ANSWER: &str = "it is an answer: `explain answers` says it";
@@ -65,11 +65,7 @@ fn as_wkt(frame: &Frame) -> Vec<String> {
     }
 }
 
-/// The ring as a call takes it: where its last coordinate does not equal its first, this one is appended.
+/// The ring as a call takes it.
 fn closed(ring: Ring<[f64; 2]>) -> wkt::Ring {
-    let mut coordinates: wkt::Ring = ring.iter().collect();
-    if coordinates.first() != coordinates.last() {
-        coordinates.push(coordinates[0]);
-    }
-    coordinates
+    ring::closed(&ring.iter().collect::<wkt::Ring>())
 }

@@ -7,7 +7,7 @@ use ringcut::Frame;
 use crate::canvas::Canvas;
 use crate::legend::Entry;
 use crate::room::Shape;
-use crate::shared::number;
+use crate::shared::{number, ring};
 use crate::view::{bounds_of, is_placeable, Point, View};
 
 /// The class of the circle around an area that is too small to be seen, in the legend too, and its radius in pixels.
@@ -88,7 +88,7 @@ pub fn is_whole(ring: &Ring) -> bool {
 pub fn draw_outlines(canvas: &mut Canvas, view: &View, class: &str, rings: &[Ring]) -> bool {
     let mut lines = Vec::new();
     for ring in rings {
-        closed(ring).split(|&point| !is_placeable(point)).for_each(|line| lines.extend(view.stretches(line)));
+        ring::closed(ring).split(|&point| !is_placeable(point)).for_each(|line| lines.extend(view.stretches(line)));
     }
     canvas.lines(class, &lines)
 }
@@ -106,13 +106,4 @@ pub fn draw_speck(canvas: &mut Canvas, view: &View, rings: &[Ring]) -> Option<En
     let ((left, bottom), (right, top)) = view.corners(view.shown(bounds)?);
     canvas.circle(CIRCLED, ((left + right) / 2.0, (top + bottom) / 2.0), RADIUS);
     Some((CIRCLED, "a very small area"))
-}
-
-/// The ring as a call takes it: where its last coordinate does not equal its first, this one is appended.
-pub fn closed(ring: &[Point]) -> Ring {
-    let mut closed = ring.to_vec();
-    if closed.first() != closed.last() {
-        closed.push(closed[0]);
-    }
-    closed
 }

@@ -3,10 +3,10 @@
 
 use ringcut::{Bounds, Edge, Issue, Reason};
 
-use crate::area::{closed, Ring};
+use crate::area::Ring;
 use crate::canvas::Canvas;
 use crate::legend::Entry;
-use crate::shared::number;
+use crate::shared::{number, ring};
 use crate::text::{moved_inside, width_of, Labels, MARK};
 use crate::view::{bounds_of, cut_to, is_placeable, Pixel, Point, View};
 
@@ -40,8 +40,8 @@ pub struct Marked {
 pub fn draw(canvas: &mut Canvas, view: &View, labels: &mut Labels, told: &Told) -> Marked {
     let (ring, issue) = match told.reason {
         Reason::Bridge(edge) => return mark_bound(canvas, view, labels, told, edge),
-        Reason::Input(issue) => (closed(told.exterior), issue),
-        Reason::Cut(issue) => (cut_to(told.bounds, &closed(told.exterior)), issue),
+        Reason::Input(issue) => (ring::closed(told.exterior), issue),
+        Reason::Cut(issue) => (cut_to(told.bounds, &ring::closed(told.exterior)), issue),
     };
     let of_cut = matches!(told.reason, Reason::Cut(_));
     let of = format!("{}{}", if of_cut { " of the cut" } else { "" }, told.of_part);

@@ -2,7 +2,7 @@
 
 use std::collections::BTreeSet;
 
-use ringcut::{Bounds, Frame, FrameAnswer, PartAnswer, Reason};
+use ringcut::{Bounds, Frame, FrameAnswer, PartAnswer};
 
 use crate::area::Misfit;
 use crate::shared::{self, number};
@@ -104,9 +104,6 @@ fn of_part(answer: PartAnswer) -> String {
     match answer {
         PartAnswer::Unchanged => "unchanged".to_string(),
         PartAnswer::Cut(_) => "cut".to_string(),
-        PartAnswer::Overlay(Reason::Bridge(edge)) => {
-            format!("an overlay is wanted: the cut runs along the {} bound", edge.side())
-        }
         PartAnswer::Overlay(reason) => format!("an overlay is wanted: {reason}"),
     }
 }

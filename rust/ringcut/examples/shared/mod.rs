@@ -2,4 +2,5 @@
 
 pub mod lines;
 pub mod number;
+pub mod ring;
 pub mod words;
