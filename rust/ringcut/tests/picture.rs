@@ -240,7 +240,7 @@ fn extent(points: &[[f64; 2]], axis: usize) -> [f64; 2] {
 #[test]
 fn with_a_buffer_its_bound_is_marked() {
     let cases = [
-        ("east", 11., square(5., 4., 15., 6.), 0, 1),
+        ("east", 11., square(5., 4., 11.5, 6.), 0, 1),
         ("west", -1., square(-5., 4., 5., 6.), 0, 0),
         ("south", -1., square(4., -5., 6., 5.), 1, 1),
         ("north", 11., square(4., 5., 6., 15.), 1, 0),
