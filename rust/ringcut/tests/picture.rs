@@ -586,7 +586,7 @@ fn many_parts_are_said_and_labelled_as_far_as_there_is_room() {
     assert_eq!(labels(&parts[..21]), (0..21).map(|number| number.to_string()).collect::<Vec<_>>());
     assert!(labels(&parts[..20]).iter().all(|label| label.starts_with("part ")));
     // Beside a small part in a large one a number would be taken for that of the large one.
-    let specks = [0; 21].map(|_| [&[3., 3., 3.01, 3., 3., 3.01][..]]);
+    let specks = [0; 21].map(|_| [&[5., 5., 5.01, 5., 5., 5.01][..]]);
     let around = [&[SQUARE][..]].into_iter().chain(specks.iter().map(|speck| &speck[..])).collect::<Vec<_>>();
     assert_eq!(labels(&around), ["0"]);
     assert_eq!(labels(&around[..2]), ["part 0", "part 1"]);

@@ -11,6 +11,10 @@ type Stretch = (f64, f64);
 /// How far a label reaches up and down from its middle.
 const HALF_HEIGHT: f64 = 7.0;
 
+/// Pixels that a label leaves free to the sides of another area's corner, and above and below it, where that area's label may stand.
+const ASIDE: f64 = 5.0;
+const ABOVE: f64 = 20.0;
+
 /// How many horizontal lines are tried on each side of the middle.
 const LINES: i32 = 5;
 
@@ -41,13 +45,17 @@ pub fn is_apart((x, y): Pixel, width: f64, shapes: &[&Shape]) -> bool {
     rows.iter().all(|&y| shapes.iter().all(|shape| common(vec![label], &stretches(shape, y)).is_empty()))
 }
 
-/// The stretches along which the height of a label whose middle is at `y` lies in the area and in none of the others.
+/// The stretches along which the height of a label whose middle is at `y` lies in the area, in none of the others and over no corner of
+/// theirs: one that is very small may lie between the three lines that are looked at.
 fn room_at(shape: &Shape, others: &[&Shape], y: f64) -> Vec<Stretch> {
     let [above, middle, below] = [y - HALF_HEIGHT, y, y + HALF_HEIGHT].map(|y| {
         let taken = others.iter().flat_map(|other| stretches(other, y));
         taken.fold(stretches(shape, y), without)
     });
-    common(common(above, &middle), &below)
+    let room = common(common(above, &middle), &below);
+    let corners = others.iter().flat_map(|other| other.iter().flatten());
+    let hidden = corners.filter(|corner| (corner.1 - y).abs() < HALF_HEIGHT + ABOVE);
+    hidden.map(|corner| (corner.0 - ASIDE, corner.0 + ASIDE)).fold(room, without)
 }
 
 /// The stretches of a horizontal line that lie in an area.

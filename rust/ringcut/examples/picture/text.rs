@@ -12,7 +12,7 @@ const CHARACTER: f64 = 6.4;
 const BOLD_CHARACTER: f64 = 7.6;
 const LABEL_HEIGHT: f64 = 13.0;
 
-/// The lines of a title, and the room for one as a multiple of the letters' height; what goes on behind them is `..`.
+/// The most lines of a title, and the room in one as a multiple of the letters' height. A title that goes on ends with two dots.
 const TITLE_LINES: usize = 3;
 const TITLE_ROOM: f64 = 30.0;
 
