@@ -1,11 +1,15 @@
 //! What cargo and rustc say of the crate where it can't be linked: for other targets, without the library, and where
-//! RINGCUT_LIB_DIR names no folder.
+//! RINGCUT_LIB_DIR names no folder. Blanks in the names of folders are there to be met.
+
+mod folders;
 
 use std::ffi::OsStr;
 use std::fs;
 use std::os::unix::ffi::OsStrExt;
-use std::path::{Path, PathBuf};
+use std::path::Path;
 use std::process::Command;
+
+use folders::new_folder;
 
 /// What stands in the message of build.rs, and in that of src/lib.rs.
 const WHAT_FOR: &str = "the library is for x86-64 Linux, with 64-bit pointers and doubles in SSE2 registers";
@@ -19,16 +23,6 @@ const REFUSED: [&str; 6] = [
     "x86_64-apple-darwin",
     "i686-unknown-linux-gnu",
 ];
-
-/// A new folder for one test. The blanks in its name are there to be met.
-fn new_folder(name: &str) -> PathBuf {
-    let folder = Path::new(env!("CARGO_TARGET_TMPDIR")).join(name);
-    if folder.exists() {
-        fs::remove_dir_all(&folder).unwrap();
-    }
-    fs::create_dir_all(&folder).unwrap();
-    folder
-}
 
 /// A command of cargo's, as it is where the caller has set nothing, with the folder that it builds in.
 fn cargo(command: &str, built: &Path) -> Command {

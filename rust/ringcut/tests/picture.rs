@@ -2,13 +2,15 @@
 //! of the repository's examples; that every frame, however odd, gets an SVG that is one; and what it does with wrong use.
 
 mod examples;
+mod folders;
 mod hexadecimal;
 
 use std::collections::BTreeSet;
 use std::fs;
-use std::path::{Path, PathBuf};
+use std::path::Path;
 
 use examples::{digits, example, run, Ran, ROOT};
+use folders::new_folder;
 use hexadecimal::{bytes_of, lines_of};
 use ringcut::{
     is_along_tile, Bounds, Flags, Frame, FrameAnswer, FrameBuilder, Kind, PartAnswer, Refusal, Vertex, LONGEST_FRAME,
@@ -21,16 +23,6 @@ const INF: f64 = f64::INFINITY;
 
 fn read(name: &str) -> String {
     fs::read_to_string(format!("{ROOT}/examples/{name}")).unwrap()
-}
-
-/// A new folder for one test.
-fn new_folder(name: &str) -> PathBuf {
-    let folder = Path::new(env!("CARGO_TARGET_TMPDIR")).join(name);
-    if folder.exists() {
-        fs::remove_dir_all(&folder).unwrap();
-    }
-    fs::create_dir_all(&folder).unwrap();
-    folder
 }
 
 fn names_in(folder: impl AsRef<Path>) -> BTreeSet<String> {
