@@ -8,13 +8,13 @@ use crate::raw;
 /// of them is left over from another build.
 pub const VERSION: Version = Version { major: 1, minor: 0, patch: 0 };
 
-/// A version, as the repository's CHANGELOG.md lists them. As text it is `1.0.0`.
+/// A version, as the repository's CHANGELOG.md lists them. As text it is its three numbers with dots between.
 ///
 /// ```
-/// use ringcut::{library_version, VERSION};
+/// use ringcut::{library_version, Version, VERSION};
 ///
 /// assert_eq!(library_version(), VERSION);
-/// assert_eq!(format!("{VERSION}"), "1.0.0");
+/// assert_eq!(Version { major: 12, minor: 34, patch: 5 }.to_string(), "12.34.5");
 /// ```
 #[derive(Clone, Copy, Debug, PartialEq, Eq, PartialOrd, Ord, Hash)]
 pub struct Version {
