@@ -1,18 +1,13 @@
 -- `is_same` meets its contract. The invariant: the verdict on all is that on the bytes that are left. Assumes nothing.
-use mathlib.Core.Path.{_≡_, refl, sym, _∙_}
-use mathlib.Core.Bool.{true, false}
-use mathlib.Core.List.{List, [], _∷_}
-use Prim.Native.Nat.{ℕ, suc, _+_, _-_, _<_, _≤_}
-use native.Mathlib.Omega.{arith}
+use mathlib.Core.Path.{_≡_, sym, _∙_}
+use Prim.Native.Nat.{_-_, _≤_}
 use borrow.Author.Needs.{needs}
 use denote.Ref.{now}
-use lib.ListN.{length, getD, drop}
+use lib.ListN.{length, drop}
 use Rattle.ringcut.specs.Contracts.{sameBytes}
 use Rattle.ringcut.proofs.SameBytes.{other-length, other-here, same-here, none-left}
 use Rattle.ringcut.proofs.arguments.is_same.Statement.{statement}
 use Rattle.ringcut.proofs.arguments.is_same.Tie as tie
-use Rattle.ringcut.proofs.arguments.is_same.Reads as reads
-use Rattle.ringcut.proofs.arguments.is_same.Lts as lts
 
 abbrev Inv-loop : tie.InvT-loop
 Inv-loop a b i₀ i = (i ≤ length a) × (sameBytes a b ≡ sameBytes (drop i a) (drop i b))
