@@ -1,0 +1,442 @@
+#!/usr/bin/env python3
+"""Turns a crate's proofs/F/Proof.antt over `Tie`, as older Rattles had them, into Invariants.antt and Answers.antt.
+
+usage: python3 tools/answers.py CRATE [FUNCTION..]      at the top of the repository; FUNCTION is a folder below proofs/, as slices/copy
+
+Run `rt check --generated /tmp/names-CRATE --old-names` in the crate first: its names.json has each goal's old and new name. An answer that
+only searches is left out, since the check searches by itself. The old file goes to /tmp/old-proofs/CRATE/. What a proof still lacks the
+check says.
+"""
+import json
+import os
+import re
+import shutil
+import subprocess
+import sys
+
+NAME = r"[^\s(){}\[\];,.:]+"
+
+
+def norm(s):
+    return s.replace("-", "_")
+
+
+def clauses_of(root):
+    """For each function its clauses: by its path crate::module::f the names of its requires and of its ensures."""
+    found = {}
+    for crate in sorted(os.listdir(os.path.join(root, "crates"))):
+        src = os.path.join(root, "crates", crate, "src")
+        if not os.path.isdir(src):
+            continue
+        for folder, _, files in os.walk(src):
+            for f in files:
+                if not f.endswith(".rt"):
+                    continue
+                rel = os.path.relpath(os.path.join(folder, f), src)[:-3]
+                module = [] if rel in ("lib", "main") else rel.split(os.sep)
+                impl = None
+                name = None
+                with open(os.path.join(folder, f), encoding="utf-8") as it:
+                    for line in it:
+                        m = re.match(r"impl (?:\w+ for )?(\w+)", line)
+                        if m:
+                            impl = m.group(1)
+                        if line.startswith("}"):
+                            impl = None
+                        m = re.match(r"(\s*)(?:pub )?(?:unsafe )?(?:extern \"C\" )?fn (\w+)", line)
+                        if m:
+                            parts = [crate] + module + ([impl] if impl and m.group(1) else []) + [m.group(2)]
+                            name = "::".join(parts)
+                            found[name] = ([], [])
+                        m = re.match(r"\s+(requires|ensures)(?:\s+([\w]+))?\s*\{", line)
+                        if m and name:
+                            found[name][0 if m.group(1) == "requires" else 1].append(m.group(2))
+    return found
+
+
+def split_decls(text):
+    """The head, the use lines and the declarations, each with its comment, its lines and its name."""
+    lines = text.splitlines()
+    uses, decls, comment, head = [], [], [], []
+    i = 0
+    while i < len(lines) and lines[i].startswith("--"):
+        head.append(lines[i])
+        i += 1
+    while i < len(lines):
+        l = lines[i]
+        if l.startswith("use ") or l.startswith("pub use "):
+            uses.append(l)
+            i += 1
+        elif not l.strip():
+            i += 1
+            if comment:
+                comment.append("")
+        elif l.startswith("--"):
+            comment.append(l)
+            i += 1
+        else:
+            m = re.match(rf"(?:(?:abbrev|unfoldable|pub) )*({NAME})", l)
+            name = m.group(1)
+            body = [l]
+            i += 1
+            while i < len(lines) and (not lines[i].strip() or lines[i].startswith((" ", ")", "unfolding")) or re.match(rf"{re.escape(name)}(?![^\s(){{}}\[\];,.:])", lines[i])):
+                body.append(lines[i])
+                i += 1
+            while body and not body[-1].strip():
+                body.pop()
+            decls.append({"comment": [c for c in comment], "lines": body, "name": name})
+            comment = []
+    return head, uses, decls
+
+
+def split_top(s, sep=","):
+    """Splits a text at separators outside brackets."""
+    out, depth, last = [], 0, 0
+    for i, ch in enumerate(s):
+        if ch in "([{":
+            depth += 1
+        elif ch in ")]}":
+            depth -= 1
+        elif ch == sep and depth == 0:
+            out.append(s[last:i])
+            last = i + 1
+    out.append(s[last:])
+    return [p.strip() for p in out if p.strip()]
+
+
+def whole_tuple(s):
+    s = s.strip()
+    if not s.startswith("("):
+        return None
+    depth = 0
+    for i, ch in enumerate(s):
+        if ch in "([{":
+            depth += 1
+        elif ch in ")]}":
+            depth -= 1
+            if depth == 0 and i < len(s) - 1:
+                return None
+    parts = split_top(s[1:-1])
+    return parts if len(parts) > 1 else None
+
+
+def by_clause(expr, names):
+    """The parts of nested pairs, one for each clause."""
+    if len(names) == 1:
+        return [expr]
+    parts = whole_tuple(expr)
+    if parts is None:
+        return None
+    if len(parts) == 2:
+        rest = by_clause(parts[1], names[1:])
+        return None if rest is None else [parts[0]] + rest
+    return parts if len(parts) == len(names) else None
+
+
+def body_split(body):
+    """(lets, final): the final expression of a body behind its last `in` outside brackets."""
+    depth, at = 0, 0
+    for m in re.finditer(r"[(\[{]|[)\]}]|(?<!\S)in(?=[\s(])", body):
+        t = m.group(0)
+        if t in "([{":
+            depth += 1
+        elif t in ")]}":
+            depth -= 1
+        elif depth == 0:
+            at = m.end()
+    return body[:at], body[at:]
+
+
+class Function:
+    def __init__(self, info, path, crate, clauses):
+        self.info = info
+        self.crate = crate
+        self.clauses = clauses
+        self.path = path
+        self.places = {p[0]: p for p in info["places"]}
+        self.new_place = dict(zip([p[0] for p in info["places"]], info["places_by_name"]))
+        self.needs = {norm(o): (n, a) for (o, n), a in zip(info["needs"], info["asked_at"] + [None] * len(info["needs"]))}
+
+    def chain(self, place):
+        out = []
+        while place and place in self.places:
+            p = self.places[place]
+            out.append(p)
+            place = p[1]
+        return out
+
+    def field(self, place, word):
+        """The new name of the step that an answer asked at place calls word, and the function it calls."""
+        for p in self.chain(place):
+            if p[2][0] and norm(p[2][0]) == norm(word):
+                return p[2][1], p[3]
+        for p in self.info["places"]:
+            if p[2][0] and norm(p[2][0]) == norm(word):
+                return p[2][1], p[3]
+        return None
+
+
+def clause_path(kind, names, rest):
+    """The path behind .requires or .ensures, with the name of the clause in place of the pairs' numbers."""
+    if len(names) < 2:
+        return rest
+    k = 0
+    while k < len(names) - 1:
+        if rest and rest[0] == "0":
+            return [names[k]] + rest[1:]
+        if rest and rest[0] == "1":
+            rest = rest[1:]
+            k += 1
+            continue
+        return None if k else rest
+    return [names[k]] + rest
+
+
+def turn_paths(body, fn, place, own):
+    """Rewrites the paths of c, and of what a let calls one of its parts."""
+    alias = {"c": ([], None)}
+
+    def resolve(base, parts):
+        prefix, callee = alias[base]
+        parts = [p for p in parts if p != "before"]
+        full = prefix + parts
+        return full
+
+    def path_new(full):
+        """full: the words behind c, without before. Returns the new words."""
+        if not full:
+            return []
+        if full[0] in ("args", "ranges", "lifetimes", "type_inv", "well_formed"):
+            return full
+        if full[0] in ("requires", "pre"):
+            q = clause_path("requires", own[0], full[1:])
+            return ["requires"] + (q if q is not None else full[1:])
+        f = fn.field(place, full[0])
+        if f is None:
+            return full
+        new, callee = f
+        rest = full[1:]
+        if rest and rest[0] in ("ensures", "requires") and callee and callee in fn.clauses:
+            names = fn.clauses[callee][1 if rest[0] == "ensures" else 0]
+            q = clause_path(rest[0], names, rest[1:])
+            rest = [rest[0]] + (q if q is not None else rest[1:])
+        return [new] + rest
+
+    def text(full):
+        new = path_new(full)
+        return "c" + "".join("." + w for w in new)
+
+    def sub(m):
+        base = m.group(1)
+        words = m.group(2)[1:].split(".") if m.group(2) else []
+        if base not in alias:
+            return m.group(0)
+        full = resolve(base, words)
+        prefix = alias[base][0]
+        if base != "c" and prefix:
+            head = path_new(prefix)
+            new = path_new(full)
+            if new[: len(head)] == head:
+                return base + "".join("." + w for w in new[len(head):])
+        return text(full)
+
+    word = re.compile(rf"(?<![^\s(\[{{,;])([a-z][^\s(){{}}\[\];,.:]*)((?:\.[^\s(){{}}\[\];,.:]+)*)")
+    # lets of plain paths first, in order
+    out, at = [], 0
+    let = re.compile(rf"let (\S+) =\s+([a-z][^\s(){{}}\[\];,.:]*)((?:\.[^\s(){{}}\[\];,.:]+)*)\s+in(?=[\s(])")
+    while True:
+        m = let.search(body, at)
+        if not m:
+            out.append(word.sub(sub, body[at:]))
+            break
+        out.append(word.sub(sub, body[at:m.start()]))
+        name, base, rest = m.group(1), m.group(2), m.group(3)
+        if base in alias:
+            full = resolve(base, rest[1:].split(".") if rest else [])
+            new = path_new(full)
+            alias[name] = (full, None)
+            if new:
+                out.append(f"let {name} = {text(full)} in")
+            else:
+                # the whole record: its name gives way to c
+                out.append("\0")
+                alias[name] = ([], None)
+                alias[name] = (full, "c")
+        else:
+            out.append(word.sub(sub, m.group(0)))
+        at = m.end()
+    res = "".join(out)
+    return re.sub(r"\0\s*", "", res)
+
+
+def turn_invariant(decl, fn, label):
+    """The clause of an invariant or a measure over the record l."""
+    for pair, flags in zip(fn.info["loops"], fn.info["changed"]):
+        if norm(pair[0][0]) == norm(label) or norm(pair[0][1]) == norm(label):
+            break
+    else:
+        return None
+    (old, new), names = pair
+    slots = [f"l.initial.{v}" if ch else f"l.{v}" for v, ch in zip(names, flags)] + [f"l.{v}" for v, ch in zip(names, flags) if ch]
+    return new, slots
+
+
+def convert(root, crate, folder, info, clauses):
+    path = os.path.join(root, "crates", crate, "proofs", folder, "Proof.antt")
+    with open(path, encoding="utf-8") as f:
+        text = f.read()
+    head, uses, decls = split_decls(text)
+    func = crate + "::" + folder.replace("/", "::").replace("+", "")
+    fn = Function(info, func, crate, clauses)
+    own = clauses.get(func, ([], []))
+    invariants, answers, helpers, said = [], [], [], []
+    for d in decls:
+        body = "\n".join(d["lines"])
+        sig = re.match(rf"(?:(?:abbrev|unfoldable|pub) )*({NAME})\s*:\s*(.*)", body, re.S)
+        if sig and re.match(r"\{M : Type 1\} → statement M", sig.group(2)):
+            continue
+        m = sig and re.match(r"tie\.(Need-|invariant-|decreases-)([\w-]+)", sig.group(2))
+        if not m:
+            helpers.append(d)
+            continue
+        kind, label = m.group(1), m.group(2)
+        lines = d["lines"]
+        k = 1
+        while k < len(lines) and not re.match(rf"{re.escape(d['name'])}(?![^\s(){{}}\[\];,.:])", lines[k]):
+            k += 1
+        unfold = [l for l in lines[1:k] if l.startswith("unfolding")]
+        clause = "\n".join(lines[k:])
+        m = re.match(rf"{re.escape(d['name'])}((?:\s+[^\s=]+)*)\s*=\s*", clause)
+        if not m:
+            said.append(f"{folder}: {d['name']} has more than one clause")
+            helpers.append(d)
+            continue
+        params, rest = m.group(1).split(), clause[m.end():]
+        if kind != "Need-":
+            found = turn_invariant(d, fn, label)
+            if not found:
+                said.append(f"{folder}: no loop {label}")
+                continue
+            new, slots = found
+            if len(slots) != len(params):
+                said.append(f"{folder}: {label} has {len(params)} names for {len(slots)} places: {' '.join(slots)}")
+            table = {p: s for p, s in zip(params, slots) if p != "_"}
+
+            def put(mm, table=table):
+                return table.get(mm.group(1), mm.group(1)) + (mm.group(2) or "")
+
+            new_body = re.sub(rf"(?<![^\s(\[{{,;])([^\s(){{}}\[\];,.:]+)((?:\.[^\s(){{}}\[\];,.:]+)*)", put, rest)
+            invariants.append((d["comment"], unfold, f"{kind}{new}", new_body))
+            continue
+        need = re.sub(r"^overflow[-_]", "", label)
+        found = fn.needs.get(norm(label)) or fn.needs.get(norm(need))
+        final = rest.strip()
+        if re.fullmatch(r"\(?search rules\)?", final) or re.fullmatch(r"\(\s*(search rules,?\s*)+\)", final):
+            continue
+        if not found:
+            said.append(f"{folder}: no goal for {label}: {final[:100]}")
+            continue
+        new, asked = found
+        if not re.match(r"^[a-z]", new):
+            said.append(f"{folder}: {label} became {new}")
+            continue
+        place = asked[0] if asked else None
+        turned = turn_paths(rest, fn, place, own)
+        if params[1:]:
+            params = params[:1]
+        lets, expr = body_split(turned)
+        names = None
+        if new.startswith("returns"):
+            names = own[1]
+        elif new.endswith("-requires") or re.search(r"-requires(-|$)", new):
+            callee = None
+            for o, n in [(p[2][0], p[2][1]) for p in info["places"]]:
+                if new.startswith(n + "-requires") and n:
+                    callee = [p[3] for p in info["places"] if p[2][1] == n][0]
+            if callee and callee in clauses:
+                names = clauses[callee][0]
+        if names and len(names) > 1:
+            parts = by_clause(expr, names)
+            if parts is None:
+                said.append(f"{folder}: {new}: {len(names)} clauses {names}, and no tuple: {expr.strip()[:80]}")
+            else:
+                fields = "\n".join(f"  {n} = {p};" for n, p in zip(names, parts))
+                turned = lets + (" " if lets else "") + "record {\n" + fields + "\n}"
+        answers.append((d["comment"], unfold, new, params[0] if params else "c", turned))
+    old = os.path.join("/tmp/old-proofs", crate, folder)
+    os.makedirs(old, exist_ok=True)
+    shutil.copy(path, os.path.join(old, "Proof.antt"))
+    os.remove(path)
+    module = f"Rattle.{crate}.proofs.{folder.replace('/', '.')}"
+    keep = [u for u in uses if not re.search(r"\.(Tie as tie|Statement\.\{statement\})$", u)]
+    where = os.path.join(root, "crates", crate, "proofs", folder)
+
+    def used(names, body):
+        return any(re.search(rf"(?<![^\s(){{}}\[\];,.:]){re.escape(n)}(?![^\s(){{}}\[\];,.:])", body) for n in names)
+
+    def imports(body):
+        out = []
+        for u in keep:
+            m = re.match(r"use (.*)\.\{(.*)\}$", u)
+            if not m:
+                out.append(u)
+                continue
+            names = []
+            for n in [x.strip() for x in m.group(2).split(",")]:
+                shown = n.split(" as ")[-1].strip()
+                op = shown.replace("◌", "").strip() if "◌" in shown else None
+                if op is not None:
+                    if op in body:
+                        names.append(n)
+                elif used([shown], body):
+                    names.append(n)
+            if names:
+                out.append(f"use {m.group(1)}.{{{', '.join(names)}}}")
+        return out
+
+    helper_text = "\n\n".join("\n".join(d["comment"] + d["lines"]) for d in helpers)
+    if invariants:
+        inv = "\n\n".join("\n".join([c for c in com if c] + [f"abbrev pub {n} : goal.{n}"] + unf + [f"{n} l = {b}"]) for com, unf, n, b in invariants)
+        need_helpers = [d for d in helpers if used([d["name"]], inv)]
+        if need_helpers:
+            said.append(f"{folder}: invariants use helpers {[d['name'] for d in need_helpers]}")
+        body = "\n\n".join(["\n".join(d["comment"] + d["lines"]) for d in need_helpers] + [inv])
+        with open(os.path.join(where, "Invariants.antt"), "w", encoding="utf-8") as f:
+            f.write("\n".join(head + imports(body) + [f"use {module}.Given as goal", "", body, ""]))
+    if answers:
+        ans = "\n\n".join("\n".join([c for c in com if c] + [f"pub {n} : goal.{n}"] + unf + [f"{n} {p} = {b}"]) for com, unf, n, p, b in answers)
+        body = (helper_text + "\n\n" if helper_text else "") + ans
+        with open(os.path.join(where, "Answers.antt"), "w", encoding="utf-8") as f:
+            f.write("\n".join(head + imports(body) + [f"use {module}.Goals as goal", "", body, ""]))
+    elif helpers:
+        said.append(f"{folder}: helpers with no answer: {[d['name'] for d in helpers]}")
+    if not invariants and not answers:
+        try:
+            os.rmdir(where)
+        except OSError:
+            pass
+    return said
+
+
+def main():
+    crate, only = sys.argv[1], sys.argv[2:]
+    root = subprocess.run(["git", "rev-parse", "--show-toplevel"], capture_output=True, text=True, check=True).stdout.strip()
+    with open(f"/tmp/names-{crate}/names.json", encoding="utf-8") as f:
+        names = json.load(f)
+    clauses = clauses_of(root)
+    base = os.path.join(root, "crates", crate, "proofs")
+    for folder, _, files in sorted(os.walk(base)):
+        if "Proof.antt" not in files:
+            continue
+        rel = os.path.relpath(folder, base)
+        if only and rel not in only:
+            continue
+        key = f"Rattle-{crate}-proofs.{rel.replace('/', '.')}.Lts"
+        if key not in names:
+            print(f"{rel}: no names ({key})")
+            continue
+        for line in convert(root, crate, rel, names[key], clauses):
+            print(line)
+
+
+main()
