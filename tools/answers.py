@@ -76,10 +76,10 @@ def split_decls(text):
             i += 1
         else:
             m = re.match(rf"(?:(?:abbrev|unfoldable|pub) )*({NAME})", l)
-            name = m.group(1)
+            name = m.group(1) if m else l
             body = [l]
             i += 1
-            while i < len(lines) and (not lines[i].strip() or lines[i].startswith((" ", ")", "unfolding")) or re.match(rf"{re.escape(name)}(?![^\s(){{}}\[\];,.:])", lines[i])):
+            while i < len(lines) and (not lines[i].strip() or lines[i].startswith((" ", ")", "}", "unfolding")) or re.match(rf"{re.escape(name)}(?![^\s(){{}}\[\];,.:])", lines[i])):
                 body.append(lines[i])
                 i += 1
             while body and not body[-1].strip():
@@ -154,6 +154,7 @@ class Function:
         self.clauses = clauses
         self.path = path
         self.places = {p[0]: p for p in info["places"]}
+        self.arms = dict(zip([p[0] for p in info["places"]], info["arms"]))
         self.new_place = dict(zip([p[0] for p in info["places"]], info["places_by_name"]))
         self.needs = {norm(o): (n, a) for (o, n), a in zip(info["needs"], info["asked_at"] + [None] * len(info["needs"]))}
 
@@ -164,6 +165,24 @@ class Function:
             out.append(p)
             place = p[1]
         return out
+
+    def arm(self, place, full):
+        """The new path of what stood in the step that a match or a `?` became: its fields, its equation, what was ensured."""
+        for here in [p[0] for p in self.chain(place)] or list(self.places):
+            arm = self.arms.get(here)
+            if not arm:
+                continue
+            for member, old, path in arm[2]:
+                if norm(old) == norm(full[0]) and full[1 : 1 + len(path)] == path:
+                    own = member.endswith("-own")
+                    return [arm[0]] + ([] if own else [member]), full[1 + len(path) :]
+        return None
+
+    def last_call(self, place):
+        for p in self.chain(place):
+            if p[3]:
+                return p[3]
+        return None
 
     def field(self, place, word):
         """The new name of the step that an answer asked at place calls word, and the function it calls."""
@@ -211,6 +230,14 @@ def turn_paths(body, fn, place, own):
         if full[0] in ("requires", "pre"):
             q = clause_path("requires", own[0], full[1:])
             return ["requires"] + (q if q is not None else full[1:])
+        arm = fn.arm(place, full)
+        if arm:
+            new, rest = arm
+            if new[-1] == "ensures":
+                names = fn.clauses.get(fn.last_call(place), ([], []))[1]
+                q = clause_path("ensures", names, rest)
+                rest = q if q is not None else rest
+            return new + rest
         f = fn.field(place, full[0])
         if f is None:
             return full
@@ -348,21 +375,21 @@ def convert(root, crate, folder, info, clauses):
         names = None
         if new.startswith("returns"):
             names = own[1]
-        elif new.endswith("-requires") or re.search(r"-requires(-|$)", new):
-            callee = None
-            for o, n in [(p[2][0], p[2][1]) for p in info["places"]]:
-                if new.startswith(n + "-requires") and n:
-                    callee = [p[3] for p in info["places"] if p[2][1] == n][0]
-            if callee and callee in clauses:
-                names = clauses[callee][0]
+        elif re.search(r"-requires(-|$)", new):
+            for p in info["places"]:
+                if p[2][1] and p[3] and new.startswith(p[2][1] + "-requires"):
+                    names = clauses.get(p[3], ([], []))[0]
+            if names is None:
+                called = [f for f in clauses if f.split("::")[-1] == new.split("-")[0]]
+                names = clauses[called[0]][0] if len(called) == 1 else None
+        parts = {"": expr.strip()}
         if names and len(names) > 1:
-            parts = by_clause(expr, names)
-            if parts is None:
-                said.append(f"{folder}: {new}: {len(names)} clauses {names}, and no tuple: {expr.strip()[:80]}")
+            found = by_clause(expr, names)
+            if found:
+                parts = dict(zip(names, found))
             else:
-                fields = "\n".join(f"  {n} = {p};" for n, p in zip(names, parts))
-                turned = lets + (" " if lets else "") + "record {\n" + fields + "\n}"
-        answers.append((d["comment"], unfold, new, params[0] if params else "c", turned))
+                parts = {n: f"let all = {expr.strip()} in all." + ("1." * min(k, len(names) - 1) + "0" if k < len(names) - 1 else "1." * (len(names) - 2) + "1") for k, n in enumerate(names)}
+        answers.append({"comment": d["comment"], "unfolding": unfold, "goal": new, "param": params[0] if params else "c", "lets": lets, "parts": parts})
     old = os.path.join("/tmp/old-proofs", crate, folder)
     os.makedirs(old, exist_ok=True)
     shutil.copy(path, os.path.join(old, "Proof.antt"))
@@ -371,30 +398,6 @@ def convert(root, crate, folder, info, clauses):
     keep = [u for u in uses if not re.search(r"\.(Tie as tie|Statement\.\{statement\})$", u)]
     where = os.path.join(root, "crates", crate, "proofs", folder)
 
-    def used(names, body):
-        return any(re.search(rf"(?<![^\s(){{}}\[\];,.:]){re.escape(n)}(?![^\s(){{}}\[\];,.:])", body) for n in names)
-
-    def imports(body):
-        out = []
-        for u in keep:
-            m = re.match(r"use (.*)\.\{(.*)\}$", u)
-            if not m:
-                out.append(u)
-                continue
-            names = []
-            for n in [x.strip() for x in m.group(2).split(",")]:
-                shown = n.split(" as ")[-1].strip()
-                op = shown.replace("◌", "").strip() if "◌" in shown else None
-                if op is not None:
-                    if op in body:
-                        names.append(n)
-                elif used([shown], body):
-                    names.append(n)
-            if names:
-                out.append(f"use {m.group(1)}.{{{', '.join(names)}}}")
-        return out
-
-    helper_text = "\n\n".join("\n".join(d["comment"] + d["lines"]) for d in helpers)
     if invariants:
         inv = "\n\n".join("\n".join([c for c in com if c] + [f"abbrev pub {n} : goal.{n}"] + unf + [f"{n} l = {b}"]) for com, unf, n, b in invariants)
         need_helpers = [d for d in helpers if used([d["name"]], inv)]
@@ -402,15 +405,11 @@ def convert(root, crate, folder, info, clauses):
             said.append(f"{folder}: invariants use helpers {[d['name'] for d in need_helpers]}")
         body = "\n\n".join(["\n".join(d["comment"] + d["lines"]) for d in need_helpers] + [inv])
         with open(os.path.join(where, "Invariants.antt"), "w", encoding="utf-8") as f:
-            f.write("\n".join(head + imports(body) + [f"use {module}.Given as goal", "", body, ""]))
-    if answers:
-        ans = "\n\n".join("\n".join([c for c in com if c] + [f"pub {n} : goal.{n}"] + unf + [f"{n} {p} = {b}"]) for com, unf, n, p, b in answers)
-        body = (helper_text + "\n\n" if helper_text else "") + ans
-        with open(os.path.join(where, "Answers.antt"), "w", encoding="utf-8") as f:
-            f.write("\n".join(head + imports(body) + [f"use {module}.Goals as goal", "", body, ""]))
-    elif helpers:
-        said.append(f"{folder}: helpers with no answer: {[d['name'] for d in helpers]}")
-    if not invariants and not answers:
+            f.write("\n".join(head + imports(body, keep) + [f"use {module}.Given as goal", "", body, ""]))
+    kept = {"head": head, "uses": keep, "module": module, "helpers": helpers, "answers": answers, "where": where}
+    with open(os.path.join(old, "answers.json"), "w", encoding="utf-8") as f:
+        json.dump(kept, f, ensure_ascii=False)
+    if not invariants:
         try:
             os.rmdir(where)
         except OSError:
@@ -418,9 +417,88 @@ def convert(root, crate, folder, info, clauses):
     return said
 
 
+def used(names, body):
+    return any(re.search(rf"(?<![^\s(){{}}\[\];,.:]){re.escape(n)}(?![^\s(){{}}\[\];,.:])", body) for n in names)
+
+
+def imports(body, keep):
+    out = []
+    for u in keep:
+        m = re.match(r"use (.*)\.\{(.*)\}$", u)
+        if not m:
+            out.append(u)
+            continue
+        names = []
+        for n in [x.strip() for x in m.group(2).split(",")]:
+            shown = n.split(" as ")[-1].strip()
+            op = shown.replace("◌", "").strip() if "◌" in shown else None
+            if op is not None:
+                if op in body:
+                    names.append(n)
+            elif used([shown], body):
+                names.append(n)
+        if names:
+            out.append(f"use {m.group(1)}.{{{', '.join(names)}}}")
+    return out
+
+
+def fill(root, crate, log, only):
+    """Writes answers to the goals that a check left open."""
+    with open(log, encoding="utf-8") as f:
+        text = f.read()
+    base = os.path.join("/tmp/old-proofs", crate)
+    for m in re.finditer(r"^fn (\S+): no proof: expected answers in (\S+)/Answers\.antt; `search` did not prove (.*)$", text, re.M):
+        folder = os.path.relpath(m.group(2), "./proofs")
+        if only and folder not in only:
+            continue
+        goals = re.findall(r"`([^`]+)`", m.group(3).split("; it calls")[0])
+        path = os.path.join(base, folder, "answers.json")
+        if not os.path.exists(path):
+            print(f"{folder}: nothing kept; open: {' '.join(goals)}")
+            continue
+        with open(path, encoding="utf-8") as f:
+            kept = json.load(f)
+        written, missing = [], []
+        for g in goals:
+            for a in kept["answers"]:
+                for part, expr in a["parts"].items():
+                    name = a["goal"] + (f"-clause-{part}" if part else "")
+                    if name == g or (g == a["goal"] and not part):
+                        written.append((a["comment"], a["unfolding"], g, a["param"], (a["lets"].strip() + " " + expr).strip()))
+                        break
+                else:
+                    if a["goal"] == g:
+                        fields = "\n".join(f"  {n} = {e};" for n, e in a["parts"].items())
+                        written.append((a["comment"], a["unfolding"], g, a["param"], (a["lets"].strip() + " record {\n" + fields + "\n}").strip()))
+                        break
+                    continue
+                break
+            else:
+                missing.append(g)
+        if missing:
+            print(f"{folder}: no old answer for {' '.join(missing)}")
+        where = os.path.join(root, "crates", crate, "proofs", folder)
+        ans = "\n\n".join("\n".join([c for c in com if c] + [f"pub {n} : goal.{n}"] + unf + [f"{n} {p} = {b}"]) for com, unf, n, p, b in written)
+        helpers, body = kept["helpers"], ans
+        while True:
+            more = [d for d in helpers if used([d["name"]], body)]
+            new = "\n\n".join(["\n".join(d["comment"] + d["lines"]) for d in more] + [ans])
+            if new == body:
+                break
+            body = new
+        if missing:
+            body += "\n" + "".join(f"\n-- open: {g}" for g in missing)
+        os.makedirs(where, exist_ok=True)
+        with open(os.path.join(where, "Answers.antt"), "w", encoding="utf-8") as f:
+            f.write("\n".join(kept["head"] + imports(body, kept["uses"]) + [f"use {kept['module']}.Goals as goal", "", body, ""]))
+
+
 def main():
     crate, only = sys.argv[1], sys.argv[2:]
     root = subprocess.run(["git", "rev-parse", "--show-toplevel"], capture_output=True, text=True, check=True).stdout.strip()
+    if only and only[0] == "--fill":
+        fill(root, crate, only[1], only[2:])
+        return
     with open(f"/tmp/names-{crate}/names.json", encoding="utf-8") as f:
         names = json.load(f)
     clauses = clauses_of(root)

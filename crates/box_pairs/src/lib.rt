@@ -16,7 +16,7 @@ pub mod pairs;
 // What is wrong with an exterior: nothing, fewer than 4 coordinates, two neighbours less than 1e-10 apart in x and in y
 // (the last segment excepted), two edges that cross. Neighbours are told by the position of the first, edges by their numbers, the lower
 // first: edge k runs from coordinate k to the next.
-#[derive(Drop)]
+#[derive(Clone, Copy)]
 pub enum Issue {
     Sound,
     Short,
@@ -25,7 +25,7 @@ pub enum Issue {
 }
 
 // The first of two neighbours that repeat, by its position, or none.
-#[derive(Drop)]
+#[derive(Clone, Copy)]
 pub enum Repeat {
     None,
     At(u32),

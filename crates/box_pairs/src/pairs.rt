@@ -11,7 +11,7 @@ use binary64::compare::{maximum, minimum};
 use tile::ring::coord_at;
 
 // Two edges that cross, the lower number first, or none.
-#[derive(Drop)]
+#[derive(Clone, Copy)]
 pub enum Pair {
     None,
     At(u32, u32),

@@ -20,14 +20,14 @@ use tile::{Edge, TileBounds};
 
 // Whether the crossing test of the exterior and of the cut exterior is left out, and whether, if both are set, the test for edges along a
 // bound is too.
-#[derive(Drop)]
+#[derive(Clone, Copy)]
 pub struct Flags {
     pub assume_simple: bool,
     pub skip_boundary_fallback: bool,
 }
 
 // Why an overlay is wanted: an issue of the input exterior, one of the cut exterior, or an edge of the cut exterior along a bound.
-#[derive(Drop)]
+#[derive(Clone, Copy)]
 pub enum Reason {
     Input(Issue),
     Cut(Issue),
@@ -35,7 +35,7 @@ pub enum Reason {
 }
 
 // What an answer tells of a reason: its number, and two positions in the exterior that it speaks of, 0 where they don't apply.
-#[derive(Drop)]
+#[derive(Clone, Copy)]
 pub struct ReasonDetail {
     pub number: u8,
     pub first: u32,
@@ -43,7 +43,7 @@ pub struct ReasonDetail {
 }
 
 // What the exterior decides; of a cut, how many coordinates the cut exterior has.
-#[derive(Drop)]
+#[derive(Clone, Copy)]
 pub enum Route {
     Nothing,
     Unchanged,
@@ -63,7 +63,7 @@ pub const CUT: u8 = 4;
 pub const OVERLAY: u8 = 5;
 
 // What becomes of a polygon; of a cut, how many rings it has.
-#[derive(Drop)]
+#[derive(Clone, Copy)]
 pub enum PolygonAnswer {
     Nothing,
     Dropped,

@@ -6,7 +6,7 @@ ghost use Rattle.cutting_lines.specs.CuttingLines as CuttingLines;
 use tile::{Coord, Edge, TileBounds};
 
 // Whether a vertex is in, and how many verdicts a pass has worked out, this one included.
-#[derive(Drop)]
+#[derive(Clone, Copy)]
 pub struct Verdict {
     pub inside: bool,
     pub verdicts: usize,

@@ -20,7 +20,7 @@ use tile::{Coord, Edge, TileBounds};
 mod origins;
 
 // What one pass answers: how many vertices it wrote, and how many verdicts it worked out.
-#[derive(Drop)]
+#[derive(Clone, Copy)]
 pub struct Pass {
     pub len: usize,
     pub verdicts: usize,
@@ -41,7 +41,7 @@ fn left_off(ring: &[f64], n: usize) -> usize
 }
 
 // Where a pass stands: before the i-th vertex, with len vertices written and so many verdicts worked out.
-#[derive(Drop)]
+#[derive(Clone, Copy)]
 struct Walk {
     i: usize,
     len: usize,

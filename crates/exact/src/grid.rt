@@ -16,14 +16,14 @@ const STEPS: f64 = 281_474_976_710_656.0;
 const ZERO: u64 = 72_057_594_037_927_936;
 
 // Not on the grid, or so many steps of 1/2^48, counted from 0 or from -256.
-#[derive(Drop)]
+#[derive(Clone, Copy)]
 enum GridNumber {
     Off,
     On(u64),
 }
 
 // Not on the grid, or a point of it, in steps from -256.
-#[derive(Drop)]
+#[derive(Clone, Copy)]
 enum GridPoint {
     Off,
     At(Point),

@@ -5,14 +5,14 @@ ghost use Rattle.exact.specs.Internal.{value, Carried, Bounded, side_of};
 
 use super::wide::{Wide, is_less, product, sum};
 
-#[derive(Drop)]
+#[derive(Clone, Copy)]
 pub struct Point {
     pub x: u64,
     pub y: u64,
 }
 
 // Strictly left or right of a line, or on it.
-#[derive(Drop)]
+#[derive(Clone, Copy)]
 enum Side {
     Left,
     On,

@@ -5,7 +5,7 @@ ghost use Rattle.exact.specs.Internal as Internal;
 const BASE: u64 = 1_073_741_824;
 
 // high * 2^60 + middle * 2^30 + low
-#[derive(Drop)]
+#[derive(Clone, Copy)]
 pub struct Wide {
     pub high: u64,
     pub middle: u64,

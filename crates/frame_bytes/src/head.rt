@@ -12,7 +12,7 @@ pub const PART_COUNT: usize = 42;
 pub const HEAD: usize = 44;
 
 // The bounds are as read: not buffered yet. `parts` is the count of parts.
-#[derive(Drop)]
+#[derive(Clone, Copy)]
 pub struct Head {
     pub kind: u8,
     pub assume_simple: bool,

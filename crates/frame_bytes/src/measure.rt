@@ -18,7 +18,7 @@ use rings::rectangle::{Rect, is_finite_coord, with_coord};
 use rings::representable::is_huge_coord;
 
 // A rectangle, and where the next part starts.
-#[derive(Drop)]
+#[derive(Clone, Copy)]
 pub struct Measured {
     pub rect: Rect,
     pub next: usize,

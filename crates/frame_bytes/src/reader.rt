@@ -20,7 +20,7 @@ const MOST_PARTS: usize = 256;
 const MOST_IN_RING: usize = 4096;
 
 // Why a frame call is refused: document 01's 11 to 18, and 22.
-#[derive(Drop)]
+#[derive(Clone, Copy)]
 pub enum FrameRefusal {
     Size,
     Kind,
@@ -34,7 +34,7 @@ pub enum FrameRefusal {
 }
 
 // Whether there is a refusal.
-#[derive(Drop)]
+#[derive(Clone, Copy)]
 pub enum FrameCheck {
     Fails(FrameRefusal),
     Passes,
@@ -58,7 +58,7 @@ pub fn refusal_number(refusal: FrameRefusal) -> u8
 }
 
 // Where a walk from the front ends: at a refusal, or at the place where the next thing starts.
-#[derive(Drop)]
+#[derive(Clone, Copy)]
 enum FrameWalk {
     Stops(FrameRefusal),
     Reaches(usize),

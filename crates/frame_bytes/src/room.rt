@@ -18,7 +18,7 @@ pub const LEAST_ROOM: usize = 5;
 const CUT_PART: usize = PART + COUNT;
 
 // The room of what was passed over, and where the next thing starts.
-#[derive(Drop)]
+#[derive(Clone, Copy)]
 struct MeasuredRoom {
     room: usize,
     next: usize,

@@ -20,7 +20,7 @@ use rings::rectangle::Rect;
 use tile::TileBounds;
 
 // What becomes of a part; a listed one is written, and the next stands at the given place of the output.
-#[derive(Drop)]
+#[derive(Clone, Copy)]
 pub enum PartAnswer {
     Nothing,
     Dropped,
@@ -29,7 +29,7 @@ pub enum PartAnswer {
 }
 
 // How far the rings of a part are written: how many, and where the next stands in the output.
-#[derive(Drop)]
+#[derive(Clone, Copy)]
 struct RingCursor {
     rings: usize,
     next: usize,

@@ -25,7 +25,7 @@ const MEDIUM: usize = 559;
 const LARGE: usize = 1343;
 
 // A refusal, or the count of the answer's bytes.
-#[derive(Drop)]
+#[derive(Clone, Copy)]
 pub enum FrameAnswer {
     Refused(FrameRefusal),
     Answered(usize),

@@ -23,7 +23,7 @@ use tile::TileBounds;
 const LISTED: u8 = 3;
 
 // What is listed so far: the guard count, how many parts, and where the next stands in the output.
-#[derive(Drop)]
+#[derive(Clone, Copy)]
 struct ListedSoFar {
     guard: usize,
     parts: usize,

@@ -9,7 +9,7 @@ use super::line::{Line, take_line};
 use frame_bytes::reader::LONGEST;
 
 // What is known of the line now, how much of the block was taken, and how many bytes were written to the output.
-#[derive(Drop)]
+#[derive(Clone, Copy)]
 pub struct Fed {
     pub line: Line,
     pub taken: usize,
@@ -17,7 +17,7 @@ pub struct Fed {
 }
 
 // What the end of an input comes to.
-#[derive(Drop)]
+#[derive(Clone, Copy)]
 pub enum Finished {
     // `kept` or `out` is shorter than the line step asks: nothing was written, nor is it told whether there is a last line.
     TooShort,

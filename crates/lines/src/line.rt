@@ -8,7 +8,7 @@ use frame_bytes::reader::LONGEST;
 
 // What is known of a line. The bytes stand at the front of a slice that holds the longest frame, which goes with it: a count over the
 // slice's length means all of it, and a digit's value its rest by 16.
-#[derive(Drop)]
+#[derive(Clone, Copy)]
 pub enum Line {
     // A character that is no digit was read.
     NotDigits,
@@ -50,7 +50,7 @@ fn take_char(line: Line, b: u8, values: &[u8; 256], kept: &mut [u8]) -> Line
 }
 
 // How many bytes a line has, and how far in a block it was read.
-#[derive(Drop)]
+#[derive(Clone, Copy)]
 struct Pairs {
     bytes: usize,
     at: usize,
@@ -84,7 +84,7 @@ fn take_pairs(block: &[u8], bytes: usize, values: &[u8; 256], kept: &mut [u8]) -
 }
 
 // How far a block was read, and what is known of the line there.
-#[derive(Drop)]
+#[derive(Clone, Copy)]
 pub struct Place {
     pub line: Line,
     pub at: usize,

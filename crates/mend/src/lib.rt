@@ -15,7 +15,7 @@ use tile::Coord;
 use tile::ring::{closed_count, coord_at, put};
 
 // Why a ring is not mended: document 02's 19, 20, 22 and 26.
-#[derive(Drop)]
+#[derive(Clone, Copy)]
 pub enum MendRefusal {
     Lengths,
     Coordinates,
@@ -24,7 +24,7 @@ pub enum MendRefusal {
 }
 
 // The answer of a mending call: a refusal, or how many coordinates the mended ring has.
-#[derive(Drop)]
+#[derive(Clone, Copy)]
 pub enum MendAnswer {
     Refused(MendRefusal),
     Mended(usize),

@@ -17,14 +17,14 @@ use rings::rectangle::Rect;
 use tile::TileBounds;
 
 // How much of the outputs is the answer's so far: rings, and their coordinates.
-#[derive(Drop)]
+#[derive(Clone, Copy)]
 struct Placed {
     rings: usize,
     coordinates: usize,
 }
 
 // What becomes of a polygon, and how many coordinates of the outputs belong to the answer.
-#[derive(Drop)]
+#[derive(Clone, Copy)]
 pub struct Clipped {
     pub answer: PolygonAnswer,
     pub coordinates: usize,

@@ -15,7 +15,7 @@ use sutherland_hodgman::{clip_three_edges, clip_top};
 use tile::TileBounds;
 
 // Why a call is refused: document 01's 19, 20, 21 and 22.
-#[derive(Drop)]
+#[derive(Clone, Copy)]
 pub enum Refusal {
     Lengths,
     Coordinates,
@@ -24,14 +24,14 @@ pub enum Refusal {
 }
 
 // The answer of a ring call: a refusal, or how many coordinates the cut ring has.
-#[derive(Drop)]
+#[derive(Clone, Copy)]
 pub enum RingAnswer {
     Refused(Refusal),
     Clipped(usize),
 }
 
 // Whether there is a refusal.
-#[derive(Drop)]
+#[derive(Clone, Copy)]
 pub enum Check {
     Fails(Refusal),
     Passes,

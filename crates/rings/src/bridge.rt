@@ -10,7 +10,7 @@ use tile::ring::coord_at;
 use tile::{Coord, Edge, TileBounds};
 
 // No edge along a bound, or one, and the bound.
-#[derive(Drop)]
+#[derive(Clone, Copy)]
 pub enum Bridge {
     None,
     Along(Edge),

@@ -15,7 +15,7 @@ use tile::ring::closed_count;
 pub const MOST_RINGS: usize = 64;
 
 // The largest room of a ring, and the room of all, in coordinates.
-#[derive(Drop)]
+#[derive(Clone, Copy)]
 pub struct RoomNeeded {
     pub largest: usize,
     pub all: usize,

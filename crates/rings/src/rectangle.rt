@@ -10,7 +10,7 @@ use tile::ring::coord_at;
 use tile::{Coord, TileBounds};
 
 // Of no coordinate, of one that is not finite, or west, south, east and north.
-#[derive(Drop)]
+#[derive(Clone, Copy)]
 pub enum Rect {
     Nothing,
     NotFinite,

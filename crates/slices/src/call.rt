@@ -31,14 +31,14 @@ pub const FIRST_PLACE: u64 = 65_536;
 const SECOND_PLACE: u64 = 1_099_511_627_776;
 
 // The answer of a slice call: a refusal, or what becomes of the polygon and its guard count.
-#[derive(Drop)]
+#[derive(Clone, Copy)]
 pub enum SliceAnswer {
     Refused(Refusal),
     Answered(PolygonAnswer, usize),
 }
 
 // Whether there is a refusal; if there is none, for how many coordinates, and origins, 22 asks room in the outputs.
-#[derive(Drop)]
+#[derive(Clone, Copy)]
 enum RoomCheck {
     Fails(Refusal),
     Passes(usize),

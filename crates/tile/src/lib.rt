@@ -10,14 +10,14 @@ use binary64::compare::{maximum, minimum};
 pub mod ring;
 
 // A vertex: longitude and latitude.
-#[derive(Drop)]
+#[derive(Clone, Copy)]
 pub struct Coord {
     pub x: f64,
     pub y: f64,
 }
 
 // West, south, east, north.
-#[derive(Drop)]
+#[derive(Clone, Copy)]
 pub struct TileBounds {
     pub lng_min: f64,
     pub lat_min: f64,
@@ -26,7 +26,7 @@ pub struct TileBounds {
 }
 
 // The four edges of the bounds, in the order in which a ring is cut at them.
-#[derive(Drop)]
+#[derive(Clone, Copy)]
 pub enum Edge {
     Left,
     Right,
