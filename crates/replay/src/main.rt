@@ -12,9 +12,10 @@ mod stream;
 ghost use Rattle.std.specs.Prelude.{◌≡◌, length};
 
 use code::{Outcome, is_refusal};
-use libc::STDOUT_FILENO;
 use ring_vectors::replay_ring;
 use slice_vectors::replay_slice;
+use std::io;
+use std::io::Read;
 use stream::{Count, is_at_end, read_count};
 
 // A count for each answer that is no refusal (a ring call has two, a slice call five), for each of 19 to 22, and for the calls that differ.
@@ -25,7 +26,7 @@ const REFUSALS: usize = 5;
 const DIFFER: usize = 9;
 
 // Which call a vector is of.
-#[derive(Drop)]
+#[derive(Clone, Copy)]
 enum Kind {
     Ring,
     Slice,
@@ -72,10 +73,10 @@ fn add_to(counts: &mut [u64], row: usize) {
     }
 }
 
-fn replay_one(kind: Kind) -> Outcome {
+fn replay_one<R: Read>(input: &mut R, kind: Kind) -> Outcome {
     match kind {
-        Kind::Ring => replay_ring(),
-        Kind::Slice => replay_slice(),
+        Kind::Ring => replay_ring(input),
+        Kind::Slice => replay_slice(input),
     }
 }
 
@@ -87,8 +88,8 @@ fn row(kind: Kind, code: u64) -> usize {
 }
 
 // Whether the vector is whole.
-fn count_one(kind: Kind, counts: &mut [u64]) -> bool {
-    match replay_one(kind) {
+fn count_one<R: Read>(input: &mut R, kind: Kind, counts: &mut [u64]) -> bool {
+    match replay_one(input, kind) {
         Outcome::Same(code) => {
             add_to(counts, row(kind, code));
             true
@@ -102,71 +103,68 @@ fn count_one(kind: Kind, counts: &mut [u64]) -> bool {
 }
 
 // Whether the vectors of a file are whole.
-fn count_all(kind: Kind, counts: &mut [u64]) -> bool {
-    let Count::Is(n) = read_count() else {
+fn count_all<R: Read>(input: &mut R, kind: Kind, counts: &mut [u64]) -> bool {
+    let Count::Is(n) = read_count(input) else {
         return false;
     };
-    let mut i = 0usize;
-    while i < n {
-        if !count_one(kind, counts) {
+    for _ in 0..n {
+        if !count_one(input, kind, counts) {
             return false;
         }
-        i += 1;
     }
     true
 }
 
-fn print_row(name: &[u8], count: u64) {
-    io::write_all(STDOUT_FILENO, name);
-    io::write_all(STDOUT_FILENO, b" ");
-    io::print_decimal(STDOUT_FILENO, count);
-    io::write_all(STDOUT_FILENO, b"\n");
+fn print_row(rt: &impl Print, name: &str, count: u64) -> io::Result<()> {
+    println!(rt; "{name} {count}")
 }
 
-fn print_last_rows(counts: &[u64])
+fn print_last_rows(rt: &impl Print, counts: &[u64]) -> io::Result<()>
     requires { length counts.now ≡ 10 }
 {
-    print_row(b"19", counts[REFUSALS]);
-    print_row(b"20", counts[REFUSALS + 1]);
-    print_row(b"21", counts[REFUSALS + 2]);
-    print_row(b"22", counts[REFUSALS + 3]);
-    print_row(b"differ", counts[DIFFER]);
+    print_row(rt, "19", counts[REFUSALS])?;
+    print_row(rt, "20", counts[REFUSALS + 1])?;
+    print_row(rt, "21", counts[REFUSALS + 2])?;
+    print_row(rt, "22", counts[REFUSALS + 3])?;
+    print_row(rt, "differ", counts[DIFFER])
 }
 
 // The rows of the answers that are no refusals.
-fn print_first_rows(kind: Kind, counts: &[u64])
+fn print_first_rows(rt: &impl Print, kind: Kind, counts: &[u64]) -> io::Result<()>
     requires { length counts.now ≡ 10 }
 {
     match kind {
         Kind::Ring => {
-            print_row(b"ring", counts[0]);
-            print_row(b"empty", counts[1]);
+            print_row(rt, "ring", counts[0])?;
+            print_row(rt, "empty", counts[1])
         }
         Kind::Slice => {
-            print_row(b"nothing", counts[0]);
-            print_row(b"dropped", counts[1]);
-            print_row(b"unchanged", counts[2]);
-            print_row(b"cut", counts[3]);
-            print_row(b"overlay", counts[4]);
+            print_row(rt, "nothing", counts[0])?;
+            print_row(rt, "dropped", counts[1])?;
+            print_row(rt, "unchanged", counts[2])?;
+            print_row(rt, "cut", counts[3])?;
+            print_row(rt, "overlay", counts[4])
         }
     }
 }
 
-fn replay_all(kind: Kind) -> bool {
+// Whether the vectors of a file are whole, with the rows printed.
+fn replay_all<R: Read>(rt: &impl Print, input: &mut R, kind: Kind) -> io::Result<bool> {
     let mut counts = [0u64; ROWS];
-    let whole = count_all(kind, &mut counts);
-    print_first_rows(kind, &counts);
-    print_last_rows(&counts);
-    whole
+    let whole = count_all(input, kind, &mut counts);
+    print_first_rows(rt, kind, &counts)?;
+    print_last_rows(rt, &counts)?;
+    Ok(whole)
 }
 
-fn main() {
-    if replay_all(Kind::Ring) {
-        if replay_all(Kind::Slice) {
-            if is_at_end() {
-                return;
+fn main(rt: HostRuntime) -> io::Result<()> {
+    let mut input = rt.stdin();
+    if replay_all(&rt, &mut input, Kind::Ring)? {
+        if replay_all(&rt, &mut input, Kind::Slice)? {
+            if is_at_end(&mut input) {
+                return Ok(());
             }
         }
     }
-    io::write_all(STDOUT_FILENO, b"the vectors are not whole\n");
+    println!(rt; "the vectors are not whole")
 }

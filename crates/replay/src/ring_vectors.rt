@@ -14,13 +14,14 @@ use super::stream::{
 };
 use binary64::bytes::read_f64;
 use ring_calls::ring;
+use std::io::Read;
 use tile::TileBounds;
 
 // The bytes before the numbers of a ring: four lengths, the bounds, and two counts.
 const HEAD: usize = 56;
 
 // `scratch` to `out_origins` are the lengths of the slices. Of the numbers that are lent only the first are stored; the others are zeros.
-#[derive(Drop)]
+#[derive(Clone, Copy)]
 struct RingVector {
     scratch: usize,
     origin_scratch: usize,
@@ -156,11 +157,11 @@ fn call(
 
 // From the answer on. There follow: how many numbers the call writes to the output, zeros included, and half as many origins; then the
 // numbers of the ring, and its origins.
-fn replay_answer(head: RingVector, lent: &[f64]) -> Outcome {
-    let Code::Is(code) = read_code() else {
+fn replay_answer<R: Read>(input: &mut R, head: RingVector, lent: &[f64]) -> Outcome {
+    let Code::Is(code) = read_code(input) else {
         return Outcome::Broken;
     };
-    let Count::Is(written) = read_count() else {
+    let Count::Is(written) = read_count(input) else {
         return Outcome::Broken;
     };
     if written > ROOM {
@@ -171,11 +172,11 @@ fn replay_answer(head: RingVector, lent: &[f64]) -> Outcome {
         return Outcome::Broken;
     }
     let mut expected = [0.0f64; ROOM];
-    if !read_numbers(m, &mut expected) {
+    if !read_numbers(input, m, &mut expected) {
         return Outcome::Broken;
     }
     let mut origins = [0u16; ROOM];
-    if !read_origins(m / 2, &mut origins) {
+    if !read_origins(input, m / 2, &mut origins) {
         return Outcome::Broken;
     }
     call(
@@ -188,22 +189,22 @@ fn replay_answer(head: RingVector, lent: &[f64]) -> Outcome {
 }
 
 // From the numbers of the ring on.
-fn replay_with(head: RingVector) -> Outcome {
+fn replay_with<R: Read>(input: &mut R, head: RingVector) -> Outcome {
     let n = head.numbers;
     if n > MOST_NUMBERS {
         return Outcome::Broken;
     }
     let mut lent = no_numbers();
-    if !read_numbers(head.stored, &mut lent) {
+    if !read_numbers(input, head.stored, &mut lent) {
         return Outcome::Broken;
     }
-    replay_answer(head, &lent[..n])
+    replay_answer(input, head, &lent[..n])
 }
 
-pub fn replay_ring() -> Outcome {
+pub fn replay_ring<R: Read>(input: &mut R) -> Outcome {
     let mut bytes = [0u8; HEAD];
-    if !fill(&mut bytes) {
+    if !fill(input, &mut bytes) {
         return Outcome::Broken;
     }
-    replay_with(read_head(&bytes))
+    replay_with(input, read_head(&bytes))
 }

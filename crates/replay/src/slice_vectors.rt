@@ -16,6 +16,7 @@ use super::stream::{
 use binary64::bytes::read_f64;
 use clip::polygon::Flags;
 use slices::call::polygon;
+use std::io::Read;
 use tile::TileBounds;
 
 // The bytes before the lengths of the rings: flags, six lengths, the bounds, the buffer, and the count of rings.
@@ -25,7 +26,7 @@ const HEAD: usize = 72;
 const MOST_RINGS: usize = 128;
 
 // `scratch` to `out_origins` are the lengths of the slices.
-#[derive(Drop)]
+#[derive(Clone, Copy)]
 struct SliceVector {
     flags: Flags,
     scratch: usize,
@@ -246,14 +247,15 @@ fn numbers_in(lengths: &[u32]) -> usize
 
 // From the cut's lengths on. There follow: how many numbers the call writes to the output, zeros included, and half as many origins; then
 // the cut's numbers, and its origins.
-fn replay_expected(
+fn replay_expected<R: Read>(
+    input: &mut R,
     head: SliceVector,
     code: u64,
     coords: &[f64],
     lengths: &[u32],
     expected_lengths: &[u32],
 ) -> Outcome {
-    let Count::Is(written) = read_count() else {
+    let Count::Is(written) = read_count(input) else {
         return Outcome::Broken;
     };
     if written > ROOM {
@@ -264,11 +266,11 @@ fn replay_expected(
         return Outcome::Broken;
     }
     let mut expected = [0.0f64; ROOM];
-    if !read_numbers(m, &mut expected) {
+    if !read_numbers(input, m, &mut expected) {
         return Outcome::Broken;
     }
     let mut origins = [0u16; ROOM];
-    if !read_origins(m / 2, &mut origins) {
+    if !read_origins(input, m / 2, &mut origins) {
         return Outcome::Broken;
     }
     call(
@@ -283,8 +285,13 @@ fn replay_expected(
 }
 
 // From the answer on, which a cut's lengths follow.
-fn replay_answer(head: SliceVector, coords: &[f64], lengths: &[u32]) -> Outcome {
-    let Code::Is(code) = read_code() else {
+fn replay_answer<R: Read>(
+    input: &mut R,
+    head: SliceVector,
+    coords: &[f64],
+    lengths: &[u32],
+) -> Outcome {
+    let Code::Is(code) = read_code(input) else {
         return Outcome::Broken;
     };
     let k = rings_of(code);
@@ -292,46 +299,46 @@ fn replay_answer(head: SliceVector, coords: &[f64], lengths: &[u32]) -> Outcome 
         return Outcome::Broken;
     }
     let mut expected_lengths = [0u32; MOST_RINGS];
-    if !read_wholes(k, &mut expected_lengths) {
+    if !read_wholes(input, k, &mut expected_lengths) {
         return Outcome::Broken;
     }
-    replay_expected(head, code, coords, lengths, &expected_lengths[..k])
+    replay_expected(input, head, code, coords, lengths, &expected_lengths[..k])
 }
 
 // From the count of numbers on.
-fn replay_numbers(head: SliceVector, lengths: &[u32]) -> Outcome {
-    let Count::Is(n) = read_count() else {
+fn replay_numbers<R: Read>(input: &mut R, head: SliceVector, lengths: &[u32]) -> Outcome {
+    let Count::Is(n) = read_count(input) else {
         return Outcome::Broken;
     };
-    let Count::Is(stored) = read_count() else {
+    let Count::Is(stored) = read_count(input) else {
         return Outcome::Broken;
     };
     if n > MOST_NUMBERS {
         return Outcome::Broken;
     }
     let mut coords = no_numbers();
-    if !read_numbers(stored, &mut coords) {
+    if !read_numbers(input, stored, &mut coords) {
         return Outcome::Broken;
     }
-    replay_answer(head, &coords[..n], lengths)
+    replay_answer(input, head, &coords[..n], lengths)
 }
 
-fn replay_with(head: SliceVector) -> Outcome {
+fn replay_with<R: Read>(input: &mut R, head: SliceVector) -> Outcome {
     let k = head.rings;
     if k > MOST_RINGS {
         return Outcome::Broken;
     }
     let mut lengths = [0u32; MOST_RINGS];
-    if !read_wholes(k, &mut lengths) {
+    if !read_wholes(input, k, &mut lengths) {
         return Outcome::Broken;
     }
-    replay_numbers(head, &lengths[..k])
+    replay_numbers(input, head, &lengths[..k])
 }
 
-pub fn replay_slice() -> Outcome {
+pub fn replay_slice<R: Read>(input: &mut R) -> Outcome {
     let mut bytes = [0u8; HEAD];
-    if !fill(&mut bytes) {
+    if !fill(input, &mut bytes) {
         return Outcome::Broken;
     }
-    replay_with(read_head(&bytes))
+    replay_with(input, read_head(&bytes))
 }

@@ -1,10 +1,10 @@
-// Vectors as they stand on standard input: little-endian numbers, taken from the front. What is not there, or has no room, is said to be
+// Vectors as they stand in an input: little-endian numbers, taken from the front. What is not there, or has no room, is said to be
 // missing. No contract speaks of what is read, so the functions that read promise nothing; those on bytes that were read do.
 ghost use Rattle.std.specs.Prelude.{◌≡◌, ◌+◌, ◌*◌, ◌≤◌, length, take, drop};
 ghost use Rattle.binary64.specs.Bytes.{Little, number_of};
 
 use binary64::bytes::{read_f64, read_u16, read_u32, read_u64};
-use libc::STDIN_FILENO;
+use std::io::Read;
 
 // The most doubles that are read at a time.
 const MOST_READ: usize = 4096;
@@ -23,15 +23,15 @@ pub enum Code {
     Missing,
 }
 
-// Fills all of a slice.
-pub fn fill(bytes: &mut [u8]) -> bool {
-    let got = io::read_full(STDIN_FILENO, bytes);
-    got == bytes.len()
+// Fills all of a slice, unless the input ends before or a read fails.
+pub fn fill<R: Read>(input: &mut R, bytes: &mut [u8]) -> bool {
+    input.read_exact(bytes).is_ok()
 }
 
-pub fn is_at_end() -> bool {
+// Whether nothing more can be read.
+pub fn is_at_end<R: Read>(input: &mut R) -> bool {
     let mut byte = [0u8; 1];
-    io::read_full(STDIN_FILENO, &mut byte) == 0
+    !fill(input, &mut byte)
 }
 
 fn whole_at(bytes: &[u8], at: usize) -> u32
@@ -48,18 +48,18 @@ pub fn count_at(bytes: &[u8], at: usize) -> usize
     whole_at(bytes, at) as usize
 }
 
-pub fn read_count() -> Count {
+pub fn read_count<R: Read>(input: &mut R) -> Count {
     let mut bytes = [0u8; 4];
-    if !fill(&mut bytes) {
+    if !fill(input, &mut bytes) {
         return Count::Missing;
     }
     Count::Is(count_at(&bytes, 0))
 }
 
 // The answer as it crosses, by its bits.
-pub fn read_code() -> Code {
+pub fn read_code<R: Read>(input: &mut R) -> Code {
     let mut bytes = [0u8; 8];
-    if !fill(&mut bytes) {
+    if !fill(input, &mut bytes) {
         return Code::Missing;
     }
     Code::Is(read_u64(&bytes, 0))
@@ -102,14 +102,14 @@ fn decode_origins(bytes: &[u8], n: usize, to: &mut [u16])
     }
 }
 
-fn fill_front(bytes: &mut [u8], size: usize) -> bool
+fn fill_front<R: Read>(input: &mut R, bytes: &mut [u8], size: usize) -> bool
     requires { size ≤ length bytes.old }
 {
-    fill(&mut bytes[..size])
+    fill(input, &mut bytes[..size])
 }
 
 // So many doubles, to the front of a slice.
-pub fn read_numbers(n: usize, to: &mut [f64]) -> bool {
+pub fn read_numbers<R: Read>(input: &mut R, n: usize, to: &mut [f64]) -> bool {
     if n > to.len() {
         return false;
     }
@@ -117,7 +117,7 @@ pub fn read_numbers(n: usize, to: &mut [f64]) -> bool {
         return false;
     }
     let mut bytes = [0u8; MOST_BYTES];
-    if !fill_front(&mut bytes, 8 * n) {
+    if !fill_front(input, &mut bytes, 8 * n) {
         return false;
     }
     decode_numbers(&bytes, n, to);
@@ -125,7 +125,7 @@ pub fn read_numbers(n: usize, to: &mut [f64]) -> bool {
 }
 
 // So many lengths of rings, to the front of a slice.
-pub fn read_wholes(n: usize, to: &mut [u32]) -> bool {
+pub fn read_wholes<R: Read>(input: &mut R, n: usize, to: &mut [u32]) -> bool {
     if n > to.len() {
         return false;
     }
@@ -133,7 +133,7 @@ pub fn read_wholes(n: usize, to: &mut [u32]) -> bool {
         return false;
     }
     let mut bytes = [0u8; MOST_BYTES];
-    if !fill_front(&mut bytes, 4 * n) {
+    if !fill_front(input, &mut bytes, 4 * n) {
         return false;
     }
     decode_wholes(&bytes, n, to);
@@ -141,7 +141,7 @@ pub fn read_wholes(n: usize, to: &mut [u32]) -> bool {
 }
 
 // So many origins, to the front of a slice.
-pub fn read_origins(n: usize, to: &mut [u16]) -> bool {
+pub fn read_origins<R: Read>(input: &mut R, n: usize, to: &mut [u16]) -> bool {
     if n > to.len() {
         return false;
     }
@@ -149,7 +149,7 @@ pub fn read_origins(n: usize, to: &mut [u16]) -> bool {
         return false;
     }
     let mut bytes = [0u8; MOST_BYTES];
-    if !fill_front(&mut bytes, 2 * n) {
+    if !fill_front(input, &mut bytes, 2 * n) {
         return false;
     }
     decode_origins(&bytes, n, to);

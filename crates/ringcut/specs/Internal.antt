@@ -9,7 +9,7 @@ use Rattle.ringcut.specs.declared.Turn.TheVariants.{More, Ended, Failed}
 abbrev pub GoesOnIfMore : List ℕ → Line → List ℕ → Turn → List ℕ → Type 0
 GoesOnIfMore characters line kept (More next) kept' = GoesOn characters line kept next kept'
 GoesOnIfMore characters line kept (Ended next) kept' = Unit {0}
-GoesOnIfMore characters line kept Failed kept' = Unit {0}
+GoesOnIfMore characters line kept (Failed stopped) kept' = Unit {0}
 
 -- Whether two slices hold the same bytes.
 unfoldable pub same_bytes : List ℕ → List ℕ → Bool

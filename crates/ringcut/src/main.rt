@@ -14,12 +14,17 @@ ghost use Rattle.frame_bytes.specs.Frame.{longest};
 ghost use Rattle.lines.specs.LineStep as LineStep;
 ghost use Rattle.ringcut.specs.Internal as Internal;
 
-use arguments::asks_for_version;
+use arguments::{asks_for_version, has_arguments};
 use frame_bytes::reader::LONGEST;
-use libc::STDIN_FILENO;
 use lines::feed::{Finished, feed_lines, finish, start};
 use lines::line::Line;
-use streams::{close_out, say, tell, try_again, write_out};
+use std::io;
+use std::io::{IsTerminal, Read, Write};
+use std::rt::Clock;
+use streams::{Stopped, close_out, say, tell, try_again, write_out};
+
+// How much is read at once.
+const BLOCK: usize = 65536;
 
 // Room for the longest line, and for some answers that wait to be written: a write for each would cost more than the answer.
 const OUTPUT: usize = 151552;
@@ -29,11 +34,18 @@ const OUTPUT: usize = 151552;
 enum Turn {
     More(Line),
     Ended(Line),
-    Failed,
+    Failed(Stopped),
 }
 
 // Answers every line that ends in the block, and writes the answers out: the next read may wait for more.
-fn feed_all(block: &[u8], line: Line, kept: &mut [u8], out: &mut [u8]) -> Turn
+fn feed_all<W: Write>(
+    clock: &impl Clock,
+    to: &mut W,
+    block: &[u8],
+    line: Line,
+    kept: &mut [u8],
+    out: &mut [u8],
+) -> Turn
     requires { (longest ≤ length kept.old) × (LineStep.line_room ≤ length out.old) }
     ensures goes_on { Internal.GoesOnIfMore block.now line kept.old result kept.new }
 {
@@ -41,8 +53,8 @@ fn feed_all(block: &[u8], line: Line, kept: &mut [u8], out: &mut [u8]) -> Turn
     let mut from = 0usize;
     while from < block.len() {
         let fed = feed_lines(&block[from..], known, kept, out);
-        if !write_out(out, fed.written) {
-            return Turn::Failed;
+        if let Err(stopped) = write_out(clock, to, out, fed.written) {
+            return Turn::Failed(stopped);
         }
         known = fed.line;
         from += fed.taken;
@@ -50,78 +62,110 @@ fn feed_all(block: &[u8], line: Line, kept: &mut [u8], out: &mut [u8]) -> Turn
     Turn::More(known)
 }
 
-fn read_block(line: Line, kept: &mut [u8], out: &mut [u8]) -> Turn
+fn read_block<R: Read, W: Write>(
+    clock: &impl Clock,
+    input: &mut R,
+    to: &mut W,
+    line: Line,
+    kept: &mut [u8],
+    out: &mut [u8],
+) -> Turn
     requires { (longest ≤ length kept.old) × (LineStep.line_room ≤ length out.old) }
 {
-    let mut block = io::large_buffer();
-    let got = libc::read(STDIN_FILENO, &mut block);
-    if got == 0 {
-        return Turn::Ended(line);
-    }
-    if got < 0 {
-        if try_again() {
-            return Turn::More(line);
-        }
-        tell(b"ringcut: stopped, standard input can't be read");
-        return Turn::Failed;
-    }
-    let n = io::count(got, &block);
-    feed_all(&block[..n], line, kept, out)
-}
-
-// A proved loop has to end, and nothing says that the input does: the turns are counted down from a number that no run uses up.
-fn read_all(kept: &mut [u8], out: &mut [u8]) -> Turn
-    requires { (longest ≤ length kept.old) × (LineStep.line_room ≤ length out.old) }
-{
-    let mut line = start();
-    let mut turns = u64::MAX;
-    while turns > 0 {
-        let turn = read_block(line, kept, out);
-        let Turn::More(next) = turn else {
-            return turn;
-        };
-        line = next;
-        turns -= 1;
-    }
-    Turn::Failed
-}
-
-fn answer_input() {
-    let mut kept = [0u8; LONGEST];
-    let mut out = [0u8; OUTPUT];
-    if let Turn::Ended(line) = read_all(&mut kept, &mut out) {
-        // Both slices are as long as `finish` asks, so it never answers that one is too short.
-        if let Finished::Wrote(waiting) = finish(line, &kept, &mut out) {
-            if write_out(&out, waiting) {
-                close_out();
+    let mut block = [0u8; BLOCK];
+    match input.read(&mut block) {
+        Ok(0) => Turn::Ended(line),
+        Ok(n) => feed_all(clock, to, &block[..n], line, kept, out),
+        Err(error) => {
+            if try_again(clock, &error) {
+                Turn::More(line)
+            } else {
+                Turn::Failed(Stopped::Reading(error))
             }
         }
     }
 }
 
-fn say_version() {
-    let version = b"ringcut 1.0.0\n";
-    if write_out(version, version.len()) {
-        close_out();
+// A proved loop has to end, and nothing says that the input does: the turns are counted up to a number that no run comes to.
+fn read_all<R: Read, W: Write>(
+    clock: &impl Clock,
+    input: &mut R,
+    to: &mut W,
+    kept: &mut [u8],
+    out: &mut [u8],
+) -> Result<Line, Stopped>
+    requires { (longest ≤ length kept.old) × (LineStep.line_room ≤ length out.old) }
+{
+    let mut line = start();
+    for _ in 0..u64::MAX {
+        match read_block(clock, input, to, line, kept, out) {
+            Turn::More(next) => line = next,
+            Turn::Ended(last) => return Ok(last),
+            Turn::Failed(stopped) => return Err(stopped),
+        }
+    }
+    Err(Stopped::Reading(io::Error::from(io::ErrorKind::TimedOut)))
+}
+
+fn answer_input<R: Read, W: Write>(
+    clock: &impl Clock,
+    input: &mut R,
+    to: &mut W,
+) -> Result<(), Stopped> {
+    let mut kept = [0u8; LONGEST];
+    let mut out = [0u8; OUTPUT];
+    let line = read_all(clock, input, to, &mut kept, &mut out)?;
+    match finish(line, &kept, &mut out) {
+        Finished::Wrote(waiting) => write_out(clock, to, &out, waiting),
+        // Both slices are as long as `finish` asks, so it never answers that one is too short.
+        Finished::TooShort => Ok(()),
     }
 }
 
-fn main() {
-    if asks_for_version() {
-        say_version();
-        return;
+fn say_version<W: Write>(clock: &impl Clock, to: &mut W) -> Result<(), Stopped> {
+    let version = b"ringcut 1.0.0\n";
+    write_out(clock, to, version, version.len())
+}
+
+// Tells what stopped the work, or else closes standard output.
+fn end(rt: HostRuntime, outcome: Result<(), Stopped>) {
+    match outcome {
+        Ok(()) => close_out(rt),
+        Err(Stopped::Reading(error)) => tell(
+            rt,
+            "ringcut: stopped, standard input can't be read",
+            error,
+        ),
+        Err(Stopped::Writing(error)) => tell(
+            rt,
+            "ringcut: stopped, standard output can't be written",
+            error,
+        ),
     }
-    if os::arg_count() > 1 {
-        say(b"usage: ringcut <FRAMES >ANSWERS\n       ringcut --version\n");
+}
+
+fn main(rt: HostRuntime) {
+    let mut input = rt.stdin();
+    let mut to = rt.stdout();
+    if asks_for_version(&rt) {
+        return end(rt, say_version(&rt, &mut to));
+    }
+    if has_arguments(&rt, 1) {
         say(
-            b"Reads frames from standard input, a line of hexadecimal digits each, and prints a line for each answer.\n",
+            rt,
+            "usage: ringcut <FRAMES >ANSWERS\n       ringcut --version\n",
+        );
+        say(
+            rt,
+            "Reads frames from standard input, a line of hexadecimal digits each, and prints a line for each answer.\n",
         );
         return;
     }
-    if libc::isatty(STDIN_FILENO) != 0 {
+    if input.is_terminal() {
         say(
-            b"ringcut: waiting for frames from the terminal, a line of hexadecimal digits each; control-D ends them\n",
+            rt,
+            "ringcut: waiting for frames from the terminal, a line of hexadecimal digits each; control-D ends them\n",
         );
     }
-    answer_input();
+    end(rt, answer_input(&rt, &mut input, &mut to));
 }

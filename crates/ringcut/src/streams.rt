@@ -1,91 +1,141 @@
-// Standard output and standard error, and what to do where a read or a write fails.
+// Writing all of some bytes, standard error, and what to do where a read or a write fails.
 ghost use Rattle.std.specs.Prelude.{◌≤◌, length};
 
-use libc::types::timespec;
-use libc::{EAGAIN, EINTR, STDERR_FILENO, STDOUT_FILENO};
+use std::fmt::InlineText;
+use std::fs::OpenFile;
+use std::io::Write;
+use std::os::fd::AsFd;
+use std::rt::{Clock, Files};
+use std::time::Duration;
+use std::{fs, io, thread};
 
-// Waits a millisecond, or until a signal comes.
-fn wait_a_millisecond() {
-    let asked = timespec {
-        tv_sec: 0,
-        tv_nsec: 1000000,
-    };
-    let mut left = timespec {
-        tv_sec: 0,
-        tv_nsec: 0,
-    };
-    libc::nanosleep(&asked, &mut left);
+// Why the work ended before the input did: a read or a write that failed.
+#[derive(Drop)]
+pub enum Stopped {
+    Reading(io::Error),
+    Writing(io::Error),
+}
+
+// Room for the text of an error.
+const TEXT: usize = 256;
+
+// What the system answers for a descriptor that is not open.
+const EBADF: i32 = 9;
+
+// Where standard output goes, as Linux names it.
+const OUT: &str = "/proc/self/fd/1";
+
+fn wait_a_millisecond(clock: &impl Clock) {
+    thread::sleep(clock, Duration::from_millis(1));
 }
 
 // Whether to make the call again that has just failed: a signal came before it moved a byte, or the descriptor is one that does not wait,
 // and was not ready.
-pub fn try_again() -> bool {
-    let error = os::errno();
-    if error == EAGAIN {
-        wait_a_millisecond();
-        return true;
+pub fn try_again(clock: &impl Clock, error: &io::Error) -> bool {
+    match error.kind() {
+        io::ErrorKind::WouldBlock => {
+            wait_a_millisecond(clock);
+            true
+        }
+        io::ErrorKind::Interrupted => true,
+        _ => false,
     }
-    error == EINTR
 }
 
-// Writes all of the bytes and answers true, or answers false at the first write that fails. A write may take some of them only, or none.
-// The turns are counted down from a number that no run uses up, since a proved loop has to end.
-fn write_to(fd: i32, bytes: &[u8]) -> bool {
-    let mut done = 0usize;
-    let mut turns = u64::MAX;
-    while turns > 0 {
-        if done == bytes.len() {
-            return true;
+// Writes all of the bytes, or fails at the first write that fails. A write may take some of them only, or none. The turns are counted up to
+// a number that no run comes to, since a proved loop has to end.
+fn write_to<W: Write>(clock: &impl Clock, to: &mut W, bytes: &[u8]) -> io::Result<()> {
+    let mut left = bytes;
+    for _ in 0..u64::MAX {
+        if left.is_empty() {
+            return Ok(());
         }
-        let left = &bytes[done..];
-        let put = libc::write(fd, left);
-        if put == 0 {
-            wait_a_millisecond();
-        }
-        if put < 0 {
-            if !try_again() {
-                return false;
+        match to.write(left) {
+            Ok(0) => wait_a_millisecond(clock),
+            Ok(n) => left = &left[n..],
+            Err(error) => {
+                if !try_again(clock, &error) {
+                    return Err(error);
+                }
             }
         }
-        done += io::count(put, left);
-        turns -= 1;
     }
-    false
+    Err(io::Error::from(io::ErrorKind::TimedOut))
 }
 
 // There is nowhere to tell that standard error can't be written.
-pub fn say(text: &[u8]) {
-    write_to(STDERR_FILENO, text);
+pub fn say(rt: HostRuntime, text: &str) {
+    let mut to = rt.stderr();
+    let _ = write_to(&rt, &mut to, text.as_bytes());
 }
 
-// Tells what failed, with the system's reason. That is the reason of the last call that failed: so where it was a write of this line, the
-// line is ended without; at worst an empty line follows.
-pub fn tell(failed: &[u8]) {
-    let error = os::errno();
-    say(failed);
-    if os::errno() == error {
-        // Behind what it is given it writes a colon, the reason and the line's end, each once.
-        os::fail(b"");
-    }
-    if os::errno() != error {
-        say(b"\n");
+// The system's reason alone: the text of an error of the system goes on with its number.
+fn reason(text: &str) -> &str {
+    match text.split_once(" (os error ") {
+        Some((before, _)) => before,
+        None => text,
     }
 }
 
-// Writes the answers that wait at the front of the output. Where not all could be written it is told, and false answered.
-pub fn write_out(out: &[u8], waiting: usize) -> bool
+// Tells what failed, with the system's reason.
+pub fn tell(rt: HostRuntime, failed: &str, error: io::Error) {
+    let text = InlineText::<TEXT>::of(error);
+    say(rt, failed);
+    say(rt, ": ");
+    say(rt, reason(text.as_str()));
+    say(rt, "\n");
+}
+
+// Writes the answers that wait at the front of the output.
+pub fn write_out<W: Write>(
+    clock: &impl Clock,
+    to: &mut W,
+    out: &[u8],
+    waiting: usize,
+) -> Result<(), Stopped>
     requires { waiting ≤ length out.now }
 {
-    let is_written = write_to(STDOUT_FILENO, &out[..waiting]);
-    if !is_written {
-        tell(b"ringcut: stopped, standard output can't be written");
-    }
-    is_written
+    write_to(clock, to, &out[..waiting]).map_err(Stopped::Writing)
 }
 
-// Some file systems tell only here that something written was lost.
-pub fn close_out() {
-    if libc::close(STDOUT_FILENO) < 0 {
-        tell(b"ringcut: standard output can't be closed, so answers may be lost");
+// Whether standard output is open, asked by a copy of it, which is closed again here. That there may be no room for a copy says nothing.
+fn check_is_open(rt: HostRuntime) -> io::Result<()> {
+    match rt.stdout().as_fd().try_clone_to_owned() {
+        Err(error) if error.raw_os_error() == Some(EBADF) => Err(error),
+        _ => Ok(()),
+    }
+}
+
+// Where standard output is a file, has the system keep what was written to it. Where it has no name that can be opened, and where its file
+// system keeps nothing, nothing can be asked.
+fn sync_file(files: &impl Files) -> io::Result<()> {
+    let Ok(found) = fs::metadata(files, OUT) else {
+        return Ok(());
+    };
+    if !found.is_file() {
+        return Ok(());
+    }
+    let Ok(file) = fs::File::open(files, OUT) else {
+        return Ok(());
+    };
+    match file.sync_data() {
+        Err(error) if error.kind() == io::ErrorKind::InvalidInput => Ok(()),
+        outcome => outcome,
+    }
+}
+
+// Some file systems tell only at the end that something written was lost. Standard output is closed as the program ends, when nobody can be
+// told, so what closing it would tell is asked for before.
+pub fn close_out(rt: HostRuntime) {
+    let outcome = match check_is_open(rt) {
+        Ok(()) => sync_file(&rt),
+        Err(error) => Err(error),
+    };
+    if let Err(error) = outcome {
+        tell(
+            rt,
+            "ringcut: standard output can't be closed, so answers may be lost",
+            error,
+        );
     }
 }
