@@ -400,7 +400,7 @@ def convert(root, crate, folder, info, clauses):
         need = re.sub(r"^overflow[-_]", "", label)
         found = fn.needs.get(norm(label)) or fn.needs.get(norm(need))
         final = rest.strip()
-        if re.fullmatch(r"\(?search rules\)?", final) or re.fullmatch(r"\(\s*(search rules,?\s*)+\)", final):
+        if not unfold and re.fullmatch(r"\(?search rules\)?", final) or not unfold and re.fullmatch(r"\(\s*(search rules,?\s*)+\)", final):
             continue
         if not found:
             said.append(f"{folder}: no goal for {label}: {final[:100]}")
@@ -546,6 +546,13 @@ def main():
         names = json.load(f)
     clauses = clauses_of(root)
     SOURCE.update(source_names(root))
+    for folder, _, files in os.walk(os.path.join(root, "crates")):
+        if re.search(r"/(specs|proofs)$", folder):
+            for f in files:
+                if f.endswith(".antt"):
+                    with open(os.path.join(folder, f), encoding="utf-8") as it:
+                        for w in re.findall(r"^\s+(?:pub )?([a-z][\w]*-[\w-]+) :", it.read(), re.M):
+                            SOURCE.discard(w.replace("-", "_"))
     base = os.path.join(root, "crates", crate, "proofs")
     for folder, _, files in sorted(os.walk(base)):
         if "Proof.antt" not in files:
