@@ -18,7 +18,7 @@ NAME = r"[^\s(){}\[\];,.:]+"
 
 
 def norm(s):
-    return s.replace("-", "_")
+    return s.replace("-", "_").lower()
 
 
 def clauses_of(root):
@@ -75,7 +75,7 @@ def split_decls(text):
             comment.append(l)
             i += 1
         else:
-            m = re.match(rf"(?:(?:abbrev|unfoldable|pub) )*({NAME})", l)
+            m = re.match(rf"(?:(?:abbrev|unfoldable|pub|record|data) )*({NAME})", l)
             name = m.group(1) if m else l
             body = [l]
             i += 1
@@ -238,7 +238,8 @@ def turn_paths(body, fn, place, own, records=None, within=False):
         return full
 
     def path_new(full):
-        return [w.replace("-", "_") if w.replace("-", "_") in SOURCE and k else w for k, w in enumerate(path_words(full))]
+        words = path_words(full)
+        return [w.replace("-", "_") if k and (w.replace("-", "_") in SOURCE or words[k - 1] in ("args", "new", "initial") or words[k - 2] == "new") else w for k, w in enumerate(words)]
 
     def path_words(full):
         """full: the words behind c, without before. Returns the new words."""
@@ -266,6 +267,15 @@ def turn_paths(body, fn, place, own, records=None, within=False):
             names = fn.clauses[callee][1 if rest[0] == "ensures" else 0]
             q = clause_path(rest[0], names, rest[1:])
             rest = [rest[0]] + (q if q is not None else rest[1:])
+        params = fn.info["params"].get(callee) if callee else None
+        if params and rest and rest[0] in ("new", "auto") and len(params) > 1 and rest[1:2] in (["0"], ["1"]):
+            k, more = 0, rest[1:]
+            while more and more[0] == "1":
+                k, more = k + 1, more[1:]
+            if more and more[0] == "0":
+                more = more[1:]
+            if k < len(params):
+                rest = [rest[0], params[k]] + more
         return [new] + rest
 
     def text(full):
@@ -342,7 +352,7 @@ def convert(root, crate, folder, info, clauses):
     invariants, answers, helpers, said = [], [], [], []
     records = {}
     for d in decls:
-        m = re.match(rf"(?:(?:abbrev|pub) )*({NAME})\s*:\s*\(?(?:{NAME} : )?tie\.([A-Z][\w-]*)", "\n".join(d["lines"]))
+        m = re.match(rf"(?:(?:abbrev|pub|record) )*({NAME})\s*(?::\s*)?\(?(?:{NAME} : )?tie\.([A-Z][\w-]*)", "\n".join(d["lines"]))
         if m:
             for old_place, new_place in fn.new_place.items():
                 if norm(old_place) == norm(m.group(2)):
@@ -397,8 +407,9 @@ def convert(root, crate, folder, info, clauses):
             new_body = re.sub(rf"(?<![^\s(\[{{,;])([^\s(){{}}\[\];,.:]+)((?:\.[^\s(){{}}\[\];,.:]+)*)", put, rest)
             invariants.append((d["comment"], unfold, f"{kind}{new}", new_body))
             continue
-        need = re.sub(r"^overflow[-_]", "", label)
-        found = fn.needs.get(norm(label)) or fn.needs.get(norm(need))
+        need = re.sub(r"^(overflow|slice[-_]bounds)[-_]", "", label)
+        found = fn.needs.get(norm(label)) or fn.needs.get(norm(need)) or fn.needs.get("part_" + norm(need))
+        found = found or next((v for v in fn.needs.values() if norm(v[0]) == norm(label)), None)
         final = rest.strip()
         if not unfold and re.fullmatch(r"\(?search rules\)?", final) or not unfold and re.fullmatch(r"\(\s*(search rules,?\s*)+\)", final):
             continue
@@ -431,6 +442,9 @@ def convert(root, crate, folder, info, clauses):
                 parts = dict(zip(names, found))
             else:
                 parts = {n: f"let all = {expr.strip()} in all." + ("1." * min(k, len(names) - 1) + "0" if k < len(names) - 1 else "1." * (len(names) - 2) + "1") for k, n in enumerate(names)}
+        for k in parts:
+            parts[k] = re.sub(r"not-(?:true|false) (?:c\.[^\s()]+|_)\s+(c\.if-not-[^\s(){},;]+\.(?:true|false))", r"\1", parts[k])
+        lets = re.sub(r"not-(?:true|false) (?:c\.[^\s()]+|_)\s+(c\.if-not-[^\s(){},;]+\.(?:true|false))", r"\1", lets)
         answers.append({"comment": d["comment"], "unfolding": unfold, "goal": new, "param": params[0] if params else "c", "lets": lets, "parts": parts})
     old = os.path.join("/tmp/old-proofs", crate, folder)
     os.makedirs(old, exist_ok=True)
