@@ -18,7 +18,7 @@ NAME = r"[^\s(){}\[\];,.:]+"
 
 
 def norm(s):
-    return s.replace("-", "_")
+    return s.replace("-", "_").lower()
 
 
 def clauses_of(root):
@@ -75,7 +75,7 @@ def split_decls(text):
             comment.append(l)
             i += 1
         else:
-            m = re.match(rf"(?:(?:abbrev|unfoldable|pub) )*({NAME})", l)
+            m = re.match(rf"(?:(?:abbrev|unfoldable|pub|record|data) )*({NAME})", l)
             name = m.group(1) if m else l
             body = [l]
             i += 1
@@ -147,6 +147,21 @@ def body_split(body):
     return body[:at], body[at:]
 
 
+def source_names(root):
+    """The names of the crates' source that have an underscore: older proof files had a dash there."""
+    found = set()
+    for folder, _, files in os.walk(os.path.join(root, "crates")):
+        if "/src" in folder:
+            for f in files:
+                if f.endswith(".rt"):
+                    with open(os.path.join(folder, f), encoding="utf-8") as it:
+                        found |= set(re.findall(r"\b[a-z]\w*_\w*\b", it.read()))
+    return found
+
+
+SOURCE = set()
+
+
 class Function:
     def __init__(self, info, path, crate, clauses):
         self.info = info
@@ -211,9 +226,10 @@ def clause_path(kind, names, rest):
     return [names[k]] + rest
 
 
-def turn_paths(body, fn, place, own):
-    """Rewrites the paths of c, and of what a let calls one of its parts."""
+def turn_paths(body, fn, place, own, records=None, within=False):
+    """Rewrites the paths of c, and of what a let calls one of its parts. records: the helpers that take a place's whole record."""
     alias = {"c": ([], None)}
+    records = records or {}
 
     def resolve(base, parts):
         prefix, callee = alias[base]
@@ -222,6 +238,10 @@ def turn_paths(body, fn, place, own):
         return full
 
     def path_new(full):
+        words = path_words(full)
+        return [w.replace("-", "_") if k and (w.replace("-", "_") in SOURCE or words[k - 1] in ("args", "new", "initial") or words[k - 2] == "new") else w for k, w in enumerate(words)]
+
+    def path_words(full):
         """full: the words behind c, without before. Returns the new words."""
         if not full:
             return []
@@ -247,6 +267,15 @@ def turn_paths(body, fn, place, own):
             names = fn.clauses[callee][1 if rest[0] == "ensures" else 0]
             q = clause_path(rest[0], names, rest[1:])
             rest = [rest[0]] + (q if q is not None else rest[1:])
+        params = fn.info["params"].get(callee) if callee else None
+        if params and rest and rest[0] in ("new", "auto") and len(params) > 1 and rest[1:2] in (["0"], ["1"]):
+            k, more = 0, rest[1:]
+            while more and more[0] == "1":
+                k, more = k + 1, more[1:]
+            if more and more[0] == "0":
+                more = more[1:]
+            if k < len(params):
+                rest = [rest[0], params[k]] + more
         return [new] + rest
 
     def text(full):
@@ -260,6 +289,10 @@ def turn_paths(body, fn, place, own):
             return m.group(0)
         full = resolve(base, words)
         prefix = alias[base][0]
+        if not full and not within:
+            before = re.search(r"([^\s()]+)\s+$", m.string[: m.start()])
+            if before and before.group(1) in records:
+                return f"(goal.at.\1 c).{records[before.group(1)]}"
         if base != "c" and prefix:
             head = path_new(prefix)
             new = path_new(full)
@@ -317,6 +350,14 @@ def convert(root, crate, folder, info, clauses):
     fn = Function(info, func, crate, clauses)
     own = clauses.get(func, ([], []))
     invariants, answers, helpers, said = [], [], [], []
+    records = {}
+    for d in decls:
+        m = re.match(rf"(?:(?:abbrev|pub|record) )*({NAME})\s*(?::\s*)?\(?(?:{NAME} : )?tie\.([A-Z][\w-]*)", "\n".join(d["lines"]))
+        if m:
+            for old_place, new_place in fn.new_place.items():
+                if norm(old_place) == norm(m.group(2)):
+                    records[m.group(1)] = new_place
+                    d["place"] = old_place
     for d in decls:
         body = "\n".join(d["lines"])
         sig = re.match(rf"(?:(?:abbrev|unfoldable|pub) )*({NAME})\s*:\s*(.*)", body, re.S)
@@ -324,6 +365,17 @@ def convert(root, crate, folder, info, clauses):
             continue
         m = sig and re.match(r"tie\.(Need-|invariant-|decreases-)([\w-]+)", sig.group(2))
         if not m:
+            if "place" in d:
+                text_of = "\n".join(d["lines"])
+                text_of = re.sub(r"tie\.[A-Z][\w-]*(?: (?:invariant|decreases)-[\w-]+)*", fn.new_place[d["place"]], text_of)
+                var = re.match(rf"(?:(?:abbrev|pub) )*{NAME}\s*:\s*\(({NAME}) :", text_of)
+                clause = re.search(rf"^{re.escape(d['name'])}\s+({NAME})", text_of, re.M)
+                for v in {x.group(1) for x in (var, clause) if x}:
+                    if v != "c":
+                        text_of = re.sub(rf"(?<![^\s(){{}}\[\];,.:]){re.escape(v)}(?![^\s(){{}}\[\];,.:])", "c", text_of)
+                d["lines"] = turn_paths(text_of, fn, d["place"], own, records, True).splitlines()
+                if any(used([r], "\n".join(d["lines"][1:])) for r in records if r != d["name"]):
+                    said.append(f"{folder}: {d['name']} takes another helper's record: by hand")
             helpers.append(d)
             continue
         kind, label = m.group(1), m.group(2)
@@ -355,10 +407,11 @@ def convert(root, crate, folder, info, clauses):
             new_body = re.sub(rf"(?<![^\s(\[{{,;])([^\s(){{}}\[\];,.:]+)((?:\.[^\s(){{}}\[\];,.:]+)*)", put, rest)
             invariants.append((d["comment"], unfold, f"{kind}{new}", new_body))
             continue
-        need = re.sub(r"^overflow[-_]", "", label)
-        found = fn.needs.get(norm(label)) or fn.needs.get(norm(need))
+        need = re.sub(r"^(overflow|slice[-_]bounds)[-_]", "", label)
+        found = fn.needs.get(norm(label)) or fn.needs.get(norm(need)) or fn.needs.get("part_" + norm(need))
+        found = found or next((v for v in fn.needs.values() if norm(v[0]) == norm(label)), None)
         final = rest.strip()
-        if re.fullmatch(r"\(?search rules\)?", final) or re.fullmatch(r"\(\s*(search rules,?\s*)+\)", final):
+        if not unfold and re.fullmatch(r"\(?search rules\)?", final) or not unfold and re.fullmatch(r"\(\s*(search rules,?\s*)+\)", final):
             continue
         if not found:
             said.append(f"{folder}: no goal for {label}: {final[:100]}")
@@ -368,7 +421,7 @@ def convert(root, crate, folder, info, clauses):
             said.append(f"{folder}: {label} became {new}")
             continue
         place = asked[0] if asked else None
-        turned = turn_paths(rest, fn, place, own)
+        turned = turn_paths(rest, fn, place, own, records)
         if params[1:]:
             params = params[:1]
         lets, expr = body_split(turned)
@@ -389,6 +442,9 @@ def convert(root, crate, folder, info, clauses):
                 parts = dict(zip(names, found))
             else:
                 parts = {n: f"let all = {expr.strip()} in all." + ("1." * min(k, len(names) - 1) + "0" if k < len(names) - 1 else "1." * (len(names) - 2) + "1") for k, n in enumerate(names)}
+        for k in parts:
+            parts[k] = re.sub(r"not-(?:true|false) (?:c\.[^\s()]+|_)\s+(c\.if-not-[^\s(){},;]+\.(?:true|false))", r"\1", parts[k])
+        lets = re.sub(r"not-(?:true|false) (?:c\.[^\s()]+|_)\s+(c\.if-not-[^\s(){},;]+\.(?:true|false))", r"\1", lets)
         answers.append({"comment": d["comment"], "unfolding": unfold, "goal": new, "param": params[0] if params else "c", "lets": lets, "parts": parts})
     old = os.path.join("/tmp/old-proofs", crate, folder)
     os.makedirs(old, exist_ok=True)
@@ -406,7 +462,7 @@ def convert(root, crate, folder, info, clauses):
         body = "\n\n".join(["\n".join(d["comment"] + d["lines"]) for d in need_helpers] + [inv])
         with open(os.path.join(where, "Invariants.antt"), "w", encoding="utf-8") as f:
             f.write("\n".join(head + imports(body, keep) + [f"use {module}.Given as goal", "", body, ""]))
-    kept = {"head": head, "uses": keep, "module": module, "helpers": helpers, "answers": answers, "where": where}
+    kept = {"head": head, "uses": keep, "module": module, "helpers": helpers, "answers": answers, "where": where, "records": records}
     with open(os.path.join(old, "answers.json"), "w", encoding="utf-8") as f:
         json.dump(kept, f, ensure_ascii=False)
     if not invariants:
@@ -478,7 +534,7 @@ def fill(root, crate, log, only):
         if missing:
             print(f"{folder}: no old answer for {' '.join(missing)}")
         where = os.path.join(root, "crates", crate, "proofs", folder)
-        ans = "\n\n".join("\n".join([c for c in com if c] + [f"pub {n} : goal.{n}"] + unf + [f"{n} {p} = {b}"]) for com, unf, n, p, b in written)
+        ans = "\n\n".join("\n".join([c for c in com if c] + [f"pub {n} : goal.{n}"] + unf + [f"{n} {p} = " + b.replace("\1", n)]) for com, unf, n, p, b in written)
         helpers, body = kept["helpers"], ans
         while True:
             more = [d for d in helpers if used([d["name"]], body)]
@@ -490,7 +546,8 @@ def fill(root, crate, log, only):
             body += "\n" + "".join(f"\n-- open: {g}" for g in missing)
         os.makedirs(where, exist_ok=True)
         with open(os.path.join(where, "Answers.antt"), "w", encoding="utf-8") as f:
-            f.write("\n".join(kept["head"] + imports(body, kept["uses"]) + [f"use {kept['module']}.Goals as goal", "", body, ""]))
+            shared = [f"use {kept['module']}.Goals.{{{', '.join(r)}}}" for r in [sorted({n for n in kept["records"].values() if used([n], body)})] if r]
+            f.write("\n".join(kept["head"] + imports(body, kept["uses"]) + [f"use {kept['module']}.Goals as goal"] + shared + ["", body, ""]))
 
 
 def main():
@@ -502,6 +559,14 @@ def main():
     with open(f"/tmp/names-{crate}/names.json", encoding="utf-8") as f:
         names = json.load(f)
     clauses = clauses_of(root)
+    SOURCE.update(source_names(root))
+    for folder, _, files in os.walk(os.path.join(root, "crates")):
+        if re.search(r"/(specs|proofs)$", folder):
+            for f in files:
+                if f.endswith(".antt"):
+                    with open(os.path.join(folder, f), encoding="utf-8") as it:
+                        for w in re.findall(r"^\s+(?:pub )?([a-z][\w]*-[\w-]+) :", it.read(), re.M):
+                            SOURCE.discard(w.replace("-", "_"))
     base = os.path.join(root, "crates", crate, "proofs")
     for folder, _, files in sorted(os.walk(base)):
         if "Proof.antt" not in files:

@@ -32,6 +32,7 @@ pub enum Repeat {
 }
 
 // Whether an exterior whose issue is this one has an issue.
+#[tactic(auto, unfolding(crate::specs::Issue::has_issue))]
 pub fn has_issue(issue: Issue) -> bool
     ensures { result ≡ has_issue issue }
 {

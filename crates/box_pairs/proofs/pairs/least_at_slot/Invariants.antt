@@ -1,0 +1,13 @@
+-- `pairs::least_at_slot` meets its contract. The loop keeps a number of a crossing pair that is at most that of each crossing pair passed;
+-- where it breaks off, none follows. Assumes nothing.
+use Prim.Native.Nat.{◌+◌, ◌-◌}
+use Rattle.box_pairs.specs.Internal.{front}
+use Rattle.box_pairs.specs.Pairs.{edges_cross}
+use Rattle.box_pairs.proofs.First.{Row}
+use Rattle.box_pairs.proofs.pairs.least_at_slot.Given as goal
+
+abbrev pub invariant-loop-q : goal.invariant-loop-q
+invariant-loop-q l = Row (edges_cross (front l.ring (l.edges + 1))) l.order l.edges l.p l.q l.least
+
+abbrev pub decreases-loop-q : goal.decreases-loop-q
+decreases-loop-q l = l.edges - l.q

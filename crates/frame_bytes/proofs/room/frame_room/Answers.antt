@@ -1,0 +1,66 @@
+-- `frame_room` meets its contract. The invariant: the room so far, with the room of what is left, is the whole room. Assumes nothing.
+use mathlib.Core.Path.{refl, sym, ap}
+use Prim.Native.Nat.{ℕ, ◌+◌}
+use native.Mathlib.Omega.{arith}
+use mathlib.Core.List.{List}
+use borrow.Author.Rules.{rules}
+use lib.ListN.{length, drop}
+use Rattle.frame_bytes.specs.declared.room.MeasuredRoom.{MeasuredRoom}
+use Rattle.frame_bytes.specs.Frame.{head_bytes, part_count_of, read_part}
+use Rattle.frame_bytes.specs.Room.{least_room, answer_coord_size, part_room}
+use Rattle.frame_bytes.proofs.Readings.{part_reads}
+use Rattle.frame_bytes.proofs.Rooms.{left, sum-here, sum_step, sum_end, parts-le, frame_head, frame_few, frame_parts}
+use Rattle.frame_bytes.proofs.Rooms.{frame_passed}
+use Rattle.frame_bytes.proofs.room.frame_room.Goals as goal
+
+-- the room of the whole frame, and where its parts end
+abbrev whole : List ℕ → MeasuredRoom
+whole frame =
+    record {
+      room = least_room + (left read_part (part_room answer_coord_size) frame head_bytes (part_count_of frame)).room;
+      next =
+          (left read_part (part_room answer_coord_size) frame head_bytes (part_count_of frame)).next;
+    }
+
+pub count_at-left-requires : goal.count_at-left-requires
+count_at-left-requires c = omega (arith, frame_head c.args.frame.now c.requires)
+
+pub loop-left-init : goal.loop-left-init
+loop-left-init c = let f = c.args.frame.now in rw c.count_at-left.ensures.0 (
+      omega arith,
+      record {
+        within = frame_head f c.requires;
+        accepted = frame_parts f c.requires;
+        sum =
+            refl;
+        end = refl;
+      },
+    )
+
+pub part_room-part-requires : goal.part_room-part-requires
+part_room-part-requires c = let l = c.loop-left in (
+      l.invariant.1.within,
+      sum-here read_part (part_room answer_coord_size) c.args.frame.now l.at
+          l.left c.loop-left-test.true l.invariant.1.accepted,
+    )
+
+pub overflow_add-room : goal.overflow_add-room
+overflow_add-room c = let f = c.args.frame.now in
+    let l = c.loop-left in
+    let s = sum_step read_part (part_room answer_coord_size) f part_reads _ l.room l.at l.left c.part_room-part.result
+    c.loop-left-test.true c.part_room-part.ensures l.invariant.1 in
+    let e = s.sum in
+    let few = frame_few f c.requires in omega (arith, parts-le (length f) (part_count_of f) (drop head_bytes f) (frame_parts f c.requires))
+
+pub loop-left-preserved : goal.loop-left-preserved
+loop-left-preserved c = let f = c.args.frame.now in
+    let l = c.loop-left in (
+      search rules,
+      sum_step read_part (part_room answer_coord_size) f part_reads _ l.room l.at l.left
+          c.part_room-part.result c.loop-left-test.true c.part_room-part.ensures l.invariant.1,
+    )
+
+pub returns : goal.returns
+returns c = let f = c.args.frame.now in
+    let l = c.loop-left in
+    let e = sum_end read_part (part_room answer_coord_size) f (whole f) l.room l.at l.left c.loop-left-test.false l.invariant.1 in rw (frame_passed f c.requires) (sym (ap (λ (p : MeasuredRoom). p.room) e))
