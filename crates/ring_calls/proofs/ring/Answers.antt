@@ -111,8 +111,8 @@ returns-in-Passes-clause-lent c = let a = c.args in
     let cut = lent-padded a.ring.now p.even a.bounds _ _ _ (omega (arith, l, room)) clipped.ensures.ring in
     let origins = lent-origins a.ring.now p.even a.bounds (length (take r a.out_origins.now)) clipped.result _
     (omega (arith, m, room)) clipped.ensures.origins in rw room (clipped_slices a.ring.now a.bounds lent _ _ _ _ _ e
-            (cleared plus_zero _ _ _ c.clear.ensures clipped.auto.out)
-            (cleared 0 _ _ _ c.clear_origins.ensures clipped.auto.out_origins) cut origins)
+            (cleared plus_zero _ _ _ c.clear.ensures clipped.auto.scratch)
+            (cleared 0 _ _ _ c.clear_origins.ensures clipped.auto.origin_scratch) cut origins)
 
 pub returns-in-Passes-clause-promise : goal.returns-in-Passes-clause-promise
 unfolding ring_call_answer ring_call_room ring_call_origin_room
