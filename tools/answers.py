@@ -438,8 +438,13 @@ def convert(root, crate, folder, info, clauses):
         parts = {"": expr.strip()}
         if names and len(names) > 1:
             found = by_clause(expr, names)
+            pair = whole_tuple(expr)
             if found:
                 parts = dict(zip(names, found))
+            elif pair and len(pair) == 2:
+                parts = {names[0]: pair[0]}
+                for n in names[1:]:
+                    parts[n] = re.sub(r"\.1$", "." + n, pair[1])
             else:
                 parts = {n: f"let all = {expr.strip()} in all." + ("1." * min(k, len(names) - 1) + "0" if k < len(names) - 1 else "1." * (len(names) - 2) + "1") for k, n in enumerate(names)}
         for k in parts:
