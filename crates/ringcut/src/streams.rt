@@ -1,5 +1,7 @@
 // Writing all of some bytes, standard error, and what to do where a read or a write fails.
-ghost use Rattle.std.specs.Prelude.{◌≤◌, length};
+ghost use Rattle.std.specs.Prelude.{◌≤◌, length, take, OnOk, OnErr};
+ghost use Rattle.std.specs.Io.KnownBytes.{Appends};
+ghost use Rattle.ringcut.specs.Internal.{AppendsSome};
 
 use std::fmt::InlineText;
 use std::fs::OpenFile;
@@ -44,7 +46,10 @@ pub fn try_again(clock: &impl Clock, error: &io::Error) -> bool {
 
 // Writes all of the bytes, or fails at the first write that fails. A write may take some of them only, or none. The turns are counted up to
 // a number that no run comes to, since a proved loop has to end.
-fn write_to<W: Write>(clock: &impl Clock, to: &mut W, bytes: &[u8]) -> io::Result<()> {
+fn write_to<W: Write>(clock: &impl Clock, to: &mut W, bytes: &[u8]) -> io::Result<()>
+    ensures all { OnOk result (Appends (W.contents to.old) (W.contents to.new) bytes.now) }
+    ensures part { OnErr result (AppendsSome (W.contents to.old) (W.contents to.new) bytes.now) }
+{
     let mut left = bytes;
     for _ in 0..u64::MAX {
         if left.is_empty() {
@@ -94,6 +99,10 @@ pub fn write_out<W: Write>(
     waiting: usize,
 ) -> Result<(), Stopped>
     requires { waiting ≤ length out.now }
+    ensures all { OnOk result (Appends (W.contents to.old) (W.contents to.new)
+        (take waiting out.now)) }
+    ensures part { OnErr result (AppendsSome (W.contents to.old) (W.contents to.new)
+        (take waiting out.now)) }
 {
     write_to(clock, to, &out[..waiting]).map_err(Stopped::Writing)
 }
