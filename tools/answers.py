@@ -65,8 +65,12 @@ def split_decls(text):
     while i < len(lines):
         l = lines[i]
         if l.startswith("use ") or l.startswith("pub use "):
-            uses.append(l)
             i += 1
+            while l.count("{") > l.count("}"):
+                l += " " + lines[i].strip()
+                i += 1
+            l = re.sub(r"\{\s*", "{", re.sub(r",?\s*\}", "}", l))
+            uses.append(l)
         elif not l.strip():
             i += 1
             if comment:
@@ -267,6 +271,10 @@ def turn_paths(body, fn, place, own, records=None, within=False):
             names = fn.clauses[callee][1 if rest[0] == "ensures" else 0]
             q = clause_path(rest[0], names, rest[1:])
             rest = [rest[0]] + (q if q is not None else rest[1:])
+        if rest and rest[0] == "kept":
+            rest = ["auto"] + rest[1:]
+        if rest and rest[0] == "inv":
+            rest = ["invariant"] + rest[1:]
         params = fn.info["params"].get(callee) if callee else None
         if params and rest and rest[0] in ("new", "auto") and len(params) > 1 and rest[1:2] in (["0"], ["1"]):
             k, more = 0, rest[1:]
@@ -439,6 +447,9 @@ def convert(root, crate, folder, info, clauses):
         if names and len(names) > 1:
             found = by_clause(expr, names)
             pair = whole_tuple(expr)
+            rewritten = re.match(r"(rw \((?:[^()]|\([^()]*\))*\)|rw \S+) (\(.*\))$", expr.strip(), re.S)
+            if not found and rewritten and by_clause(rewritten.group(2), names):
+                found = [f"{rewritten.group(1)} ({part})" for part in by_clause(rewritten.group(2), names)]
             if found:
                 parts = dict(zip(names, found))
             elif pair and len(pair) == 2:
