@@ -237,8 +237,9 @@ def turn_paths(body, fn, place, own, records=None, within=False):
 
     def resolve(base, parts):
         prefix, callee = alias[base]
-        parts = [p for p in parts if p != "before"]
-        full = prefix + parts
+        full = list(prefix) + list(parts)
+        while full and full[0] == "before":
+            full = full[1:]
         return full
 
     def path_new(full):
@@ -457,10 +458,12 @@ def convert(root, crate, folder, info, clauses):
                 for n in names[1:]:
                     parts[n] = re.sub(r"\.1$", "." + n, pair[1])
             else:
-                parts = {n: f"let all = {expr.strip()} in all." + ("1." * min(k, len(names) - 1) + "0" if k < len(names) - 1 else "1." * (len(names) - 2) + "1") for k, n in enumerate(names)}
+                call = re.match(r"(rw \((?:[^()]|\([^()]*\))*\)|rw [^\s()]+) (\S.*)$", expr.strip(), re.S)
+                tails = ["1." * k + "0" if k < len(names) - 1 else ("1." * k)[:-1] for k in range(len(names))]
+                parts = {n: f"{call.group(1)} (({call.group(2)}).{tail})" for n, tail in zip(names, tails)} if call else {n: f"let all = {expr.strip()} in all." + ("1." * min(k, len(names) - 1) + "0" if k < len(names) - 1 else "1." * (len(names) - 2) + "1") for k, n in enumerate(names)}
         for k in parts:
-            parts[k] = re.sub(r"not-(?:true|false) (?:c\.[^\s()]+|_)\s+(c\.if-not-[^\s(){},;]+\.(?:true|false))", r"\1", parts[k])
-        lets = re.sub(r"not-(?:true|false) (?:c\.[^\s()]+|_)\s+(c\.if-not-[^\s(){},;]+\.(?:true|false))", r"\1", lets)
+            parts[k] = re.sub(r"not-(?:true|false)\s+(?:c\.[^\s()]+|_)\s+(c\.if-not-[^\s(){},;]+\.(?:true|false))", r"\1", parts[k])
+        lets = re.sub(r"not-(?:true|false)\s+(?:c\.[^\s()]+|_)\s+(c\.if-not-[^\s(){},;]+\.(?:true|false))", r"\1", lets)
         answers.append({"comment": d["comment"], "unfolding": unfold, "goal": new, "param": params[0] if params else "c", "lets": lets, "parts": parts})
     old = os.path.join("/tmp/old-proofs", crate, folder)
     os.makedirs(old, exist_ok=True)
