@@ -9,10 +9,13 @@
 mod arguments;
 mod streams;
 
-ghost use Rattle.std.specs.Prelude.{◌≤◌, length};
+ghost use Rattle.std.specs.Prelude.{◌≤◌, length, IfOk, OnOk, OnErr, IfSome};
+ghost use Rattle.std.specs.Io.KnownBytes.{Appends};
 ghost use Rattle.frame_bytes.specs.Frame.{longest};
+ghost use Rattle.lines.specs.Lines.{printed};
 ghost use Rattle.lines.specs.LineStep as LineStep;
 ghost use Rattle.ringcut.specs.Internal as Internal;
+ghost use Rattle.ringcut.specs.Streams as Streams;
 
 use arguments::{asks_for_version, has_arguments};
 use frame_bytes::reader::LONGEST;
@@ -48,6 +51,8 @@ fn feed_all<W: Write>(
 ) -> Turn
     requires { (longest ≤ length kept.old) × (LineStep.line_room ≤ length out.old) }
     ensures goes_on { Internal.GoesOnIfMore block.now line kept.old result kept.new }
+    ensures answers { Streams.Answers (W.contents to.old) (W.contents to.new) block.now line kept.old
+        result }
 {
     let mut known = line;
     let mut from = 0usize;
@@ -71,6 +76,8 @@ fn read_block<R: Read, W: Write>(
     out: &mut [u8],
 ) -> Turn
     requires { (longest ≤ length kept.old) × (LineStep.line_room ≤ length out.old) }
+    ensures turns { Streams.Turns (R.remaining input.old) (R.remaining input.new)
+        (W.contents to.old) (W.contents to.new) line kept.old result kept.new }
 {
     let mut block = [0u8; BLOCK];
     match input.read(&mut block) {
@@ -95,6 +102,10 @@ fn read_all<R: Read, W: Write>(
     out: &mut [u8],
 ) -> Result<Line, Stopped>
     requires { (longest ≤ length kept.old) × (LineStep.line_room ≤ length out.old) }
+    ensures all { IfOk result (λ last. Streams.ReadsAll (R.remaining input.old) (R.remaining input.new)
+        (W.contents to.old) (W.contents to.new) last kept.new) }
+    ensures part { OnErr result (IfSome (R.remaining input.old)
+        (λ characters. Streams.AppendsSome (W.contents to.old) (W.contents to.new) (printed characters))) }
 {
     let mut line = start();
     for _ in 0..u64::MAX {
@@ -111,7 +122,12 @@ fn answer_input<R: Read, W: Write>(
     clock: &impl Clock,
     input: &mut R,
     to: &mut W,
-) -> Result<(), Stopped> {
+) -> Result<(), Stopped>
+    ensures all { OnOk result (IfSome (R.remaining input.old)
+        (λ characters. Appends (W.contents to.old) (W.contents to.new) (printed characters))) }
+    ensures part { OnErr result (IfSome (R.remaining input.old)
+        (λ characters. Streams.AppendsSome (W.contents to.old) (W.contents to.new) (printed characters))) }
+{
     let mut kept = [0u8; LONGEST];
     let mut out = [0u8; OUTPUT];
     let line = read_all(clock, input, to, &mut kept, &mut out)?;

@@ -1,7 +1,7 @@
 // Writing all of some bytes, standard error, and what to do where a read or a write fails.
 ghost use Rattle.std.specs.Prelude.{◌≤◌, length, take, OnOk, OnErr};
 ghost use Rattle.std.specs.Io.KnownBytes.{Appends};
-ghost use Rattle.ringcut.specs.Internal.{AppendsSome};
+ghost use Rattle.ringcut.specs.Streams.{AppendsSome};
 
 use std::fmt::InlineText;
 use std::fs::OpenFile;
