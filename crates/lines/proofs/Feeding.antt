@@ -36,13 +36,11 @@ lent-lengths kept out e =
     (leb-true longest (length kept) t.0, leb-true line_room (length out) t.1)
 
 -- the same by the answer of a test
-pub not-lent : (r : Bool) (kept out : List ℕ) → r ≡ slices_fit kept out → not r ≡ true → slices_fit kept out ≡ false
-not-lent true kept out e t = absurd (true≢false (sym t))
-not-lent false kept out e t = sym e
+pub not-lent : (r : Bool) (kept out : List ℕ) → r ≡ slices_fit kept out → r ≡ false → slices_fit kept out ≡ false
+not-lent r kept out e t = sym e ∙ t
 
-pub is-lent : (r : Bool) (kept out : List ℕ) → r ≡ slices_fit kept out → not r ≡ false → slices_fit kept out ≡ true
-is-lent true kept out e t = sym e
-is-lent false kept out e t = absurd (true≢false t)
+pub is-lent : (r : Bool) (kept out : List ℕ) → r ≡ slices_fit kept out → r ≡ true → slices_fit kept out ≡ true
+is-lent r kept out e t = sym e ∙ t
 
 -- ---- what is written over the front of the output has room in it
 
