@@ -30,7 +30,7 @@ module _ (x y out out₁ out₂ : List ℕ) (first : out₁ ≡ over x out) (fro
 -- ---- characters and more characters
 
 module _ (x : List ℕ) (line : Line) (kept : List ℕ) (line₁ : Line) (kept₁ : List ℕ) (on : GoesOn x line kept line₁ kept₁) (y : List ℕ) where
-  now_then : printed_now line kept (x ++ y) ≡ printed_now line kept x ++ printed_now line₁ kept₁ y
+  pub now_then : printed_now line kept (x ++ y) ≡ printed_now line kept x ++ printed_now line₁ kept₁ y
   unfolding each lines_of
   now_then =
       rw (← append_assoc (chars_of line kept) x y, ended-append (chars_of line kept ++ x) y, ended-append (chars_of line₁ kept₁) y)

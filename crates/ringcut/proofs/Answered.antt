@@ -1,17 +1,21 @@
 -- What is written for an input that is read in blocks is what all of it prints, and where a read or a write fails the front of that. Assumes
 -- nothing.
-use mathlib.Core.Path.{◌≡◌, refl, sym, ◌∙◌, ap, subst}
+use mathlib.Core.Path.{◌≡◌, refl, sym, ◌∙◌, ap}
 use mathlib.Core.Bool.{Bool, true, false, cond}
 use mathlib.Core.List.{List, [], ◌∷◌, ◌++◌, append-nil, append_assoc}
 use Prim.Native.Nat.{ℕ}
 use lib.Dec.{eqb}
-use Rattle.std.proofs.Common.{Option, None, Some, IfSome}
+use lib.ListN.{length, take, drop}
+use lib.Seq.{take-append_seam}
+use Rattle.std.proofs.Common.{Option, None, Some, IfSome, Result, Ok, Err, OnErr}
 use Rattle.std.specs.Io.KnownBytes.{Consumes, Appends, Keeps, IsAtEnd}
 use Rattle.std.proofs.KnownBytes.{Consumes-nil, Consumes-trans, Consumes-kept, Appends-nil, Appends-trans, Appends-kept}
 use Rattle.frame_bytes.specs.Encoding.{each}
 use Rattle.lines.specs.declared.line.Line.{Line}
 use Rattle.lines.specs.Lines.{newline, in_front, lines_of, answer_line, printed}
-use Rattle.lines.specs.LineStep.{chars_of, Begins, in_front_of_some, ended, printed_now, GoesOn}
+use Rattle.lines.specs.declared.feed.Finished.TheVariants.{Wrote}
+use Rattle.lines.specs.LineStep.{chars_of, Begins, in_front_of_some, ended, printed_now, GoesOn, slices_fit}
+use Rattle.lines.specs.LineStep.{finish_answer, finish_output, bytes_written}
 use Rattle.ringcut.specs.Streams.{AppendsSome, ReadsAll}
 use Rattle.ringcut.proofs.Written.{some_written, some_then}
 
@@ -76,8 +80,8 @@ module _ (left₀ left left' held₀ held held' : Option (List ℕ)) (line : Lin
           text ++ now,
           Appends-trans held₀ held held' text now written wrote,
           λ rest.
-            ap printed (append_assoc characters more rest) ∙ prints (more ++ rest) ∙ ap (λ (l : List ℕ). text ++ l) (on rest)
-            ∙ sym (append_assoc text now (printed (chars_of line' kept' ++ rest))),
+              ap printed (append_assoc characters more rest) ∙ prints (more ++ rest) ∙ ap (λ (l : List ℕ). text ++ l) (on rest)
+              ∙ sym (append_assoc text now (printed (chars_of line' kept' ++ rest))),
         ),
       )
 
@@ -107,9 +111,9 @@ module _ (left₀ left left' held₀ held held' : Option (List ℕ)) (line : Lin
           let (behind, front) = printed_front (chars_of line kept ++ more) rest in
           some_then held₀ held held' (printed all) text (printed_now line kept more) behind
           (
-            ap printed (taken ∙ append_assoc characters more rest) ∙ prints (more ++ rest)
-            ∙ ap (λ (l : List ℕ). text ++ printed l) (sym (append_assoc (chars_of line kept) more rest))
-            ∙ ap (λ (l : List ℕ). text ++ l) front
+          ap printed (taken ∙ append_assoc characters more rest) ∙ prints (more ++ rest)
+          ∙ ap (λ (l : List ℕ). text ++ printed l) (sym (append_assoc (chars_of line kept) more rest))
+          ∙ ap (λ (l : List ℕ). text ++ l) front
           )
           written wrote
 
@@ -123,33 +127,32 @@ reached_some (Some all) (Some rest) held₀ held line kept (characters, taken, (
 
 -- ---- the last line
 
-module _ (left₀ left held₀ held held' : Option (List ℕ)) (last : Line) (kept : List ℕ) where
-  whole-input : (all characters rest : List ℕ) → all ≡ characters ++ rest → rest ≡ [] → all ≡ characters
-  whole-input all characters rest e none = e ∙ ap (λ (l : List ℕ). characters ++ l) none ∙ append-nil characters
+-- what stands at the front of the output behind `finish`
+pub last_now : (line : Line) (kept out out' : List ℕ) (waiting : ℕ) → slices_fit kept out ≡ true → Wrote waiting ≡ finish_answer line kept out
+    → out' ≡ finish_output line kept out → take waiting out' ≡ printed (chars_of line kept)
+last_now line kept out out' waiting fits answer output =
+    let text = printed (chars_of line kept) in
+    let count : waiting ≡ length text = ap bytes_written (rw fits at answer) in
+    rw (count, output, fits) (take-append_seam text (drop (length text) out))
 
-  pub all_written : ReadsAll left₀ left held₀ held last kept → Appends held held' (printed (chars_of last kept))
-      → IfSome left₀ (λ (all : List ℕ). Appends held₀ held' (printed all))
-  all_written (characters, read, at-end, (text, written, prints)) wrote = go left₀ left read at-end
+module _ (left₀ left held₀ held held' : Option (List ℕ)) (last : Line) (kept text : List ℕ)
+    (all : ReadsAll left₀ left held₀ held last kept) (now : text ≡ printed (chars_of last kept)) where
+  -- some of it was written
+  some_last : AppendsSome held held' text → IfSome left₀ (λ (whole : List ℕ). AppendsSome held₀ held' (printed whole))
+  some_last wrote = let (characters, read, at-end, (before, written, prints)) = all in go left₀ left characters before read at-end written prints
     where
-      go : (from to : Option (List ℕ)) → Consumes from to characters → IsAtEnd to → IfSome from (λ (all : List ℕ). Appends held₀ held' (printed all))
-      go None to taken none = tt
-      go (Some all) None taken none = absurd taken
-      go (Some all) (Some rest) taken none =
-          subst (Appends held₀ held') (sym (ap printed (whole-input all characters rest taken none) ∙ prints))
-          (Appends-trans held₀ held held' text (printed (chars_of last kept)) written wrote)
+      go : (from to : Option (List ℕ)) (characters before : List ℕ) → Consumes from to characters → IsAtEnd to → Appends held₀ held before
+          → printed characters ≡ before ++ printed (chars_of last kept)
+          → IfSome from (λ (whole : List ℕ). AppendsSome held₀ held' (printed whole))
+      go None to characters before taken none written prints = tt
+      go (Some whole) None characters before taken none written prints = absurd taken
+      go (Some whole) (Some rest) characters before taken none written prints =
+          let same : whole ≡ characters = taken ∙ ap (λ (l : List ℕ). characters ++ l) none ∙ append-nil characters in
+          let split : printed whole ≡ before ++ (text ++ []) =
+          ap printed same ∙ prints ∙ ap (λ (l : List ℕ). before ++ l) (sym now ∙ sym (append-nil text)) in
+          some_then held₀ held held' (printed whole) before text [] split written wrote
 
-  pub most_written : ReadsAll left₀ left held₀ held last kept → AppendsSome held held' (printed (chars_of last kept))
-      → IfSome left₀ (λ (all : List ℕ). AppendsSome held₀ held' (printed all))
-  most_written (characters, read, at-end, (text, written, prints)) wrote = go left₀ left read at-end
-    where
-      go : (from to : Option (List ℕ)) → Consumes from to characters → IsAtEnd to
-          → IfSome from (λ (all : List ℕ). AppendsSome held₀ held' (printed all))
-      go None to taken none = tt
-      go (Some all) None taken none = absurd taken
-      go (Some all) (Some rest) taken none =
-          some_then held₀ held held' (printed all) text (printed (chars_of last kept)) []
-          (
-            ap printed (whole-input all characters rest taken none) ∙ prints
-            ∙ ap (λ (l : List ℕ). text ++ l) (sym (append-nil (printed (chars_of last kept))))
-          )
-          written wrote
+  pub last_failed : {X E : Type 0} (r : Result X E) → OnErr r (AppendsSome held held' text)
+      → OnErr r (IfSome left₀ (λ (whole : List ℕ). AppendsSome held₀ held' (printed whole)))
+  last_failed (Ok x) wrote = tt
+  last_failed (Err e) wrote = some_last wrote

@@ -134,7 +134,7 @@ fn answer_input<R: Read, W: Write>(
     match finish(line, &kept, &mut out) {
         Finished::Wrote(waiting) => write_out(clock, to, &out, waiting),
         // Both slices are as long as `finish` asks, so it never answers that one is too short.
-        Finished::TooShort => Ok(()),
+        Finished::TooShort => unreachable!(),
     }
 }
 

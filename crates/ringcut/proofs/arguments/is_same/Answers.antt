@@ -1,5 +1,5 @@
 -- `is_same` meets its contract. Assumes nothing.
-use mathlib.Core.Path.{◌≡◌, sym, ◌∙◌}
+use mathlib.Core.Path.{sym, ◌∙◌}
 use native.Mathlib.Omega.{arith}
 use Rattle.ringcut.proofs.SameBytes.{other_length, other_here, same_here, none_left}
 use Rattle.ringcut.proofs.arguments.is_same.Goals as goal
