@@ -1,6 +1,6 @@
 -- Slices that have room: each is the front of an array of marks. Assumes nothing.
-use mathlib.Core.Path.{◌≡◌, refl, sym}
-use mathlib.Core.Bool.{true}
+use mathlib.Core.Path.{◌≡◌, refl, sym, ◌∙◌}
+use mathlib.Core.Bool.{Bool, true}
 use mathlib.Core.List.{List}
 use Prim.Native.Nat.{ℕ, zero, suc, ◌≤◌}
 use native.Mathlib.Omega.{arith}
@@ -13,7 +13,9 @@ use Rattle.binary64.proofs.Booleans.{both}
 use Rattle.replay.specs.declared.ring_vectors.RingVector.{RingVector}
 use Rattle.replay.specs.declared.slice_vectors.SliceVector.{SliceVector}
 use Rattle.replay.specs.Lent.{marks, whole_marks, origin_marks, most_lent}
-use Rattle.replay.specs.Calls.{ring_fits, slice_fits}
+use Rattle.ring_calls.specs.RingCall.{ring_slices}
+use Rattle.slices.specs.SliceCall.{polygon_slices}
+use Rattle.replay.specs.Calls.{ring_fits, ring_lent, slice_fits, slice_lent}
 
 take-replicate : {A : Type 0} (n m : ℕ) (x : A) → n ≤ m → take n (replicate m x) ≡ replicate n x
 take-replicate zero m x h = refl
@@ -63,6 +65,23 @@ ring-room head e =
       out_origins = leb-true _ _ r.1;
     }
 
+-- by the answer of `has_room`
+pub ring-fits : (head : RingVector) (r : Bool) → r ≡ ring_fits head → r ≡ true → RingRoom head
+ring-fits head r e t = ring-room head (sym e ∙ t)
+
+-- so the slices that are lent are those that the call is to be made on
+pub ring-slices-lent : (head : RingVector) → RingRoom head → (scratch out : List Float) (origin_scratch out_origins : List ℕ)
+    → scratch ≡ marks most_lent → origin_scratch ≡ origin_marks most_lent → out ≡ marks most_lent → out_origins ≡ origin_marks most_lent
+    → ring_slices (take head.scratch scratch) (take head.origin_scratch origin_scratch) (take head.out out) (take head.out_origins out_origins)
+    ≡ ring_lent head
+ring-slices-lent head room scratch out origin_scratch out_origins a b c d =
+    rw (
+      (front scratch head.scratch a room.scratch).is,
+      (origin-front origin_scratch head.origin_scratch b room.origin-scratch).is,
+      (front out head.out c room.out).is,
+      (origin-front out_origins head.out_origins d room.out_origins).is,
+    )
+
 -- of a slice call
 pub record SliceRoom (head : SliceVector) : Type 0 where
   pub scratch : head.scratch ≤ most_lent
@@ -88,3 +107,22 @@ slice-room head e =
       out_lengths = leb-true _ _ t.0;
       out_origins = leb-true _ _ t.1;
     }
+
+pub slice-fits : (head : SliceVector) (r : Bool) → r ≡ slice_fits head → r ≡ true → SliceRoom head
+slice-fits head r e t = slice-room head (sym e ∙ t)
+
+pub polygon-slices-lent : (head : SliceVector) → SliceRoom head → (scratch out : List Float)
+    (origin_scratch order out_lengths out_origins : List ℕ) → scratch ≡ marks most_lent → origin_scratch ≡ origin_marks most_lent
+    → order ≡ whole_marks most_lent → out ≡ marks most_lent → out_lengths ≡ whole_marks most_lent → out_origins ≡ origin_marks most_lent
+    → polygon_slices (take head.scratch scratch) (take head.origin_scratch origin_scratch) (take head.order order) (take head.out out)
+    (take head.out_lengths out_lengths) (take head.out_origins out_origins)
+    ≡ slice_lent head
+polygon-slices-lent head room scratch out origin_scratch order out_lengths out_origins a b c d e f =
+    rw (
+      (front scratch head.scratch a room.scratch).is,
+      (origin-front origin_scratch head.origin_scratch b room.origin-scratch).is,
+      (whole-front order head.order c room.order).is,
+      (front out head.out d room.out).is,
+      (whole-front out_lengths head.out_lengths e room.out_lengths).is,
+      (origin-front out_origins head.out_origins f room.out_origins).is,
+    )

@@ -1,0 +1,8 @@
+-- `marks` meets its contract. Assumes nothing.
+use mathlib.Core.Path.{refl}
+use Rattle.replay.specs.Lent as Lent
+use Rattle.replay.proofs.lent.marks.Goals as goal
+
+pub returns : goal.returns
+unfolding Lent.marks
+returns c = refl
