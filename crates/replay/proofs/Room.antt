@@ -72,7 +72,8 @@ ring-fits head r e t = ring-room head (sym e ∙ t)
 -- so the slices that are lent are those that the call is to be made on
 pub ring-slices-lent : (head : RingVector) → RingRoom head → (scratch out : List Float) (origin_scratch out_origins : List ℕ)
     → scratch ≡ marks most_lent → origin_scratch ≡ origin_marks most_lent → out ≡ marks most_lent → out_origins ≡ origin_marks most_lent
-    → ring_slices (take head.scratch scratch) (take head.origin_scratch origin_scratch) (take head.out out) (take head.out_origins out_origins)
+    → ring_slices (take head.scratch scratch) (take head.origin_scratch origin_scratch) (take head.out out)
+    (take head.out_origins out_origins)
     ≡ ring_lent head
 ring-slices-lent head room scratch out origin_scratch out_origins a b c d =
     rw (

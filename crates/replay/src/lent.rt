@@ -76,12 +76,10 @@ fn origins_after(refused: bool) -> u16
 fn are_all(s: &[f64], x: f64) -> bool
     ensures { result ≡ Lent.are_all (Lent.bits s.now) (to_bits binary64 x) }
 {
-    let mut i = 0usize;
-    while i < s.len() {
-        if !is_same(s[i], x) {
+    for y in s {
+        if !is_same(*y, x) {
             return false;
         }
-        i += 1;
     }
     true
 }
@@ -89,12 +87,10 @@ fn are_all(s: &[f64], x: f64) -> bool
 fn are_all_wholes(s: &[u32], x: u32) -> bool
     ensures { result ≡ Lent.are_all s.now x }
 {
-    let mut i = 0usize;
-    while i < s.len() {
-        if s[i] != x {
+    for y in s {
+        if *y != x {
             return false;
         }
-        i += 1;
     }
     true
 }
@@ -102,12 +98,10 @@ fn are_all_wholes(s: &[u32], x: u32) -> bool
 fn are_all_origins(s: &[u16], x: u16) -> bool
     ensures { result ≡ Lent.are_all s.now x }
 {
-    let mut i = 0usize;
-    while i < s.len() {
-        if s[i] != x {
+    for y in s {
+        if *y != x {
             return false;
         }
-        i += 1;
     }
     true
 }
@@ -120,12 +114,10 @@ fn holds(s: &[f64], front: &[f64]) -> bool
     if s.len() < n {
         return false;
     }
-    let mut i = 0usize;
-    while i < n {
+    for i in 0..n {
         if !is_same(s[i], front[i]) {
             return false;
         }
-        i += 1;
     }
     are_all(&s[n..], MARK)
 }
@@ -137,12 +129,10 @@ fn holds_wholes(s: &[u32], front: &[u32]) -> bool
     if s.len() < n {
         return false;
     }
-    let mut i = 0usize;
-    while i < n {
+    for i in 0..n {
         if s[i] != front[i] {
             return false;
         }
-        i += 1;
     }
     are_all_wholes(&s[n..], WHOLE_MARK)
 }
@@ -154,12 +144,10 @@ fn holds_origins(s: &[u16], front: &[u16]) -> bool
     if s.len() < n {
         return false;
     }
-    let mut i = 0usize;
-    while i < n {
+    for i in 0..n {
         if s[i] != front[i] {
             return false;
         }
-        i += 1;
     }
     are_all_origins(&s[n..], ORIGIN_MARK)
 }

@@ -234,13 +234,11 @@ fn numbers_in(lengths: &[u32]) -> usize
     ensures { result ≡ numbers_in lengths.now }
 {
     let mut sum = 0usize;
-    let mut i = 0usize;
-    while i < lengths.len() {
-        sum += wide(lengths[i]);
+    for length in lengths {
+        sum += wide(*length);
         if sum > ROOM / 2 {
             return ROOM + 1;
         }
-        i += 1;
     }
     2 * sum
 }

@@ -68,20 +68,16 @@ pub fn read_code<R: Read>(input: &mut R) -> Code {
 fn decode_numbers(bytes: &[u8], n: usize, to: &mut [f64])
     requires { (8 * n ≤ length bytes.now) × (n ≤ length to.old) }
 {
-    let mut i = 0usize;
-    while i < n {
+    for i in 0..n {
         to[i] = read_f64(bytes, 8 * i);
-        i += 1;
     }
 }
 
 fn decode_wholes(bytes: &[u8], n: usize, to: &mut [u32])
     requires { (4 * n ≤ length bytes.now) × (n ≤ length to.old) }
 {
-    let mut i = 0usize;
-    while i < n {
+    for i in 0..n {
         to[i] = whole_at(bytes, 4 * i);
-        i += 1;
     }
 }
 
@@ -95,10 +91,8 @@ fn origin_at(bytes: &[u8], at: usize) -> u16
 fn decode_origins(bytes: &[u8], n: usize, to: &mut [u16])
     requires { (2 * n ≤ length bytes.now) × (n ≤ length to.old) }
 {
-    let mut i = 0usize;
-    while i < n {
+    for i in 0..n {
         to[i] = origin_at(bytes, 2 * i);
-        i += 1;
     }
 }
 

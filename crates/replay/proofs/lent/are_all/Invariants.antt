@@ -1,13 +1,8 @@
 -- `are_all` meets its contract. The invariant: what is left to compare gives the answer. Assumes nothing.
-use Prim.Native.Nat.{◌-◌}
-use lib.ListN.{length}
 use lib.Ieee.{binary64, to_bits}
 use Rattle.replay.specs.Lent.{bits}
 use Rattle.replay.proofs.Compared.{AllFrom}
 use Rattle.replay.proofs.lent.are_all.Given as goal
 
-abbrev pub invariant-loop-i : goal.invariant-loop-i
-invariant-loop-i l = AllFrom (bits l.s) (to_bits binary64 l.x) l.i
-
-abbrev pub decreases-loop-i : goal.decreases-loop-i
-decreases-loop-i l = length l.s - l.i
+abbrev pub invariant-loop-y : goal.invariant-loop-y
+invariant-loop-y l = AllFrom (bits l.s) (to_bits binary64 l.x) l.y-index

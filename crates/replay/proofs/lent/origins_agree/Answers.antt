@@ -5,8 +5,12 @@ use Rattle.replay.proofs.lent.origins_agree.Goals as goal
 
 pub returns-then-not-are_all_origins : goal.returns-then-not-are_all_origins
 unfolding Calls.slices_agree
-returns-then-not-are_all_origins c = let z = c.origins_after.ensures in rw (sym (rw z at c.are_all_origins.ensures) ∙ c.if-not-are_all_origins.true)
+returns-then-not-are_all_origins c =
+    let all = sym (rw c.origins_after.ensures at c.are_all_origins.ensures) in
+    rw (all ∙ c.if-not-are_all_origins.true)
 
 pub returns : goal.returns
 unfolding Calls.slices_agree
-returns c = let z = c.origins_after.ensures in rw (sym (rw z at c.are_all_origins.ensures) ∙ c.if-not-are_all_origins.false) c.holds_origins.ensures
+returns c =
+    let all = sym (rw c.origins_after.ensures at c.are_all_origins.ensures) in
+    rw (all ∙ c.if-not-are_all_origins.false) c.holds_origins.ensures

@@ -52,12 +52,14 @@ pub returns-then-agrees : goal.returns-then-agrees
 unfolding Calls.ring_outcome
 returns-then-agrees c =
     let room = ring-fits c.args.head _ c.has_room.ensures c.if-not-has_room.false in
-    let lent = ring-slices-lent c.args.head room _ _ _ _ c.marks-scratch.ensures c.origin_marks-origin_scratch.ensures c.marks-out.ensures c.origin_marks-out_origins.ensures in
+    let lent = ring-slices-lent c.args.head room _ _ _ _
+    c.marks-scratch.ensures c.origin_marks-origin_scratch.ensures c.marks-out.ensures c.origin_marks-out_origins.ensures in
     rw (sym c.has_room.ensures ∙ c.if-not-has_room.false, ← lent, ← c.agrees.ensures, c.if-agrees.true)
 
 pub returns : goal.returns
 unfolding Calls.ring_outcome
 returns c =
     let room = ring-fits c.args.head _ c.has_room.ensures c.if-not-has_room.false in
-    let lent = ring-slices-lent c.args.head room _ _ _ _ c.marks-scratch.ensures c.origin_marks-origin_scratch.ensures c.marks-out.ensures c.origin_marks-out_origins.ensures in
+    let lent = ring-slices-lent c.args.head room _ _ _ _
+    c.marks-scratch.ensures c.origin_marks-origin_scratch.ensures c.marks-out.ensures c.origin_marks-out_origins.ensures in
     rw (sym c.has_room.ensures ∙ c.if-not-has_room.false, ← lent, ← c.agrees.ensures, c.if-agrees.false)

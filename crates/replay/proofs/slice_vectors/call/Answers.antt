@@ -72,12 +72,16 @@ pub returns-then-agrees : goal.returns-then-agrees
 unfolding Calls.slice_outcome
 returns-then-agrees c =
     let room = slice-fits c.args.head _ c.has_room.ensures c.if-not-has_room.false in
-    let lent = polygon-slices-lent c.args.head room _ _ _ _ _ _ c.marks-scratch.ensures c.origin_marks-origin_scratch.ensures c.whole_marks-order.ensures c.marks-out.ensures c.whole_marks-out_lengths.ensures c.origin_marks-out_origins.ensures in
+    let lent = polygon-slices-lent c.args.head room _ _ _ _ _ _
+    c.marks-scratch.ensures c.origin_marks-origin_scratch.ensures c.whole_marks-order.ensures c.marks-out.ensures
+    c.whole_marks-out_lengths.ensures c.origin_marks-out_origins.ensures in
     rw (sym c.has_room.ensures ∙ c.if-not-has_room.false, ← lent, ← c.agrees.ensures, c.if-agrees.true)
 
 pub returns : goal.returns
 unfolding Calls.slice_outcome
 returns c =
     let room = slice-fits c.args.head _ c.has_room.ensures c.if-not-has_room.false in
-    let lent = polygon-slices-lent c.args.head room _ _ _ _ _ _ c.marks-scratch.ensures c.origin_marks-origin_scratch.ensures c.whole_marks-order.ensures c.marks-out.ensures c.whole_marks-out_lengths.ensures c.origin_marks-out_origins.ensures in
+    let lent = polygon-slices-lent c.args.head room _ _ _ _ _ _
+    c.marks-scratch.ensures c.origin_marks-origin_scratch.ensures c.whole_marks-order.ensures c.marks-out.ensures
+    c.whole_marks-out_lengths.ensures c.origin_marks-out_origins.ensures in
     rw (sym c.has_room.ensures ∙ c.if-not-has_room.false, ← lent, ← c.agrees.ensures, c.if-agrees.false)

@@ -1,11 +1,9 @@
--- `numbers_in` meets its contract. The invariant: the sum so far has room, and with the lengths that are left it is the whole sum. Assumes
--- nothing.
+-- `numbers_in` meets its contract. Assumes nothing.
 use mathlib.Core.Path.{◌≡◌}
 use mathlib.Core.List.{List}
 use Prim.Native.Nat.{ℕ, ◌+◌, ◌*◌, ◌<◌, ◌≤◌}
 use native.Mathlib.Numerals.{add-one}
 use native.Mathlib.Omega.{arith}
-use borrow.Author.Rules.{rules}
 use borrow.Author.Tests.{le-leb, lt-leb}
 use lib.ListN.{length, get_or, drop, drop_of_length-le}
 use lib.Seq.{drop-cons}
@@ -21,30 +19,23 @@ unfolding LentRings.sum
 sum_end l i h = rw (drop_of_length-le l h)
 
 pub returns-then-sum : goal.returns-then-sum
-returns-then-sum c = let s = c.args.lengths.now in
-    let l = c.loop-i in
-    let q : 4096 < 2 * LentRings.sum s = omega (
-      arith,
-      sum-at s l.i c.loop-i-test.true,
-      l.invariant.2,
-      c.wide-sum.ensures.0,
-    ) in rw (lt-leb (2 * LentRings.sum s) 4096 q)
+returns-then-sum c =
+    let s = c.args.lengths.now in
+    let l = c.loop-length in
+    let this = sum-at s l.length-index c.loop-length-test.true in
+    let more : 4096 < 2 * LentRings.sum s = omega (arith, this, l.invariant.1, c.wide-sum.ensures.0) in
+    rw (lt-leb (2 * LentRings.sum s) 4096 more)
 
-pub loop-i-preserved : goal.loop-i-preserved
-loop-i-preserved c = let l = c.loop-i in (
-  search rules,
-  search rules,
-  omega (
-    arith,
-    sum-at c.args.lengths.now l.i
-        c.loop-i-test.true,
-    l.invariant.2,
-    c.wide-sum.ensures.0,
-  ),
-)
+pub loop-length-preserved : goal.loop-length-preserved
+loop-length-preserved c =
+    let l = c.loop-length in
+    let this = sum-at c.args.lengths.now l.length-index c.loop-length-test.true in
+    (omega arith, omega (arith, this, l.invariant.1, c.wide-sum.ensures.0))
 
 pub returns : goal.returns
-returns c = let s = c.args.lengths.now in
-    let l = c.loop-i in
-    let z = sum_end s l.i c.loop-i-test.false in
-    let q : 2 * LentRings.sum s ≤ 4096 = omega (arith, z, l.invariant.1, l.invariant.2) in rw (le-leb (2 * LentRings.sum s) 4096 q) (omega (arith, z, l.invariant.2))
+returns c =
+    let s = c.args.lengths.now in
+    let l = c.loop-length in
+    let none = sum_end s l.length-index c.loop-length-test.false in
+    let few : 2 * LentRings.sum s ≤ 4096 = omega (arith, none, l.invariant.0, l.invariant.1) in
+    rw (le-leb (2 * LentRings.sum s) 4096 few) (omega (arith, none, l.invariant.1))
