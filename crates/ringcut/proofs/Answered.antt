@@ -1,5 +1,5 @@
--- What is written for an input that is read in blocks is what all of it prints, and where a read or a write fails the front of that. Assumes
--- nothing.
+-- What is written for an input that is read in blocks is what all of it prints, and where a read or a write fails the front of that.
+-- Assumes nothing.
 use mathlib.Core.Path.{◌≡◌, refl, sym, ◌∙◌, ap}
 use mathlib.Core.Bool.{Bool, true, false, cond}
 use mathlib.Core.List.{List, [], ◌∷◌, ◌++◌, append-nil, append_assoc}
@@ -128,8 +128,8 @@ reached_some (Some all) (Some rest) held₀ held line kept (characters, taken, (
 -- ---- the last line
 
 -- what stands at the front of the output behind `finish`
-pub last_now : (line : Line) (kept out out' : List ℕ) (waiting : ℕ) → slices_fit kept out ≡ true → Wrote waiting ≡ finish_answer line kept out
-    → out' ≡ finish_output line kept out → take waiting out' ≡ printed (chars_of line kept)
+pub last_now : (line : Line) (kept out out' : List ℕ) (waiting : ℕ) → slices_fit kept out ≡ true
+    → Wrote waiting ≡ finish_answer line kept out → out' ≡ finish_output line kept out → take waiting out' ≡ printed (chars_of line kept)
 last_now line kept out out' waiting fits answer output =
     let text = printed (chars_of line kept) in
     let count : waiting ≡ length text = ap bytes_written (rw fits at answer) in
@@ -139,7 +139,9 @@ module _ (left₀ left held₀ held held' : Option (List ℕ)) (last : Line) (ke
     (all : ReadsAll left₀ left held₀ held last kept) (now : text ≡ printed (chars_of last kept)) where
   -- some of it was written
   some_last : AppendsSome held held' text → IfSome left₀ (λ (whole : List ℕ). AppendsSome held₀ held' (printed whole))
-  some_last wrote = let (characters, read, at-end, (before, written, prints)) = all in go left₀ left characters before read at-end written prints
+  some_last wrote =
+      let (characters, read, at-end, (before, written, prints)) = all in
+      go left₀ left characters before read at-end written prints
     where
       go : (from to : Option (List ℕ)) (characters before : List ℕ) → Consumes from to characters → IsAtEnd to → Appends held₀ held before
           → printed characters ≡ before ++ printed (chars_of last kept)

@@ -55,7 +55,8 @@ module _ (block : List ℕ) (at : ℕ) (line : Line) (kept : List ℕ) {line₁ 
         ap (printed_now line₁ kept₁) (sym (take-append-drop taken part))
         ∙ now_then (take taken part) line₁ kept₁ line₂ kept₂ f.prints.goes_on rest
         ∙ ap (λ (l : List ℕ). l ++ printed_now line₂ kept₂ rest) (sym (written_now f.prints)) in
-        let all : printed_now line kept block ≡ printed_now line kept (take at block) ++ (take written out' ++ printed_now line₂ kept₂ rest) =
+        let all : printed_now line kept block
+        ≡ printed_now line kept (take at block) ++ (take written out' ++ printed_now line₂ kept₂ rest) =
         ap (printed_now line kept) (sym (take-append-drop at block))
         ∙ now_then (take at block) line kept line₁ kept₁ on part
         ∙ ap (λ (l : List ℕ). printed_now line kept (take at block) ++ l) first in

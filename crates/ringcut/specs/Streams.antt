@@ -1,6 +1,6 @@
 -- What the program does to the characters that a reader has left and to the bytes that a writer holds, where these are known. std's words
--- say it: `Consumes`, that characters were read, `Appends`, that bytes were written, `Keeps`, that none were, and `IsAtEnd`. Of a reader or a
--- writer that does not say what it has, as standard input and standard output, they claim nothing. Definitions only.
+-- say it: `Consumes`, that characters were read, `Appends`, that bytes were written, `Keeps`, that none were, and `IsAtEnd`. Of a reader or
+-- a writer that does not say what it has, as standard input and standard output, they claim nothing. Definitions only.
 use Rattle.std.specs.Prelude.{◌≡◌, List, ◌++◌, ℕ, take, Option}
 use Rattle.std.specs.Io.KnownBytes.{Consumes, Appends, Keeps, IsAtEnd}
 use Rattle.lines.specs.declared.line.Line.{Line}

@@ -1,9 +1,9 @@
 // Reads frames from standard input, one a line in hexadecimal, and prints each answer as a line on standard output. Proved: in `lines`,
-// which bytes are to be printed; and here, that the line which `feed_all` answers for a block goes on from the one that it was given. No
-// contract speaks of what is read or written, so not proved: that all of the input is read, in order, that the next block is fed with that
-// line and with `kept` as it was left, that the bytes made are those written, once and in order, and that the last line is finished; nor
-// that the first read or write that fails ends the work and is told on standard error, nor what is done with arguments (rust/program tests
-// both). A line that a failed read cut off gets no answer: it is not the line that was sent.
+// which bytes are to be printed; and here, of any reader and writer that say what bytes they have, that `answer_input` writes what all of
+// the input prints, once and in order, with the last line, or where a read or a write fails the front of that. No contract says what
+// standard input and standard output have: so of the system it is believed that it reads and writes as a slice of bytes does. Not proved:
+// that the first read or write that fails is told on standard error, and what is done with arguments (rust/program tests both). A line that
+// a failed read cut off gets no answer: it is not the line that was sent.
 #![tactic(auto)]
 
 mod arguments;
