@@ -216,6 +216,8 @@ class Function:
 
 def clause_path(kind, names, rest):
     """The path behind .requires or .ensures, with the name of the clause in place of the pairs' numbers."""
+    if len(names) == 1 and names[0]:
+        return [names[0]] + rest
     if len(names) < 2:
         return rest
     k = 0
@@ -272,7 +274,7 @@ def turn_paths(body, fn, place, own, records=None, within=False):
             names = fn.clauses[callee][1 if rest[0] == "ensures" else 0]
             q = clause_path(rest[0], names, rest[1:])
             rest = [rest[0]] + (q if q is not None else rest[1:])
-        if rest and rest[0] == "kept":
+        if rest and rest[0] == "kept" and callee:
             rest = ["auto"] + rest[1:]
         if rest and rest[0] == "inv":
             rest = ["invariant"] + rest[1:]
@@ -433,6 +435,7 @@ def convert(root, crate, folder, info, clauses):
         turned = turn_paths(rest, fn, place, own, records)
         if params[1:]:
             params = params[:1]
+        turned = re.sub(r"let (\S+) = c\.[\w-]+\.given in\s*", lambda m: m.group(0) if used([m.group(1)], turned[turned.index(m.group(0)) + len(m.group(0)):]) else "", turned)
         lets, expr = body_split(turned)
         names = None
         if new.startswith("returns"):
@@ -445,6 +448,8 @@ def convert(root, crate, folder, info, clauses):
                 called = [f for f in clauses if f.split("::")[-1] == new.split("-")[0]]
                 names = clauses[called[0]][0] if len(called) == 1 else None
         parts = {"": expr.strip()}
+        if names and len(names) == 1 and names[0]:
+            parts = {names[0]: expr.strip()}
         if names and len(names) > 1:
             found = by_clause(expr, names)
             pair = whole_tuple(expr)

@@ -19,9 +19,10 @@ pub record Fraction : Type 0 where
   pub minus : ℕ
   pub divisor : ℕ
 
--- `interpolate` without its roundings: startFree + n ÷ m × (endFree − startFree), as one fraction over m. In the fixed coordinate n is the
--- distance from the start to the line, and m that from the start to the end. Where one end is in and the other out, the line lies between
--- them, and n ÷ m is (bound − startFixed) ÷ (endFixed − startFixed). For other ends, and where a number is not finite, it means nothing.
+-- `interpolate` without its roundings: start_free + n ÷ m × (end_free − start_free), as one fraction over m. In the fixed coordinate n is
+-- the distance from the start to the line, and m that from the start to the end. Where one end is in and the other out, the line lies
+-- between them, and n ÷ m is (bound − start_fixed) ÷ (end_fixed − start_fixed). For other ends, and where a number is not finite, it means
+-- nothing.
 abbrev pub exact_crossing : Format → Float → Float → Float → Float → Float → Fraction
 exact_crossing f bound start_fixed end_fixed start_free end_free =
     let n = units_apart f bound start_fixed in

@@ -2,7 +2,7 @@
 -- all of which cross in floats. Assumes nothing.
 use mathlib.Core.Path.{◌≡◌, refl}
 use mathlib.Core.Bool.{Bool, true, false}
-use mathlib.Core.List.{List, [], ◌∷◌}
+use mathlib.Core.List.{[], ◌∷◌}
 use Prim.Native.Nat.{ℕ}
 use lib.Ieee.{Float, binary64, is_nan, round, lt, eq, sub, mul, of_bits}
 use Rattle.binary64.specs.Compare.{minimum, maximum, magnitude, tolerance, near}

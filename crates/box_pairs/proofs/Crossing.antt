@@ -1,7 +1,7 @@
 -- Laws of the crossing test: symmetric, not between boxes that are apart, not where a coordinate is NaN, and what it means. Nothing above
 -- this file unfolds `cross`. Assumes nothing.
-use mathlib.Core.Path.{◌≡◌, refl, sym, subst, ◌∙◌}
-use mathlib.Core.Bool.{Bool, true, false, ◌&&◌}
+use mathlib.Core.Path.{◌≡◌, sym, subst}
+use mathlib.Core.Bool.{Bool, true, false}
 use lib.Ieee.{lt}
 use Rattle.binary64.specs.Compare.{minimum, maximum}
 use Rattle.binary64.proofs.Booleans.{both}

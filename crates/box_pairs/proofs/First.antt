@@ -1,7 +1,7 @@
 -- The first pair that is hit, lower number first: what it is, that it is one exactly where some pair is hit, and that a sweep that keeps
 -- the least number ends with it. Assumes nothing.
 use mathlib.Core.Path.{◌≡◌, refl, sym, ap, ap₂, subst, ◌∙◌}
-use mathlib.Core.Logic.{◌⊎◌, inl, inr, ⊎_elim}
+use mathlib.Core.Logic.{inl, inr, ⊎_elim}
 use mathlib.Core.Bool.{Bool, true, false, cond, ◌&&◌}
 use mathlib.Mathlib.Data.Bool.Basic.{eq-false_of_not-eq-true}
 use mathlib.Core.List.{List}

@@ -28,7 +28,7 @@ mirror a1 a2 b1 b2 =
 
 -- ---- boxes
 
--- edges whose boxes are apart do not crossInFloats
+-- edges whose boxes are apart do not cross_in_floats
 boxes_apart_lem : (a1 a2 b1 b2 : Coord) → apart a1 a2 b1 b2 ≡ true → cross_in_floats a1 a2 b1 b2 ≡ false
 unfolding cross_in_floats
 boxes_apart_lem a1 a2 b1 b2 e = rw e
@@ -148,7 +148,7 @@ pub not_properly : (a1 a2 b1 b2 : Coord) → intersect_properly a1 a2 b1 b2 ≡ 
 unfolding cross_in_floats
 not_properly a1 a2 b1 b2 h = rw (h, and-false (not (degenerate a1 a2 || degenerate b1 b2))) (and-false (not (apart a1 a2 b1 b2)))
 
--- edges that the comparison finds apart in an axis do not crossInFloats
+-- edges that the comparison finds apart in an axis do not cross_in_floats
 pub apart_x : (a1 a2 b1 b2 : Coord) → separate a1.x a2.x b1.x b2.x ≡ true → cross_in_floats a1 a2 b1 b2 ≡ false
 unfolding apart
 apart_x a1 a2 b1 b2 h = go (intersect_properly a1 a2 b1 b2) refl

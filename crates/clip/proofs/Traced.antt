@@ -1,6 +1,6 @@
 -- What the origins of a cut polygon say of its coordinates: there are as many, ring by ring; each came from its ring as that was lent, or
 -- from a line; and positions rise. Assumes nothing.
-use mathlib.Core.Path.{◌≡◌, refl}
+use mathlib.Core.Path.{◌≡◌}
 use mathlib.Core.Bool.{Bool, true, false, cond}
 use mathlib.Core.List.{List, [], ◌∷◌}
 use Prim.Native.Nat.{ℕ, ◌<◌}

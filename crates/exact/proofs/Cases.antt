@@ -1,5 +1,5 @@
 -- Numbers at the ends of the grid, computed from its definition. Assumes nothing.
-use Rattle.std.proofs.Common.{◌≡◌, ◌+◌, ◌-◌, ◌*◌, ◌^◌, Bool, true, false, eqb, leb, List, [], ◌∷◌, pos, refl}
+use Rattle.std.proofs.Common.{◌≡◌, ◌+◌, ◌-◌, ◌^◌, Bool, true, false, List, [], ◌∷◌, pos, refl}
 use lib.Ieee.{Float, nan, inf, fin, binary64, round}
 use Rattle.exact.specs.Grid.{on_grid}
 

@@ -1,5 +1,5 @@
 -- The side of a line that a point lies on, and what it says of two points. Assumes nothing.
-use Rattle.std.proofs.Common.{◌≡◌, ℕ, Bool, true, false, cond, ◌&&◌, ◌||◌, ltb, sym, refl, arith, ltb-true, le-ltb}
+use Rattle.std.proofs.Common.{◌≡◌, ℕ, Bool, true, false, cond, ltb, sym, refl, arith, ltb-true, le-ltb}
 use mathlib.Core.Bool.{or-false}
 use Rattle.exact.specs.declared.segments.Point.{Point}
 use Rattle.exact.specs.declared.segments.Side.TheVariants.{Left, On, Right}

@@ -1,5 +1,6 @@
 -- Frames (document 01, "Frames"): what the bytes of one say, or which of the refusals 11 to 18 it meets. Definitions only.
-use Rattle.std.specs.Prelude.{Bool, true, false, not, ◌&&◌, ◌||◌, List, [], ◌∷◌, ℕ, zero, suc, ◌*◌, ◌/◌, ◌%◌, ltb, eqb, Float, length, get_or, take, drop}
+use Rattle.std.specs.Prelude.{Bool, true, false, not, ◌&&◌, ◌||◌, List, [], ◌∷◌, ℕ, zero, suc, ◌*◌, ◌/◌, ◌%◌, ltb, eqb, Float, length}
+use Rattle.std.specs.Prelude.{get_or, take, drop}
 use Rattle.binary64.specs.Bytes.{Little, number_of, double}
 use Rattle.tile.specs.declared.Coord.{Coord}
 use Rattle.tile.specs.declared.TileBounds.{TileBounds}

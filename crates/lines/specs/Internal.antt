@@ -1,6 +1,7 @@
 -- What the functions that read a line say to each other, and `FeedsLines`, which the program's loop over a block's lines promises. No
 -- contract of an entry point reaches it, so a reader of those can skip this file. Definitions only.
-use Rattle.std.specs.Prelude.{◌≡◌, Bool, true, false, not, cond, List, [], ◌∷◌, ◌++◌, ℕ, ◌+◌, ◌*◌, ◌-◌, ◌%◌, ◌<◌, ◌≤◌, ltb, eqb, get_or, length, take, drop}
+use Rattle.std.specs.Prelude.{◌≡◌, Bool, true, false, not, cond, List, [], ◌∷◌, ◌++◌, ℕ, ◌+◌, ◌*◌, ◌-◌, ◌%◌, ◌<◌, ◌≤◌, ltb, eqb, get_or}
+use Rattle.std.specs.Prelude.{length, take, drop}
 use Rattle.frame_bytes.specs.Frame.{longest, frame_refusal_number}
 use Rattle.frame_bytes.specs.declared.reader.FrameRefusal.TheVariants.{Size}
 use Rattle.lines.specs.declared.line.Line.{Line}

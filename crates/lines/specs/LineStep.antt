@@ -1,5 +1,6 @@
 -- The line step, which takes an input in blocks of any sizes (document 01, "Frames": the program `ringcut`). Definitions only.
-use Rattle.std.specs.Prelude.{◌≡◌, Bool, true, false, ◌&&◌, cond, List, [], ◌∷◌, ◌++◌, ℕ, suc, ◌+◌, ◌*◌, ◌%◌, ◌≤◌, leb, eqb, length, take, replicate}
+use Rattle.std.specs.Prelude.{◌≡◌, Bool, true, false, ◌&&◌, cond, List, [], ◌∷◌, ◌++◌, ℕ, suc, ◌+◌, ◌*◌, ◌%◌, ◌≤◌, leb, eqb, length}
+use Rattle.std.specs.Prelude.{take, replicate}
 use Rattle.binary64.specs.Slices.{over}
 use Rattle.frame_bytes.specs.Frame.{longest}
 use Rattle.lines.specs.declared.line.Line.{Line}

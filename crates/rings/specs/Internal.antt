@@ -3,7 +3,7 @@
 use Rattle.std.specs.Prelude.{◌≡◌, Bool, true, false, ◌&&◌, List, [], ◌∷◌, ℕ, ◌*◌, ◌≤◌, Float, length}
 use Rattle.std.specs.Float.Ieee.{is_nan}
 use Rattle.tile.specs.declared.Coord.{Coord}
-use Rattle.tile.specs.Ring.{coords, closed}
+use Rattle.tile.specs.Ring.{closed}
 use Rattle.sutherland_hodgman.specs.Growth.{most_coordinates}
 use Rattle.rings.specs.LentRings.{most_rings, sum, closed_rings, total, largest, ring_room}
 

@@ -1,6 +1,7 @@
 -- The slice call (document 01, "Frames", amended by document 02, Points 4, 1 and 12): what it answers, and what each lent slice holds
 -- afterwards. Definitions only.
-use Rattle.std.specs.Prelude.{Bool, not, cond, ◌&&◌, ◌||◌, List, ℕ, ◌+◌, ◌*◌, ◌^◌, ltb, leb, eqb, Float, ℤ, pos, negsuc, neg_ℤ, length, replicate}
+use Rattle.std.specs.Prelude.{Bool, not, cond, ◌&&◌, ◌||◌, List, ℕ, ◌+◌, ◌*◌, ◌^◌, ltb, leb, eqb, Float, length, replicate}
+use Rattle.std.specs.Prelude.{ℤ, pos, negsuc, neg_ℤ}
 use Rattle.binary64.specs.Slices.{zeros, over, plus_zero, padded}
 use Rattle.tile.specs.declared.Coord.{Coord}
 use Rattle.tile.specs.declared.TileBounds.{TileBounds}
@@ -41,7 +42,8 @@ unfoldable pub check_room : List (List Coord) → ℕ → ℕ → ℕ → ℕ �
 check_room rings scratch origin_scratch order out out_lengths out_origins =
     let S = largest ring_room rings in
     fails_if (ltb scratch (2 * S) || (ltb origin_scratch S || ltb order S)) Scratch
-    (fails_if (ltb out (slice_call_room rings) || (ltb out_lengths (length rings) || ltb out_origins (slice_call_origin_room rings))) Output Passes)
+    (fails_if (ltb out (slice_call_room rings) || (ltb out_lengths (length rings) || ltb out_origins (slice_call_origin_room rings)))
+    Output Passes)
 
 -- 19 to 22, "tested in that order": "Ring lengths are taken after closing in B and 20."
 unfoldable pub check_polygon : List Float → List ℕ → ℕ → ℕ → ℕ → ℕ → ℕ → ℕ → Check

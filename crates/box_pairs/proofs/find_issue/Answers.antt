@@ -8,8 +8,8 @@ returns-then-n-lt4-clause-value c = sym (issue_short c.args.ring.now c.args.n c.
 
 pub returns-in-At-clause-value : goal.returns-in-At-clause-value
 returns-in-At-clause-value c = sym (issue_long c.args.ring.now c.args.n c.requires.ring-room c.args.assume_simple
-          c.if-n-lt4.false ∙
-          rw (← c.first_repeated.ensures, c.in-At.is))
+    c.if-n-lt4.false ∙
+    rw (← c.first_repeated.ensures, c.in-At.is))
 
 pub returns-in-None-clause-value : goal.returns-in-None-clause-value
 returns-in-None-clause-value c =

@@ -1,6 +1,6 @@
 -- `first_repeated` meets its contract: the first place in the ring is that in what is left of it. Assumes nothing.
 use mathlib.Core.Path.{◌≡◌, sym, ◌∙◌}
-use Prim.Native.Nat.{◌+◌, ◌-◌}
+use Prim.Native.Nat.{◌+◌}
 use native.Mathlib.Omega.{arith}
 use Rattle.tile.specs.Internal.{coord_at}
 use Rattle.box_pairs.specs.Cross.{degenerate}
@@ -21,10 +21,10 @@ returns-then-is_degenerate c = let l = c.loop-k in sym (l.invariant.1 ∙ repeat
 
 pub loop-k-preserved : goal.loop-k-preserved
 loop-k-preserved c = let l = c.loop-k in (
-      omega (arith, c.loop-k-test.true),
-      l.invariant.1 ∙ repeated-next c.args.ring.now c.args.n c.requires.0 l.k
-          c.loop-k-test.true ∙ rw (← verdict (goal.at.loop-k-preserved c).After-is_degenerate, c.if-is_degenerate.false),
-    )
+  omega (arith, c.loop-k-test.true),
+  l.invariant.1 ∙ repeated-next c.args.ring.now c.args.n c.requires.0 l.k
+      c.loop-k-test.true ∙ rw (← verdict (goal.at.loop-k-preserved c).After-is_degenerate, c.if-is_degenerate.false),
+)
 
 pub returns : goal.returns
 returns c = let l = c.loop-k in sym (l.invariant.1 ∙ repeated_end c.args.ring.now c.args.n c.requires.0 l.k c.loop-k-test.false)

@@ -2,7 +2,7 @@
 -- nothing.
 use mathlib.Core.Path.{◌≡◌, refl, ap}
 use mathlib.Core.List.{[]}
-use Prim.Native.Nat.{◌*◌, ◌-◌, ◌≤◌, ◌<◌}
+use Prim.Native.Nat.{◌*◌, ◌≤◌, ◌<◌}
 use native.Mathlib.Omega.{arith}
 use native.Mathlib.Nat.{le_of_eq}
 use lib.ListN.{length, take}
@@ -40,7 +40,7 @@ returns-then-m-eq0-clause-origins c = let s = c.args.ring.now in
     let kept = coords (take (2 * c.left_off-m.result) s) in
     let k = c.left_off-m.ensures.1 in
     let z : kept ≡ [] = rw c.if-m-eq0.true in pass-origins-none c.args.edge c.args.bounds r kept k n c.args.origins.now c.args.out_origins.now
-            (le_of_eq (length_front s n c.requires.pass_room.0)) z
+    (le_of_eq (length_front s n c.requires.pass_room.0)) z
 
 pub turn-at-requires-clause-walk_room : goal.turn-at-requires-clause-walk_room
 turn-at-requires-clause-walk_room c = let s = c.args.ring.now in
@@ -79,9 +79,9 @@ turn-at-requires-clause-origin_walk_room c = let s = c.args.ring.now in
     let r = p _ (length_front s c.args.n c.requires.pass_room.0) c.requires.pass_room.1 in
     let t = p (2 * length c.args.out_origins.now) (length_front s c.args.n c.requires.pass_room.0) (omega (arith, c.requires.pass_origin_room.1)) in
     let o = c.loop-at.invariant.2.count in (
-        omega (arith, c.left_off-m.ensures.0, c.requires.pass_origin_room.0),
-        omega (arith, l.invariant.4),
-      )
+      omega (arith, c.left_off-m.ensures.0, c.requires.pass_origin_room.0),
+      omega (arith, l.invariant.4),
+    )
 
 pub returns-clause-written : goal.returns-clause-written
 returns-clause-written c = let s = c.args.ring.now in
@@ -124,7 +124,7 @@ returns-clause-verdicts c = let s = c.args.ring.now in
     let os = c.args.origins.now in
     let o = origins-walked c.args.edge c.args.bounds (coords (take (2 * m) s)) os _ _ c.args.out_origins.now _ _ _
     (starts_origins c.args.edge c.args.bounds s m h os _ some f) l.invariant.5 past w.count (omega arith) in verdicts-some (coords (take (2 * n) s)) (coords (take (2 * m) s)) k _ (omega (arith, length_front s m h))
-            (omega (arith, length_front s m h, l.invariant.3, l.invariant.0, c.loop-at-test.false))
+    (omega (arith, length_front s m h, l.invariant.3, l.invariant.0, c.loop-at-test.false))
 
 pub returns-clause-origins : goal.returns-clause-origins
 returns-clause-origins c = let s = c.args.ring.now in
@@ -146,4 +146,4 @@ returns-clause-origins c = let s = c.args.ring.now in
     let os = c.args.origins.now in
     let o = origins-walked c.args.edge c.args.bounds (coords (take (2 * m) s)) os _ _ c.args.out_origins.now _ _ _
     (starts_origins c.args.edge c.args.bounds s m h os _ some f) l.invariant.5 past w.count (omega arith) in rw (pass-origins-around c.args.edge c.args.bounds (coords (take (2 * n) s)) (coords (take (2 * m) s)) k n os
-            (le_of_eq (length_front s n c.requires.pass_room.0))) o
+    (le_of_eq (length_front s n c.requires.pass_room.0))) o

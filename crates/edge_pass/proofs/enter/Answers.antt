@@ -34,12 +34,12 @@ returns-then-m-next-clause-rest c = let s = c.args.ring.now in
     let os = c.args.origins.now in
     let e = c.skip_outside-next.ensures in
     let p = past_end s m c.requires.walk_room.0 _ c.if-m-next.true in (
-        search rules,
-        search rules,
-        rest_then c.args.edge c.args.bounds (coords (take (2 * m) s))
-            (rest_skip c.args.edge c.args.bounds (coords (take (2 * m) s)) _ _ _ _ _ e.rest.3 e.rest.4)
-            (rest_end c.args.edge c.args.bounds (coords (take (2 * m) s)) false true _ _ _ p),
-      )
+      search rules,
+      search rules,
+      rest_then c.args.edge c.args.bounds (coords (take (2 * m) s))
+          (rest_skip c.args.edge c.args.bounds (coords (take (2 * m) s)) _ _ _ _ _ e.rest.3 e.rest.4)
+          (rest_end c.args.edge c.args.bounds (coords (take (2 * m) s)) false true _ _ _ p),
+    )
 
 pub returns-then-m-next-clause-origins : goal.returns-then-m-next-clause-origins
 returns-then-m-next-clause-origins c = let s = c.args.ring.now in
@@ -47,7 +47,7 @@ returns-then-m-next-clause-origins c = let s = c.args.ring.now in
     let os = c.args.origins.now in
     let e = c.skip_outside-next.ensures in
     let p = past_end s m c.requires.walk_room.0 _ c.if-m-next.true in origins_skip c.args.edge c.args.bounds (coords (take (2 * m) s)) os _ _ _ _ _ (e.origins os) e.rest.4
-            ∙ origins_end c.args.edge c.args.bounds (coords (take (2 * m) s)) os false true _ _ _ p
+    ∙ origins_end c.args.edge c.args.bounds (coords (take (2 * m) s)) os false true _ _ _ p
 
 pub put_with_origin-requires : goal.put_with_origin-requires
 put_with_origin-requires c = let r = room (goal.at.put_with_origin-requires c).Else-m-next in (
@@ -68,15 +68,15 @@ returns-clause-rest c = let s = c.args.ring.now in
     let h = c.if-m-next.false in
     let p = c.put_with_origin.ensures in
     let q = c.put_with_origin-2.ensures in (
-        search rules,
-        search rules,
-        rest_then c.args.edge c.args.bounds (coords (take (2 * m) s))
-            (rest_skip c.args.edge c.args.bounds (coords (take (2 * m) s)) _ _ _ _ _ e.rest.3 e.rest.4)
-            (out_in c.args.edge c.args.bounds s m c.requires.walk_room.0 next.i h _ _ _
-            c.previous-s.ensures
-            c.coord_at-e.ensures
-            c.intersect.ensures.crossing (e.rest.2 h) next.len c.args.out.now _ _ p.vertex q.vertex),
-      )
+      search rules,
+      search rules,
+      rest_then c.args.edge c.args.bounds (coords (take (2 * m) s))
+          (rest_skip c.args.edge c.args.bounds (coords (take (2 * m) s)) _ _ _ _ _ e.rest.3 e.rest.4)
+          (out_in c.args.edge c.args.bounds s m c.requires.walk_room.0 next.i h _ _ _
+          c.previous-s.ensures
+          c.coord_at-e.ensures
+          c.intersect.ensures.crossing (e.rest.2 h) next.len c.args.out.now _ _ p.vertex q.vertex),
+    )
 
 pub returns-clause-origins : goal.returns-clause-origins
 returns-clause-origins c = let s = c.args.ring.now in
@@ -87,5 +87,5 @@ returns-clause-origins c = let s = c.args.ring.now in
     let h = c.if-m-next.false in
     let p = c.put_with_origin.ensures in
     let q = c.put_with_origin-2.ensures in origins_skip c.args.edge c.args.bounds (coords (take (2 * m) s)) os _ _ _ _ _ (e.origins os) e.rest.4
-            ∙ out_in-origin c.args.edge c.args.bounds s m c.requires.walk_room.0 next.i h (e.rest.2 h) os _ next.len
-            c.args.out_origins.now _ _ c.line_origin.ensures p.origin q.origin
+    ∙ out_in-origin c.args.edge c.args.bounds s m c.requires.walk_room.0 next.i h (e.rest.2 h) os _ next.len
+    c.args.out_origins.now _ _ c.line_origin.ensures p.origin q.origin

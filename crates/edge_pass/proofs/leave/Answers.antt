@@ -38,11 +38,11 @@ returns-then-m-to-clause-rest c = let s = c.args.ring.now in
     let g = origins_copied c.args.edge c.args.bounds (coords (take (2 * m) s)) os _ _ _ _ c.args.out_origins.now _
     e.origins.1 e.rest.0 (omega (arith, e.rest.1, c.requires.origin_walk_room.0)) e.origins.0
     c.copy_origins.ensures in (
-        search rules,
-        search rules,
-        rest_then c.args.edge c.args.bounds (coords (take (2 * m) s)) e.rest.3 (rest_end c.args.edge c.args.bounds
-            (coords (take (2 * m) s)) true false _ _ _ p),
-      )
+      search rules,
+      search rules,
+      rest_then c.args.edge c.args.bounds (coords (take (2 * m) s)) e.rest.3 (rest_end c.args.edge c.args.bounds
+          (coords (take (2 * m) s)) true false _ _ _ p),
+    )
 
 pub returns-then-m-to-clause-origins : goal.returns-then-m-to-clause-origins
 returns-then-m-to-clause-origins c = let s = c.args.ring.now in
@@ -56,13 +56,13 @@ returns-then-m-to-clause-origins c = let s = c.args.ring.now in
 
 pub put_with_origin-requires : goal.put_with_origin-requires
 put_with_origin-requires c = let r = room (goal.at.put_with_origin-requires c).Else-m-to in (
-      omega (arith, r.0),
-      omega (
-        arith,
-        r.1,
-        c.copy_origins.auto,
-      ),
-    )
+  omega (arith, r.0),
+  omega (
+    arith,
+    r.1,
+    c.copy_origins.auto,
+  ),
+)
 
 pub returns-clause-rest : goal.returns-clause-rest
 returns-clause-rest c = let s = c.args.ring.now in
@@ -75,14 +75,14 @@ returns-clause-rest c = let s = c.args.ring.now in
     e.origins.1 e.rest.0 (omega (arith, e.rest.1, c.requires.origin_walk_room.0)) e.origins.0
     c.copy_origins.ensures in
     let p = c.put_with_origin.ensures in (
-        search rules,
-        search rules,
-        rest_then c.args.edge c.args.bounds (coords (take (2 * m) s)) e.rest.3
-            (in_out c.args.edge c.args.bounds s m c.requires.walk_room.0 to.i h _ _ _
-            c.previous-s.ensures
-            c.coord_at-e.ensures
-            c.intersect.ensures.crossing (e.rest.2 h) to.len _ _ p.vertex),
-      )
+      search rules,
+      search rules,
+      rest_then c.args.edge c.args.bounds (coords (take (2 * m) s)) e.rest.3
+          (in_out c.args.edge c.args.bounds s m c.requires.walk_room.0 to.i h _ _ _
+          c.previous-s.ensures
+          c.coord_at-e.ensures
+          c.intersect.ensures.crossing (e.rest.2 h) to.len _ _ p.vertex),
+    )
 
 pub returns-clause-origins : goal.returns-clause-origins
 returns-clause-origins c = let s = c.args.ring.now in
@@ -95,4 +95,4 @@ returns-clause-origins c = let s = c.args.ring.now in
     e.origins.1 e.rest.0 (omega (arith, e.rest.1, c.requires.origin_walk_room.0)) e.origins.0
     c.copy_origins.ensures in
     let p = c.put_with_origin.ensures in g ∙ in_out_origin c.args.edge c.args.bounds s m c.requires.walk_room.0 to.i h (e.rest.2 h) os _ to.len _ _
-            c.line_origin.ensures p.origin
+    c.line_origin.ensures p.origin

@@ -1,7 +1,6 @@
 -- `skip_outside` meets its contract: a step from out to out gives nothing. Assumes nothing.
 use mathlib.Core.Path.{◌∙◌}
-use mathlib.Core.Bool.{true, false}
-use Prim.Native.Nat.{◌-◌}
+use mathlib.Core.Bool.{false}
 use borrow.Author.Rules.{rules}
 use Rattle.edge_pass.proofs.Walking.{out_out, judged}
 use Rattle.edge_pass.proofs.OriginWalking.{out_out_origin}

@@ -20,6 +20,6 @@ pub returns-in-Overlay-clause-out_after : goal.returns-in-Overlay-clause-out_aft
 returns-in-Overlay-clause-out_after c = let a = c.args in
     let e = overlay-part a.index a.bounds (part_at a.frame.now a.at) in
     let overlay = c.overlay_or_dropped.ensures in rw (
-        c.in-Overlay.is,
-        e,
-      ) overlay.out_after
+      c.in-Overlay.is,
+      e,
+    ) overlay.out_after

@@ -35,6 +35,6 @@ unfolding overlay_or_dropped
 returns-clause-out_after c = let a = c.args in
     let e : any_huge_ring (part_at a.frame.now a.at) ≡ false =
     sym (c.part_has_huge.ensures ∙ huge-in (read_part (drop a.at a.frame.now))) ∙ c.if-part_has_huge.false in rw e (overlay-written a.index a.reason _
-          c.reason_detail-detail.ensures a.to a.out.now _ _ _
-          c.put_part.ensures
-          c.put_count.ensures c.put_count-2.ensures)
+    c.reason_detail-detail.ensures a.to a.out.now _ _ _
+    c.put_part.ensures
+    c.put_count.ensures c.put_count-2.ensures)

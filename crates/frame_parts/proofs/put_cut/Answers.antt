@@ -20,10 +20,10 @@ put_cut_ring-exterior-requires c = let e = exterior_put c.args.bounds c.args.fra
 
 pub overflow_sub-rings : goal.overflow_sub-rings
 overflow_sub-rings c = omega (
-      arith,
-      (part-rings c.args.frame.now c.args.at c.requires.part_room.within c.requires.part_room.accepted).some,
-      c.count_at-rings.ensures.0,
-    )
+  arith,
+  (part-rings c.args.frame.now c.args.at c.requires.part_room.within c.requires.part_room.accepted).some,
+  c.count_at-rings.ensures.0,
+)
 
 pub put_holes-all-requires : goal.put_holes-all-requires
 put_holes-all-requires c = let f = c.args.frame.now in
@@ -42,20 +42,20 @@ put_holes-all-requires c = let f = c.args.frame.now in
 
 pub put_part-requires : goal.put_part-requires
 put_part-requires c = omega (
-      arith,
-      (exterior_put c.args.bounds c.args.frame.now c.args.at c.args.m _ _ _ _ _ c.requires.part_room c.requires.exterior_stands).2,
-      c.put_holes-all.auto.out,
-      c.put_cut_ring-exterior.auto.out,
-    )
+  arith,
+  (exterior_put c.args.bounds c.args.frame.now c.args.at c.args.m _ _ _ _ _ c.requires.part_room c.requires.exterior_stands).2,
+  c.put_holes-all.auto.out,
+  c.put_cut_ring-exterior.auto.out,
+)
 
 pub put_count-requires : goal.put_count-requires
 put_count-requires c = omega (
-      arith,
-      (exterior_put c.args.bounds c.args.frame.now c.args.at c.args.m _ _ _ _ _ c.requires.part_room c.requires.exterior_stands).2,
-      c.put_part.auto.out,
-      c.put_holes-all.auto.out,
-      c.put_cut_ring-exterior.auto.out,
-    )
+  arith,
+  (exterior_put c.args.bounds c.args.frame.now c.args.at c.args.m _ _ _ _ _ c.requires.part_room c.requires.exterior_stands).2,
+  c.put_part.auto.out,
+  c.put_holes-all.auto.out,
+  c.put_cut_ring-exterior.auto.out,
+)
 
 pub returns-clause-value : goal.returns-clause-value
 returns-clause-value c = let f = c.args.frame.now in
@@ -82,4 +82,4 @@ returns-clause-out_after c = let f = c.args.frame.now in
     ) at c.put_holes-all.ensures in
     let all = all_put c.args.bounds f c.args.at c.args.m _ _ c.args.to _ _ c.requires.part_room c.requires.exterior_stands _ _ _ _ put
     (omega arith) refl _ _ holes in part-written c.args.index c.args.bounds (part_at f c.args.at) c.args.to _ _ _ _ all (omega arith) _ _ refl
-          c.put_part.ensures c.put_count.ensures
+    c.put_part.ensures c.put_count.ensures

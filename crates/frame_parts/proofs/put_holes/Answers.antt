@@ -15,9 +15,9 @@ use Rattle.frame_parts.proofs.put_holes.Goals as goal
 
 pub count_at-n-requires : goal.count_at-n-requires
 count_at-n-requires c = let l = c.loop-left in omega (
-      arith,
-      hole_whole c.args.bounds c.args.frame.now l.at l.left _ _ _ c.loop-left-test.true l.invariant.0,
-    )
+  arith,
+  hole_whole c.args.bounds c.args.frame.now l.at l.left _ _ _ c.loop-left-test.true l.invariant.0,
+)
 
 pub decode_ring-next-requires : goal.decode_ring-next-requires
 decode_ring-next-requires c = let l = c.loop-left in

@@ -10,21 +10,21 @@ count_at-n-requires c = omega (arith, exterior-whole c.args.frame.now c.args.at 
 
 pub decode_ring-requires : goal.decode_ring-requires
 decode_ring-requires c = let n = c.count_at-n.ensures.0 in (
-      omega (arith, n, exterior-whole c.args.frame.now c.args.at _ _ _ c.requires.part_room),
-      omega (arith, n, exterior-lent c.args.frame.now c.args.at _ _ _ c.requires.part_room c.args.ring.now refl),
-    )
+  omega (arith, n, exterior-whole c.args.frame.now c.args.at _ _ _ c.requires.part_room),
+  omega (arith, n, exterior-lent c.args.frame.now c.args.at _ _ _ c.requires.part_room c.args.ring.now refl),
+)
 
 pub route_exterior-route-requires-clause-exterior_room : goal.route_exterior-route-requires-clause-exterior_room
 route_exterior-route-requires-clause-exterior_room c = rw (
-      c.decode_ring.ensures.1,
-      c.count_at-n.ensures.0,
-    ) (exterior-room c.args.frame.now c.args.at _ _ _ c.requires.part_room c.args.ring.now refl _ c.requires.positions_room)
+  c.decode_ring.ensures.1,
+  c.count_at-n.ensures.0,
+) (exterior-room c.args.frame.now c.args.at _ _ _ c.requires.part_room c.args.ring.now refl _ c.requires.positions_room)
 
 pub route_exterior-route-requires-clause-ring_origin_room : goal.route_exterior-route-requires-clause-ring_origin_room
 route_exterior-route-requires-clause-ring_origin_room c = rw (
-      c.decode_ring.ensures.1,
-      c.count_at-n.ensures.0,
-    ) (exterior-origin-room c.args.frame.now c.args.at _ _ _ c.requires.part_room c.args.ring.now refl)
+  c.decode_ring.ensures.1,
+  c.count_at-n.ensures.0,
+) (exterior-origin-room c.args.frame.now c.args.at _ _ _ c.requires.part_room c.args.ring.now refl)
 
 pub answer_route-requires-clause-cut_stands : goal.answer_route-requires-clause-cut_stands
 answer_route-requires-clause-cut_stands c = let route = c.route_exterior-route in

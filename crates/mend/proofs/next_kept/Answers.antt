@@ -1,6 +1,5 @@
 -- `next_kept` meets its contract: the loop goes past what is near the coordinate that is kept. Assumes nothing.
 use mathlib.Core.Path.{◌≡◌, sym, ◌∙◌}
-use Prim.Native.Nat.{◌-◌}
 use Rattle.tile.specs.Internal.{coord_at}
 use Rattle.box_pairs.specs.Cross.{degenerate}
 use Rattle.mend.proofs.Walks.{dropped-near, found-far, found_closing}

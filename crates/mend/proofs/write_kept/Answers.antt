@@ -1,5 +1,4 @@
 -- `write_kept` meets its contract: it goes from one that is kept to the next. Assumes nothing.
-use Prim.Native.Nat.{◌-◌}
 use native.Mathlib.Omega.{arith}
 use Rattle.mend.proofs.Walks.{writing_fits, writing_room, writing_on, writing_end}
 use Rattle.mend.proofs.write_kept.Goals as goal

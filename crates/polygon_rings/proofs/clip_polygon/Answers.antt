@@ -73,26 +73,26 @@ returns-in-NotFinite-clause-origins c = rw (← c.polygon_rect_all_rings-rect.en
 pub returns-in-Box-clause-answer : goal.returns-in-Box-clause-answer
 unfolding route route_rect
 returns-in-Box-clause-answer c = let e = exterior-here c.args.lengths.now c.args.coords.now c.requires.polygon_room.some in rw (
-      ← c.polygon_rect_all_rings-rect.ensures,
-      c.in-Box.is,
-      e,
-      ← c.route_exterior-route.ensures.route,
-    ) c.answer_route.ensures.answer
+  ← c.polygon_rect_all_rings-rect.ensures,
+  c.in-Box.is,
+  e,
+  ← c.route_exterior-route.ensures.route,
+) c.answer_route.ensures.answer
 
 pub returns-in-Box-clause-written : goal.returns-in-Box-clause-written
 unfolding route route_rect
 returns-in-Box-clause-written c = let e = exterior-here c.args.lengths.now c.args.coords.now c.requires.polygon_room.some in rw (
-      ← c.polygon_rect_all_rings-rect.ensures,
-      c.in-Box.is,
-      e,
-      ← c.route_exterior-route.ensures.route,
-    ) c.answer_route.ensures.written
+  ← c.polygon_rect_all_rings-rect.ensures,
+  c.in-Box.is,
+  e,
+  ← c.route_exterior-route.ensures.route,
+) c.answer_route.ensures.written
 
 pub returns-in-Box-clause-origins : goal.returns-in-Box-clause-origins
 unfolding route route_rect
 returns-in-Box-clause-origins c = let e = exterior-here c.args.lengths.now c.args.coords.now c.requires.polygon_room.some in rw (
-      ← c.polygon_rect_all_rings-rect.ensures,
-      c.in-Box.is,
-      e,
-      ← c.route_exterior-route.ensures.route,
-    ) c.answer_route.ensures.origins
+  ← c.polygon_rect_all_rings-rect.ensures,
+  c.in-Box.is,
+  e,
+  ← c.route_exterior-route.ensures.route,
+) c.answer_route.ensures.origins

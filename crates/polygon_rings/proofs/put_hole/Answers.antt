@@ -43,7 +43,7 @@ returns-clause-ring c = let a = c.args in
     let t = ap length (tail_part a.out.now (2 * at)) in
     let u = ap length (tail_part a.out_origins.now at) in
     let counted = c.count_ring.ensures in cut_there (cut_hole a.bounds ring) hole.result _ a.out.now _ a.at _ _ _ p.hole_room.output-room
-          (omega (arith, f, kept, t, length-drop (2 * at) a.out.now)) hole.ensures.cut refl counted
+    (omega (arith, f, kept, t, length-drop (2 * at) a.out.now)) hole.ensures.cut refl counted
 
 pub returns-clause-origins : goal.returns-clause-origins
 returns-clause-origins c = let a = c.args in
@@ -59,4 +59,4 @@ returns-clause-origins c = let a = c.args in
     let t = ap length (tail_part a.out.now (2 * at)) in
     let u = ap length (tail_part a.out_origins.now at) in
     let counted = c.count_ring.ensures in rw counted.coordinates-after (front-part a.out_origins.now _ (hole_origins a.bounds ring) _ at hole.result
-          p.hole_origin_room.output-room (omega (arith, o, c.clip_hole-m.auto.out_origins, u, length-drop at a.out_origins.now)) hole.ensures.origins refl)
+    p.hole_origin_room.output-room (omega (arith, o, c.clip_hole-m.auto.out_origins, u, length-drop at a.out_origins.now)) hole.ensures.origins refl)

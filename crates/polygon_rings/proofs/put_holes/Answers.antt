@@ -2,7 +2,7 @@
 -- that was to be written, of the rings and of their origins. Assumes nothing.
 use mathlib.Core.Path.{◌≡◌, ◌∙◌}
 use mathlib.Core.List.{◌++◌}
-use Prim.Native.Nat.{◌+◌, ◌*◌, ◌-◌}
+use Prim.Native.Nat.{◌+◌, ◌*◌}
 use lib.ListN.{get_or, take, drop}
 use Rattle.binary64.proofs.Fill.{tail_part}
 use Rattle.tile.specs.Ring.{coords as coordinates, close}
@@ -66,4 +66,4 @@ returns-clause-rings c = let a = c.args in
 pub returns-clause-origins : goal.returns-clause-origins
 returns-clause-origins c = let a = c.args in
     let l = c.loop-k in origins_end a.bounds a.lengths.now a.coords.now l.k l.at c.loop-k-test.false _ l.placed.coordinates
-          l.out_origins l.invariant.3
+    l.out_origins l.invariant.3

@@ -2,9 +2,8 @@
 -- that was to be written, of the rings and of their origins. Assumes nothing.
 use mathlib.Core.Path.{◌≡◌}
 use mathlib.Core.List.{◌++◌}
-use Prim.Native.Nat.{◌+◌, ◌-◌}
+use Prim.Native.Nat.{◌-◌}
 use lib.ListN.{length, take, drop}
-use Rattle.tile.specs.Ring.{coords as coordinates}
 use Rattle.rings.specs.LentRings.{closed_rings}
 use Rattle.rings.proofs.LentRings.{Left}
 use Rattle.clip.specs.Polygon.{cut_holes}

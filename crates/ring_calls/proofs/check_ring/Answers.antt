@@ -20,53 +20,53 @@ overflow_mul-room c = omega (arith, B-le (c.args.numbers / 2) c.if-n-gt-MOST_COO
 pub returns-then-scratch-room : goal.returns-then-scratch-room
 unfolding check_ring ring_call_room ring_call_origin_room
 returns-then-scratch-room c = rw (
-      ne_eqb _ _ c.if-numbers-eq1.false,
-      le-ltb _ _ c.if-n-gt-MOST_COORDINATES.false,
-      ← c.room_for-room.ensures,
-      lt-ltb _ _ c.if-scratch-room.true,
-    )
+  ne_eqb _ _ c.if-numbers-eq1.false,
+  le-ltb _ _ c.if-n-gt-MOST_COORDINATES.false,
+  ← c.room_for-room.ensures,
+  lt-ltb _ _ c.if-scratch-room.true,
+)
 
 pub returns-then-origin_scratch-room : goal.returns-then-origin_scratch-room
 unfolding check_ring ring_call_room ring_call_origin_room
 returns-then-origin_scratch-room c = rw (
-      ne_eqb _ _ c.if-numbers-eq1.false,
-      le-ltb _ _ c.if-n-gt-MOST_COORDINATES.false,
-      ← c.room_for-room.ensures,
-      le-ltb _ _ c.if-scratch-room.false,
-      lt-ltb _ _ c.if-origin_scratch-room.true,
-    )
+  ne_eqb _ _ c.if-numbers-eq1.false,
+  le-ltb _ _ c.if-n-gt-MOST_COORDINATES.false,
+  ← c.room_for-room.ensures,
+  le-ltb _ _ c.if-scratch-room.false,
+  lt-ltb _ _ c.if-origin_scratch-room.true,
+)
 
 pub returns-then-out-room : goal.returns-then-out-room
 unfolding check_ring ring_call_room ring_call_origin_room
 returns-then-out-room c = rw (
-      ne_eqb _ _ c.if-numbers-eq1.false,
-      le-ltb _ _ c.if-n-gt-MOST_COORDINATES.false,
-      ← c.room_for-room.ensures,
-      le-ltb _ _ c.if-scratch-room.false,
-      le-ltb _ _ c.if-origin_scratch-room.false,
-      lt-ltb _ _ c.if-out-room.true,
-    )
+  ne_eqb _ _ c.if-numbers-eq1.false,
+  le-ltb _ _ c.if-n-gt-MOST_COORDINATES.false,
+  ← c.room_for-room.ensures,
+  le-ltb _ _ c.if-scratch-room.false,
+  le-ltb _ _ c.if-origin_scratch-room.false,
+  lt-ltb _ _ c.if-out-room.true,
+)
 
 pub returns-then-out_origins-room : goal.returns-then-out_origins-room
 unfolding check_ring ring_call_room ring_call_origin_room
 returns-then-out_origins-room c = rw (
-      ne_eqb _ _ c.if-numbers-eq1.false,
-      le-ltb _ _ c.if-n-gt-MOST_COORDINATES.false,
-      ← c.room_for-room.ensures,
-      le-ltb _ _ c.if-scratch-room.false,
-      le-ltb _ _ c.if-origin_scratch-room.false,
-      le-ltb _ _ c.if-out-room.false,
-      lt-ltb _ _ c.if-out_origins-room.true,
-    )
+  ne_eqb _ _ c.if-numbers-eq1.false,
+  le-ltb _ _ c.if-n-gt-MOST_COORDINATES.false,
+  ← c.room_for-room.ensures,
+  le-ltb _ _ c.if-scratch-room.false,
+  le-ltb _ _ c.if-origin_scratch-room.false,
+  le-ltb _ _ c.if-out-room.false,
+  lt-ltb _ _ c.if-out_origins-room.true,
+)
 
 pub returns : goal.returns
 unfolding check_ring ring_call_room ring_call_origin_room
 returns c = rw (
-      ne_eqb _ _ c.if-numbers-eq1.false,
-      le-ltb _ _ c.if-n-gt-MOST_COORDINATES.false,
-      ← c.room_for-room.ensures,
-      le-ltb _ _ c.if-scratch-room.false,
-      le-ltb _ _ c.if-origin_scratch-room.false,
-      le-ltb _ _ c.if-out-room.false,
-      le-ltb _ _ c.if-out_origins-room.false,
-    )
+  ne_eqb _ _ c.if-numbers-eq1.false,
+  le-ltb _ _ c.if-n-gt-MOST_COORDINATES.false,
+  ← c.room_for-room.ensures,
+  le-ltb _ _ c.if-scratch-room.false,
+  le-ltb _ _ c.if-origin_scratch-room.false,
+  le-ltb _ _ c.if-out-room.false,
+  le-ltb _ _ c.if-out_origins-room.false,
+)

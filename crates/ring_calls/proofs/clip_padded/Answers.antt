@@ -49,20 +49,20 @@ clip_top-len-requires-clause-n_in_bounds c = let p = c.requires.cutter_room in
     let q = c.requires.origin_room in
     let k = c.clip_three_edges-bottom.auto in
     let t = c.clip_three_edges-bottom.ensures.ring in last-room c.args.bounds c.args.ring.now c.args.n _ _ t (record {
-        vertices = p.vertices;
-        scratch-room = omega (arith, p.scratch-room, k);
-        output-room = omega (arith, p.output-room, k);
-      })
+      vertices = p.vertices;
+      scratch-room = omega (arith, p.scratch-room, k);
+      output-room = omega (arith, p.output-room, k);
+    })
 
 pub clip_top-len-requires-clause-n_in_bounds_2 : goal.clip_top-len-requires-clause-n_in_bounds_2
 clip_top-len-requires-clause-n_in_bounds_2 c = let p = c.requires.cutter_room in
     let q = c.requires.origin_room in
     let k = c.clip_three_edges-bottom.auto in
     let t = c.clip_three_edges-bottom.ensures.ring in last-origin-room c.args.bounds c.args.ring.now c.args.n _ _ t p.vertices (record {
-        positions = q.positions;
-        scratch-room = omega (arith, q.scratch-room, k);
-        output-room = omega (arith, q.output-room, k);
-      })
+      positions = q.positions;
+      scratch-room = omega (arith, q.scratch-room, k);
+      output-room = omega (arith, q.output-room, k);
+    })
 
 pub overflow_mul-used : goal.overflow_mul-used
 overflow_mul-used c = let d = done (goal.at.overflow_mul-used c).After-slice_known-10-1 in omega (arith, d.within, d.few)
@@ -108,8 +108,8 @@ slice_bounds-clear_origins-start c = let d = done (goal.at.slice_bounds-clear_or
 pub returns-clause-ring : goal.returns-clause-ring
 returns-clause-ring c = let s = c.args.ring.now in
     let d = done (goal.at.returns-clause-ring c).After-slice_known-10-1 in rw (← d.same) (cut-padded c.args.bounds (coords (take (2 * c.args.n) s)) c.args.n
-          (length_front s c.args.n c.requires.cutter_room.vertices) _ _ d.cut _
-          c.clear.ensures)
+    (length_front s c.args.n c.requires.cutter_room.vertices) _ _ d.cut _
+    c.clear.ensures)
 
 pub returns-clause-origins : goal.returns-clause-origins
 returns-clause-origins c = let s = c.args.ring.now in

@@ -50,11 +50,11 @@ slice_bounds-clip_padded-end-in-Passes-2 c = omega (
 
 pub slice_bounds-clip_padded-end-in-Passes-3 : goal.slice_bounds-clip_padded-end-in-Passes-3
 slice_bounds-clip_padded-end-in-Passes-3 c = sym (length-take-le _ _ (omega (
-      arith,
-      c.room_for-origin_room.ensures,
-      (cuttable
-          (goal.at.slice_bounds-clip_padded-end-in-Passes-3 c).In-Passes).origin-output-room,
-    )))
+  arith,
+  c.room_for-origin_room.ensures,
+  (cuttable
+      (goal.at.slice_bounds-clip_padded-end-in-Passes-3 c).In-Passes).origin-output-room,
+)))
 
 pub clip_padded-len-requires-clause-cutter_room : goal.clip_padded-len-requires-clause-cutter_room
 clip_padded-len-requires-clause-cutter_room c = let p = cuttable (goal.at.clip_padded-len-requires-clause-cutter_room c).In-Passes in
@@ -111,8 +111,8 @@ returns-in-Passes-clause-lent c = let a = c.args in
     let cut = lent-padded a.ring.now p.even a.bounds _ _ _ (omega (arith, l, room)) clipped.ensures.ring in
     let origins = lent-origins a.ring.now p.even a.bounds (length (take r a.out_origins.now)) clipped.result _
     (omega (arith, m, room)) clipped.ensures.origins in rw room (clipped_slices a.ring.now a.bounds lent _ _ _ _ _ e
-            (cleared plus_zero _ _ _ c.clear.ensures clipped.auto.scratch)
-            (cleared 0 _ _ _ c.clear_origins.ensures clipped.auto.origin_scratch) cut origins)
+    (cleared plus_zero _ _ _ c.clear.ensures clipped.auto.scratch)
+    (cleared 0 _ _ _ c.clear_origins.ensures clipped.auto.origin_scratch) cut origins)
 
 pub returns-in-Passes-clause-promise : goal.returns-in-Passes-clause-promise
 unfolding ring_call_answer ring_call_room ring_call_origin_room

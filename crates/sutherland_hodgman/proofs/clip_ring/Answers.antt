@@ -9,26 +9,26 @@ clip_top-requires-clause-n_in_bounds c = let p = c.requires.cutter_room in
     let q = c.requires.origin_room in
     let k = c.clip_three_edges-len.auto in
     let t = c.clip_three_edges-len.ensures.ring in last-room c.args.bounds c.args.ring.now c.args.n _ _ t (record {
-        vertices = p.vertices;
-        scratch-room = omega (arith, p.scratch-room, k);
-        output-room = omega (arith, p.output-room, k);
-      })
+      vertices = p.vertices;
+      scratch-room = omega (arith, p.scratch-room, k);
+      output-room = omega (arith, p.output-room, k);
+    })
 
 pub clip_top-requires-clause-n_in_bounds_2 : goal.clip_top-requires-clause-n_in_bounds_2
 clip_top-requires-clause-n_in_bounds_2 c = let p = c.requires.cutter_room in
     let q = c.requires.origin_room in
     let k = c.clip_three_edges-len.auto in
     let t = c.clip_three_edges-len.ensures.ring in last-origin-room c.args.bounds c.args.ring.now c.args.n _ _ t p.vertices (record {
-        positions = q.positions;
-        scratch-room = omega (arith, q.scratch-room, k);
-        output-room = omega (arith, q.output-room, k);
-      })
+      positions = q.positions;
+      scratch-room = omega (arith, q.scratch-room, k);
+      output-room = omega (arith, q.output-room, k);
+    })
 
 pub returns-clause-ring : goal.returns-clause-ring
 returns-clause-ring c = let e = c.clip_three_edges-len.ensures in
     let t = c.clip_top.ensures in
     let doubles = c.shared_slice_known-1.given in last-cut c.args.bounds c.args.ring.now c.args.n _ _ e.ring (search rules, search rules, search rules, search rules)
-          doubles _ _ t.ring
+    doubles _ _ t.ring
 
 pub returns-clause-origins : goal.returns-clause-origins
 returns-clause-origins c = let e = c.clip_three_edges-len.ensures in

@@ -21,7 +21,7 @@ pub clip_ring_against_edge-left-requires-clause-pass_origin_room : goal.clip_rin
 clip_ring_against_edge-left-requires-clause-pass_origin_room c = let s0 = stage_start c.args.n c.args.ring.now c.requires.cutter_room.vertices in
     let k = c.put_positions.auto in
     let p = c.requires.origin_room in origins-room _ _
-          (omega arith) (omega (arith, p.output-room, k)) p.scratch-room s0
+    (omega arith) (omega (arith, p.output-room, k)) p.scratch-room s0
 
 pub clip_ring_against_edge-right-requires-clause-pass_room : goal.clip_ring_against_edge-right-requires-clause-pass_room
 clip_ring_against_edge-right-requires-clause-pass_room c = let p = c.requires.cutter_room in
@@ -38,7 +38,7 @@ clip_ring_against_edge-right-requires-clause-pass_origin_room c = let p = c.requ
     let s1 = stage_next Left c.args.bounds _ _ _ s0 c.clip_ring_against_edge-left.ensures.written in
     let k0 = c.put_positions.auto in
     let k1 = c.clip_ring_against_edge-left.auto in origins-room _ _ (omega arith) (omega
-          (arith, q.scratch-room, k1)) (omega (arith, q.output-room, k0)) s1
+    (arith, q.scratch-room, k1)) (omega (arith, q.output-room, k0)) s1
 
 pub clip_ring_against_edge-bottom-requires-clause-pass_room : goal.clip_ring_against_edge-bottom-requires-clause-pass_room
 clip_ring_against_edge-bottom-requires-clause-pass_room c = let p = c.requires.cutter_room in
@@ -59,7 +59,7 @@ clip_ring_against_edge-bottom-requires-clause-pass_origin_room c = let p = c.req
     let k0 = c.put_positions.auto in
     let k1 = c.clip_ring_against_edge-left.auto in
     let k2 = c.clip_ring_against_edge-right.auto in origins-room _ _
-          (omega arith) (omega (arith, q.output-room, k0, k2)) (omega (arith, q.scratch-room, k1)) s2
+    (omega arith) (omega (arith, q.output-room, k0, k2)) (omega (arith, q.scratch-room, k1)) s2
 
 pub returns-clause-ring : goal.returns-clause-ring
 unfolding three_passes three_passes_origins

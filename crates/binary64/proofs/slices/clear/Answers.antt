@@ -1,6 +1,5 @@
 -- `slices::clear` meets its contract. The invariant: the first i numbers are zero. Assumes nothing.
 use mathlib.Core.Path.{◌≡◌, sym}
-use Prim.Native.Nat.{◌-◌}
 use native.Mathlib.Omega.{arith}
 use borrow.Author.Rules.{rules}
 use lib.Ieee.{nan, of_bits}

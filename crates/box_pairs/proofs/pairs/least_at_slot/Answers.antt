@@ -2,7 +2,7 @@
 -- where it breaks off, none follows. Assumes nothing.
 use mathlib.Core.Path.{◌≡◌, sym, ap₂, ◌∙◌}
 use mathlib.Core.List.{List}
-use Prim.Native.Nat.{ℕ, ◌+◌, ◌-◌, ◌<◌}
+use Prim.Native.Nat.{ℕ, ◌+◌, ◌<◌}
 use lib.Ieee.{Float, nan, lt}
 use lib.ListN.{get_or}
 use Rattle.binary64.specs.Internal.{key}

@@ -2,7 +2,7 @@
 -- Assumes nothing.
 use mathlib.Core.Path.{sym, ◌∙◌}
 use mathlib.Core.List.{List}
-use Prim.Native.Nat.{◌+◌, ◌-◌}
+use Prim.Native.Nat.{◌+◌}
 use Rattle.binary64.specs.Internal.{key}
 use Rattle.tile.specs.declared.Coord.{Coord}
 use Prim.Native.Nat.{ℕ}

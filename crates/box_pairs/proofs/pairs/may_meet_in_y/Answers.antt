@@ -7,8 +7,8 @@ use Rattle.box_pairs.proofs.pairs.may_meet_in_y.Goals as goal
 pub returns : goal.returns
 unfolding may_meet_in_y
 returns c = ap not c.is_apart.ensures ∙ rw (
-      c.coord_at-a1.ensures,
-      c.coord_at-a2.ensures,
-      c.coord_at-b1.ensures,
-      c.coord_at-b2.ensures,
-    )
+  c.coord_at-a1.ensures,
+  c.coord_at-a2.ensures,
+  c.coord_at-b1.ensures,
+  c.coord_at-b2.ensures,
+)

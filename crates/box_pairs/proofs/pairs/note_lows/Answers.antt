@@ -1,6 +1,6 @@
 -- `pairs::note_lows` meets its contract. Assumes nothing.
 use mathlib.Core.Path.{◌∙◌}
-use Prim.Native.Nat.{◌+◌, ◌-◌}
+use Prim.Native.Nat.{◌+◌}
 use Rattle.box_pairs.specs.Internal.{front}
 use Rattle.box_pairs.proofs.Edges.{note_step, low_front}
 use Rattle.box_pairs.proofs.pairs.note_lows.Goals as goal

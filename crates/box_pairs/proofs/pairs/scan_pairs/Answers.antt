@@ -3,7 +3,7 @@
 use mathlib.Core.Path.{◌≡◌, sym, ap, ◌∙◌}
 use mathlib.Core.Bool.{Bool, false}
 use mathlib.Core.List.{List}
-use Prim.Native.Nat.{ℕ, ◌+◌, ◌-◌}
+use Prim.Native.Nat.{ℕ, ◌+◌}
 use native.Mathlib.Omega.{arith}
 use lib.Ieee.{Float}
 use Rattle.box_pairs.specs.declared.pairs.Pair.TheVariants.{At}
@@ -26,20 +26,20 @@ loop-j-preserved c = let l = c.loop-j in
     c.loop-j-test.true in
     let miss : crossing c.args.ring.now c.args.edges c.pairs.i l.j ≡ false =
     elim c.if-may_meet_in_y.branch [
-      then-may_meet_in_y+else-edges_cross w ↦ sym is ∙ (sym w.edges_cross.ensures ∙ w.if-edges_cross.false)
+      | then-may_meet_in_y+else-edges_cross w ↦ sym is ∙ (sym w.edges_cross.ensures ∙ w.if-edges_cross.false)
       | else-may_meet_in_y w ↦ sym is ∙ never_meet _ _ _ (sym c.may_meet_in_y.ensures ∙ w.if-may_meet_in_y.false)
     ] in
     inner_next (crossing c.args.ring.now c.args.edges) c.args.edges c.pairs.i l.j c.loop-j-test.true l.invariant miss
 
 pub returns-then-i-edges : goal.returns-then-i-edges
 returns-then-i-edges c = elim c.pairs-test.branch [
-      else-pairs-test w ↦ absurd (omega (arith, w.pairs-test.false, c.if-i-edges.true))
-      | then-pairs-test+then-loop-j-test+then-may_meet_in_y+then-edges_cross w ↦
-    let is = edges_front c.args.ring.now c.args.edges c.requires.0 c.pairs.i w.loop-j.j w.pairs-test.true w.loop-j-test.true in
-    let first = scan-here (crossing c.args.ring.now c.args.edges) c.args.edges c.pairs.i w.loop-j.j w.loop-j.invariant.after
-    w.loop-j-test.true c.pairs.invariant.clear w.loop-j.invariant.clear (sym is ∙ (sym w.edges_cross.ensures ∙ w.if-edges_cross.true)) in
-    ap (At c.pairs.i) w.j-is ∙ first ∙ sym (first_front c.args.ring.now c.args.edges c.requires.0)
-    ]
+  | else-pairs-test w ↦ absurd (omega (arith, w.pairs-test.false, c.if-i-edges.true))
+  | then-pairs-test+then-loop-j-test+then-may_meet_in_y+then-edges_cross w ↦
+      let is = edges_front c.args.ring.now c.args.edges c.requires.0 c.pairs.i w.loop-j.j w.pairs-test.true w.loop-j-test.true in
+      let first = scan-here (crossing c.args.ring.now c.args.edges) c.args.edges c.pairs.i w.loop-j.j w.loop-j.invariant.after
+      w.loop-j-test.true c.pairs.invariant.clear w.loop-j.invariant.clear (sym is ∙ (sym w.edges_cross.ensures ∙ w.if-edges_cross.true)) in
+      ap (At c.pairs.i) w.j-is ∙ first ∙ sym (first_front c.args.ring.now c.args.edges c.requires.0)
+]
 
 pub returns : goal.returns
 returns c = scan-none (crossing c.args.ring.now c.args.edges) c.args.edges (λ p l. c.pairs.invariant.clear p (omega (arith, c.if-i-edges.false)))

@@ -8,7 +8,7 @@ pub returns-then-slot-edges-clause-unused : goal.returns-then-slot-edges-clause-
 returns-then-slot-edges-clause-unused c = let r = front c.args.ring.now (c.args.edges + 1) in
     let noted = c.note_lows in
     let sorted = c.sort.ensures in noted_unused c.args.edges r c.args.work.now _ _ c.args.order.now _ noted.ensures sorted.kept
-            sorted.sorted
+    sorted.sorted
 
 pub returns-clause-value : goal.returns-clause-value
 returns-clause-value c = let r = front c.args.ring.now (c.args.edges + 1) in

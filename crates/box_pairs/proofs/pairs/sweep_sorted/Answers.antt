@@ -3,7 +3,7 @@
 use mathlib.Core.Path.{◌≡◌, sym, ap₂, ◌∙◌}
 use mathlib.Core.Bool.{false}
 use mathlib.Core.List.{List}
-use Prim.Native.Nat.{ℕ, ◌+◌, ◌-◌, ◌<◌}
+use Prim.Native.Nat.{ℕ, ◌+◌, ◌<◌}
 use native.Mathlib.Omega.{arith}
 use lib.Ieee.{Float, nan, lt}
 use lib.ListN.{get_or}
@@ -68,7 +68,7 @@ loop-q-preserved c = let l = c.loop-q in
     c.loop-q-test.true in
     let miss : at_slots (edges_cross (ring_of c.args.ring.now c.args.edges)) c.args.order.now c.pairs.p l.q ≡ false =
     elim c.if-may_meet_in_y.branch [
-      then-may_meet_in_y+else-edges_cross w ↦ sym is ∙ (sym w.edges_cross.ensures ∙ w.if-edges_cross.false)
+      | then-may_meet_in_y+else-edges_cross w ↦ sym is ∙ (sym w.edges_cross.ensures ∙ w.if-edges_cross.false)
       | else-may_meet_in_y w ↦ sym is ∙ never_meet _ _ _ (sym c.may_meet_in_y.ensures ∙ w.if-may_meet_in_y.false)
     ] in
     inner_next (at_slots (edges_cross (ring_of c.args.ring.now c.args.edges)) c.args.order.now) c.args.edges c.pairs.p l.q
@@ -79,11 +79,11 @@ pub pairs-preserved : goal.pairs-preserved
 pairs-preserved c = let l = c.loop-q in
     let rest : Clear (at_slots (edges_cross (ring_of c.args.ring.now c.args.edges)) c.args.order.now) c.pairs.p c.args.edges =
     elim c.loop-q-test.branch [
-      else-loop-q-test w ↦ λ q a b. l.invariant.clear q a (omega (arith, w.loop-q-test.false))
+      | else-loop-q-test w ↦ λ q a b. l.invariant.clear q a (omega (arith, w.loop-q-test.false))
       | then-loop-q-test+then-lows-j w ↦ sweep_stop (λ i. key (low_x (ring_of c.args.ring.now c.args.edges) i)) c.args.edges (stops (ring_of c.args.ring.now c.args.edges)) (edges_cross (ring_of c.args.ring.now c.args.edges)) (sweeps (goal.at.pairs-preserved c).At-pairs)
-    c.args.order.now c.requires.swept.positions c.requires.swept.sorted
-    c.pairs.p l.q l.invariant.after w.loop-q-test.true l.invariant.clear
-    (sym (stop-test (goal.at.pairs-preserved c).At-loop-q l.q w.loop-q-test.true) ∙ w.if-lows-j.true)
+          c.args.order.now c.requires.swept.positions c.requires.swept.sorted
+          c.pairs.p l.q l.invariant.after w.loop-q-test.true l.invariant.clear
+          (sym (stop-test (goal.at.pairs-preserved c).At-loop-q l.q w.loop-q-test.true) ∙ w.if-lows-j.true)
     ] in
     outer_next (at_slots (edges_cross (ring_of c.args.ring.now c.args.edges)) c.args.order.now) c.args.edges c.pairs.p
     c.pairs-test.true c.pairs.invariant rest
@@ -91,7 +91,7 @@ pairs-preserved c = let l = c.loop-q in
 pub returns-after-pairs-clause-edges_value : goal.returns-after-pairs-clause-edges_value
 returns-after-pairs-clause-edges_value c = let none = sweep_done (λ i. key (low_x (ring_of c.args.ring.now c.args.edges) i)) c.args.edges (stops (ring_of c.args.ring.now c.args.edges)) (edges_cross (ring_of c.args.ring.now c.args.edges)) (sweeps (goal.at.returns-after-pairs-clause-edges_value c).At-pairs)
     c.args.order.now c.requires.swept.positions c.requires.swept.sorted c.pairs.p c.pairs-test.false c.pairs.invariant in le-ltb c.pairs.p c.args.edges c.pairs-test.false
-          ∙ sym (crossing-front c.args.ring.now c.args.edges c.requires.has_edges.0 ∙ none)
+    ∙ sym (crossing-front c.args.ring.now c.args.edges c.requires.has_edges.0 ∙ none)
 
 pub returns-then-edges_cross-clause-edges_value : goal.returns-then-edges_cross-clause-edges_value
 returns-then-edges_cross-clause-edges_value c = let l = c.loop-q in
@@ -101,5 +101,5 @@ returns-then-edges_cross-clause-edges_value c = let l = c.loop-q in
     (sym (verdict (goal.at.returns-then-edges_cross-clause-edges_value c).At-loop-q l.q
     c.loop-q-test.true) ∙
     (sym c.edges_cross.ensures ∙ c.if-edges_cross.true)) in lt-ltb c.pairs.p c.args.edges
-          c.pairs-test.true
-          ∙ sym (crossing-front c.args.ring.now c.args.edges c.requires.has_edges.0 ∙ hit)
+    c.pairs-test.true
+    ∙ sym (crossing-front c.args.ring.now c.args.edges c.requires.has_edges.0 ∙ hit)

@@ -50,4 +50,4 @@ returns-clause-origins c = let s = c.args.ring.now in
     let closed = c.close_with_origins.ensures in
     let e = cut-count c.args.n s _ _ c.requires.ring_room c.args.bounds _ _ cut.ring in
     let t = le-ltb _ _ c.if-clipped-lt4.false in rw (← e, t)
-          (closed-origins c.args.n s _ _ c.requires.ring_room c.args.bounds _ _ cut.ring _ _ closed.ring _ _ cut.origins closed.origins)
+    (closed-origins c.args.n s _ _ c.requires.ring_room c.args.bounds _ _ cut.ring _ _ closed.ring _ _ cut.origins closed.origins)

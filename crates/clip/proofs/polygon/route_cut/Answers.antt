@@ -57,8 +57,8 @@ returns-clause-route c = let s = c.args.ring.now in
     let e = c.close_with_origins-m.ensures in
     let w = closed-written c.args.n s _ _ c.requires.exterior_room.room c.args.bounds _ _ cut.ring _ _ e.ring in
     let is = c.judge_cut.ensures in judged_route c.args.flags c.args.bounds ring _ _ _ _ is
-          (omega (arith, cut-count c.args.n s _ _ c.requires.exterior_room.room c.args.bounds _ _ cut.ring, h)) (written-front w)
-          c.find_issue-issue.ensures.value w.count
+    (omega (arith, cut-count c.args.n s _ _ c.requires.exterior_room.room c.args.bounds _ _ cut.ring, h)) (written-front w)
+    c.find_issue-issue.ensures.value w.count
 
 pub returns-clause-cut : goal.returns-clause-cut
 returns-clause-cut c = let s = c.args.ring.now in
@@ -68,7 +68,7 @@ returns-clause-cut c = let s = c.args.ring.now in
     let e = c.close_with_origins-m.ensures in
     let w = closed-written c.args.n s _ _ c.requires.exterior_room.room c.args.bounds _ _ cut.ring _ _ e.ring in
     let is = c.judge_cut.ensures in judged_stands c.args.flags c.args.bounds ring _ _ _ _ is _ (written_stands w)
-            (closed_some c.args.n s _ _ c.requires.exterior_room.room c.args.bounds _ _ cut.ring _ _ e.ring h)
+    (closed_some c.args.n s _ _ c.requires.exterior_room.room c.args.bounds _ _ cut.ring _ _ e.ring h)
 
 pub returns-clause-origins : goal.returns-clause-origins
 returns-clause-origins c = let s = c.args.ring.now in
@@ -78,4 +78,4 @@ returns-clause-origins c = let s = c.args.ring.now in
     let e = c.close_with_origins-m.ensures in
     let w = closed-written c.args.n s _ _ c.requires.exterior_room.room c.args.bounds _ _ cut.ring _ _ e.ring in
     let is = c.judge_cut.ensures in judged_origins c.args.flags c.args.bounds ring _ _ _ _ is _
-            (closed-origins c.args.n s _ _ c.requires.exterior_room.room c.args.bounds _ _ cut.ring _ _ e.ring _ _ cut.origins e.origins)
+    (closed-origins c.args.n s _ _ c.requires.exterior_room.room c.args.bounds _ _ cut.ring _ _ e.ring _ _ cut.origins e.origins)

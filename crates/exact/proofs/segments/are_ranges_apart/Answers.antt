@@ -10,9 +10,9 @@ returns-then-larger-smaller c = rw (← c.larger.ensures, ← c.smaller.ensures,
 pub returns-else-larger-smaller : goal.returns-else-larger-smaller
 unfolding ranges_apart
 returns-else-larger-smaller c = rw (
-      ← c.larger.ensures,
-      ← c.smaller.ensures,
-      ← c.larger-else-larger-smaller.ensures,
-      ← c.smaller-else-larger-smaller.ensures,
-      le-ltb _ _ c.if-larger-smaller.false,
-    )
+  ← c.larger.ensures,
+  ← c.smaller.ensures,
+  ← c.larger-else-larger-smaller.ensures,
+  ← c.smaller-else-larger-smaller.ensures,
+  le-ltb _ _ c.if-larger-smaller.false,
+)

@@ -18,9 +18,9 @@ returns-then-are_one_side c = rw (
 pub returns : goal.returns
 unfolding shares_point
 returns c = rw (
-      ← c.are_boxes_apart.ensures,
-      c.if-are_boxes_apart.false,
-      ← c.are_one_side.ensures,
-      c.if-are_one_side.false,
-      ← c.are_one_side-2.ensures,
-    )
+  ← c.are_boxes_apart.ensures,
+  c.if-are_boxes_apart.false,
+  ← c.are_one_side.ensures,
+  c.if-are_one_side.false,
+  ← c.are_one_side-2.ensures,
+)

@@ -1,6 +1,5 @@
 -- `has_huge` meets its contract. The invariant: the verdict on all is that on the coordinates that are left. Assumes nothing.
 use mathlib.Core.Path.{sym, ◌∙◌, ap}
-use Prim.Native.Nat.{◌-◌}
 use borrow.Author.Rules.{rules}
 use Rattle.rings.specs.Representable.{huge_coord}
 use Rattle.frame_bytes.proofs.Measures.{huge-one, huge-all}

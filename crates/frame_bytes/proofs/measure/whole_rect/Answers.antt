@@ -13,10 +13,10 @@ loop-left-init c = rw c.count_at-left.ensures.0 (parts_start c.args.frame.now c.
 
 pub part_rect-part-requires : goal.part_rect-part-requires
 part_rect-part-requires c = let l = c.loop-left in (
-      l.invariant.within,
-      parts-here c.args.frame.now l.rect l.at l.left
-          c.loop-left-test.true l.invariant,
-    )
+  l.invariant.within,
+  parts-here c.args.frame.now l.rect l.at l.left
+      c.loop-left-test.true l.invariant,
+)
 
 pub loop-left-preserved : goal.loop-left-preserved
 loop-left-preserved c = let l = c.loop-left in parts_next c.args.frame.now l.rect l.at l.left c.part_rect-part.result

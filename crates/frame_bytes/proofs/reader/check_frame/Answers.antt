@@ -13,22 +13,22 @@ returns-then-is_wrong_size c = rw (← c.is_wrong_size.ensures, c.if-is_wrong_si
 pub returns-then-is_wrong_kind : goal.returns-then-is_wrong_kind
 unfolding read_frame
 returns-then-is_wrong_kind c = rw (
-      ← c.is_wrong_size.ensures,
-      c.if-is_wrong_size.false,
-      ←
-          c.is_wrong_kind.ensures,
-      c.if-is_wrong_kind.true,
-    )
+  ← c.is_wrong_size.ensures,
+  c.if-is_wrong_size.false,
+  ←
+      c.is_wrong_kind.ensures,
+  c.if-is_wrong_kind.true,
+)
 
 pub returns-then-frame-gt-MOST_FLAGS : goal.returns-then-frame-gt-MOST_FLAGS
 unfolding read_frame
 returns-then-frame-gt-MOST_FLAGS c = rw (
-      ← c.is_wrong_size.ensures,
-      c.if-is_wrong_size.false,
-      ← c.is_wrong_kind.ensures,
-      c.if-is_wrong_kind.false,
-      lt-ltb _ _ c.if-frame-gt-MOST_FLAGS.true,
-    )
+  ← c.is_wrong_size.ensures,
+  c.if-is_wrong_size.false,
+  ← c.is_wrong_kind.ensures,
+  c.if-is_wrong_kind.false,
+  lt-ltb _ _ c.if-frame-gt-MOST_FLAGS.true,
+)
 
 pub returns-then-is_wrong_part_count : goal.returns-then-is_wrong_part_count
 unfolding read_frame

@@ -1,7 +1,6 @@
 -- `decode_ring` meets its contract. The invariant: what is left, written over what stands there, is the whole written over what stood
 -- there. Assumes nothing.
 use mathlib.Core.Path.{refl, sym, ◌∙◌}
-use Prim.Native.Nat.{◌-◌}
 use borrow.Author.Rules.{rules}
 use Rattle.frame_bytes.proofs.Coordinates.{one_written, all-written}
 use Rattle.frame_bytes.proofs.ring.decode_ring.Goals as goal

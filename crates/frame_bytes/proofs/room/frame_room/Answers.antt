@@ -27,22 +27,22 @@ count_at-left-requires c = omega (arith, frame_head c.args.frame.now c.requires)
 
 pub loop-left-init : goal.loop-left-init
 loop-left-init c = let f = c.args.frame.now in rw c.count_at-left.ensures.0 (
-      omega arith,
-      record {
-        within = frame_head f c.requires;
-        accepted = frame_parts f c.requires;
-        sum =
-            refl;
-        end = refl;
-      },
-    )
+  omega arith,
+  record {
+    within = frame_head f c.requires;
+    accepted = frame_parts f c.requires;
+    sum =
+        refl;
+    end = refl;
+  },
+)
 
 pub part_room-part-requires : goal.part_room-part-requires
 part_room-part-requires c = let l = c.loop-left in (
-      l.invariant.1.within,
-      sum-here read_part (part_room answer_coord_size) c.args.frame.now l.at
-          l.left c.loop-left-test.true l.invariant.1.accepted,
-    )
+  l.invariant.1.within,
+  sum-here read_part (part_room answer_coord_size) c.args.frame.now l.at
+      l.left c.loop-left-test.true l.invariant.1.accepted,
+)
 
 pub overflow_add-room : goal.overflow_add-room
 overflow_add-room c = let f = c.args.frame.now in

@@ -6,15 +6,15 @@ use lib.ListN.{length, drop}
 use Rattle.rings.specs.LentRings.{ring_room}
 use Rattle.frame_bytes.specs.Frame.{read_ring}
 use Rattle.frame_bytes.proofs.Readings.{ring_reads}
-use Rattle.frame_bytes.proofs.Rooms.{left, sum-here, sum_step, sum_end, rings-le}
+use Rattle.frame_bytes.proofs.Rooms.{sum-here, sum_step, sum_end, rings-le}
 use Rattle.frame_bytes.proofs.room.rings_room.Goals as goal
 
 pub ring_room-ring-requires : goal.ring_room-ring-requires
 ring_room-ring-requires c = let l = c.loop-left in (
-      l.invariant.1.within,
-      sum-here read_ring ring_room c.args.frame.now l.at l.left
-          c.loop-left-test.true l.invariant.1.accepted,
-    )
+  l.invariant.1.within,
+  sum-here read_ring ring_room c.args.frame.now l.at l.left
+      c.loop-left-test.true l.invariant.1.accepted,
+)
 
 pub overflow_add-room : goal.overflow_add-room
 overflow_add-room c = let f = c.args.frame.now in

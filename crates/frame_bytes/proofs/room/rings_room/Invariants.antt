@@ -4,7 +4,7 @@ use lib.ListN.{length, drop}
 use Rattle.rings.specs.LentRings.{total, ring_room}
 use Rattle.frame_bytes.specs.Frame.{read_many, read_ring}
 use Rattle.frame_bytes.specs.Internal.{measured_room}
-use Rattle.frame_bytes.proofs.Rooms.{left, Summed}
+use Rattle.frame_bytes.proofs.Rooms.{Summed}
 use Rattle.frame_bytes.proofs.room.rings_room.Given as goal
 
 abbrev pub invariant-loop-left : goal.invariant-loop-left

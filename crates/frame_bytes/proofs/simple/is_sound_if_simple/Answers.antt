@@ -19,11 +19,11 @@ returns-then-count-lt4 c = let a = c.args in sym (sound_short a.frame.now a.at c
 
 pub has_repeated-requires : goal.has_repeated-requires
 has_repeated-requires c = let a = c.args in (
-      rw c.count_at-n.ensures.0 (first_ring a.frame.now a.at c.requires.0
-          c.requires.1).whole,
-      c.closed_count-count.ensures,
-      omega (arith, c.if-count-lt4.false),
-    )
+  rw c.count_at-n.ensures.0 (first_ring a.frame.now a.at c.requires.0
+      c.requires.1).whole,
+  c.closed_count-count.ensures,
+  omega (arith, c.if-count-lt4.false),
+)
 
 pub returns : goal.returns
 returns c = let a = c.args in sym (sound_long a.frame.now a.at c.requires.1

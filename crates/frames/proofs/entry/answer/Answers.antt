@@ -15,21 +15,21 @@ read_head-head-requires c = frame_head c.args.frame.now c.requires.0
 
 pub put_alone-requires : goal.put_alone-requires
 put_alone-requires c = omega (
-      arith,
-      c.requires.1,
-      (holds
-          c.args.frame.now
-          c.requires.0).fits,
-    )
+  arith,
+  c.requires.1,
+  (holds
+      c.args.frame.now
+      c.requires.0).fits,
+)
 
 pub put_alone-requires-in-NotFinite : goal.put_alone-requires-in-NotFinite
 put_alone-requires-in-NotFinite c = omega (
-      arith,
-      c.requires.1,
-      (holds
-          c.args.frame.now
-          c.requires.0).fits,
-    )
+  arith,
+  c.requires.1,
+  (holds
+      c.args.frame.now
+      c.requires.0).fits,
+)
 
 pub returns-in-Nothing : goal.returns-in-Nothing
 unfolding route_rect answer_bytes

@@ -9,9 +9,9 @@ use Rattle.frames.proofs.entry.answer_full.Goals as goal
 
 pub answer_in-requires : goal.answer_in-requires
 answer_in-requires c = ready c.args.frame.now c.args.head 318 _ _ _ c.requires (omega (
-      arith,
-      (holds c.args.frame.now c.requires.answerable.accepted).long,
-    )) (enough 318 1610 (omega arith) B-318)
+  arith,
+  (holds c.args.frame.now c.requires.answerable.accepted).long,
+)) (enough 318 1610 (omega arith) B-318)
 
 pub returns : goal.returns
 returns c = as-answer (ap (answer_measured c.args.head c.args.rect c.args.bounds)

@@ -22,11 +22,11 @@ returns-then-not-intersects_bounds c = let a = c.args in as-answer (apart a.fram
 
 pub put_alone-requires-then-is_unchanged_at_once : goal.put_alone-requires-then-is_unchanged_at_once
 put_alone-requires-then-is_unchanged_at_once c = let y = c.requires.0.answerable in omega (
-      arith,
-      y.output,
-      (holds c.args.frame.now
-          y.accepted).fits,
-    )
+  arith,
+  y.output,
+  (holds c.args.frame.now
+      y.accepted).fits,
+)
 
 pub returns-then-is_unchanged_at_once : goal.returns-then-is_unchanged_at_once
 unfolding answer_bytes

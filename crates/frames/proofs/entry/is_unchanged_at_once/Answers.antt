@@ -7,12 +7,12 @@ use Rattle.frames.proofs.entry.is_unchanged_at_once.Goals as goal
 
 pub is_sound_if_simple-requires : goal.is_sound_if_simple-requires
 is_sound_if_simple-requires c = let a = c.args in (
-      frame_head a.frame.now c.requires.0,
-      only_accepted a.frame.now
-          c.requires.0
-          (polygon-else a.frame.now a.head c.requires.0
-          c.requires.1 c.if-head-eq-MULTIPOLYGON.false),
-    )
+  frame_head a.frame.now c.requires.0,
+  only_accepted a.frame.now
+      c.requires.0
+      (polygon-else a.frame.now a.head c.requires.0
+      c.requires.1 c.if-head-eq-MULTIPOLYGON.false),
+)
 
 pub returns-then-head : goal.returns-then-head
 returns-then-head c = let a = c.args in

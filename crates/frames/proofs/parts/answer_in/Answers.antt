@@ -27,7 +27,7 @@ returns-then-head-eq-POLYGON c = let k = eq-eqb c.args.head.kind 3 c.if-head-eq-
 
 pub returns : goal.returns
 returns c = let a = c.args in
-    let done = c.finish.ensures in -- the answer is named, as what is found for it is much larger
+    let done = c.finish.ensures in  -- the answer is named, as what is found for it is much larger
     as-answer {y = of_listing (list_parts (flags_in a.head) a.bounds 0 (parts_from a.frame.now head_bytes a.head.parts))}
     (rw (ne_eqb a.head.kind 3 c.if-head-eq-POLYGON.false))
     (finished _ _ _ a.out.now _ _ _ c.list_parts-listing.ensures done.0 done.1)

@@ -39,4 +39,4 @@ returns-clause-output c = let a = c.args in
     c.out-1.given.0 in
     let front : take c.answer-count.result (part ++ drop answer_room out) ≡ answer =
     rw (whole, e.answer) (answer-front answer out) in t.1 ∙ ap (λ (l : List ℕ). over (hex_line l) (part ++ drop answer_room out))
-          front ∙ ap (over (hex_line answer)) whole ∙ line-over answer out
+    front ∙ ap (over (hex_line answer)) whole ∙ line-over answer out

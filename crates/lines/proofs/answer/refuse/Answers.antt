@@ -14,4 +14,4 @@ no-counts number = refl
 pub returns-clause-output : goal.returns-clause-output
 returns-clause-output c = let a = c.args in
     let e = c.put_alone.ensures in e.1 ∙ rw (no-counts a.number) (whole-over (refusal_bytes a.number) a.out.now
-          c.requires)
+    c.requires)

@@ -1,5 +1,4 @@
 -- `to_hex` meets its contract. Assumes nothing.
-use Prim.Native.Nat.{◌-◌}
 use Rattle.lines.proofs.Hexadecimal.{Hexed}
 use Rattle.lines.proofs.digits.to_hex.Given as goal
 

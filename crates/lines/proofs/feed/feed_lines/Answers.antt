@@ -1,6 +1,5 @@
 -- `feed_lines` meets its contract. The invariant: what the characters so far print waits in the output. Assumes nothing.
 use mathlib.Core.Path.{refl}
-use Prim.Native.Nat.{◌-◌}
 use native.Mathlib.Omega.{arith}
 use borrow.Author.Rules.{rules}
 use Rattle.lines.proofs.Feeding.{prints-nothing}

@@ -1,10 +1,8 @@
 -- `finish` meets its contract. Assumes nothing.
 use mathlib.Core.Path.{refl, sym, ◌∙◌, ap}
 use native.Mathlib.Omega.{arith}
-use borrow.Author.Rules.{rules}
 use Rattle.lines.specs.declared.feed.Finished.TheVariants.{Wrote}
-use Rattle.lines.specs.Internal.{end_line, state_of}
-use Rattle.lines.proofs.Feeding.{lent-lengths, is-lent, over-fits, ends_begun, ends-not_begun}
+use Rattle.lines.proofs.Feeding.{lent-lengths, is-lent, ends_begun, ends-not_begun}
 use Rattle.lines.proofs.feed.finish.Goals as goal
 
 pub returns-then-is_not_begun-clause-answer : goal.returns-then-is_not_begun-clause-answer

@@ -7,7 +7,7 @@ pub returns-then-d-lt-NOT_A_DIGIT : goal.returns-then-d-lt-NOT_A_DIGIT
 unfolding after
 returns-then-d-lt-NOT_A_DIGIT c = record {
   state = rw (← c.digit_of-d.ensures, lt-ltb _ _ c.if-d-lt-NOT_A_DIGIT.true)
-    c.take_digit.ensures.state;
+      c.take_digit.ensures.state;
 }
 
 pub returns : goal.returns

@@ -1,6 +1,5 @@
 -- `take_chars` meets its contract. The invariant: the characters so far are read on within the line. Assumes nothing.
 use mathlib.Core.Path.{refl}
-use Prim.Native.Nat.{◌-◌}
 use borrow.Author.Rules.{rules}
 use Rattle.lines.specs.Internal.{state_of}
 use Rattle.lines.proofs.Running.{passes_start, passes_then, passes_char}

@@ -18,11 +18,11 @@ issue_code-requires c = let s = c.args in
 pub returns-then-has_room : goal.returns-then-has_room
 unfolding found_issue
 returns-then-has_room c = rw (
-      ← c.has_room.ensures,
-      c.if-has_room.true,
-      ←
-          c.find_issue.ensures.value,
-    ) c.issue_code.ensures
+  ← c.has_room.ensures,
+  c.if-has_room.true,
+  ←
+      c.find_issue.ensures.value,
+) c.issue_code.ensures
 
 pub returns : goal.returns
 unfolding found_issue

@@ -29,10 +29,10 @@ pair_code-requires c = let s = c.args in
 pub returns-then-has_room : goal.returns-then-has_room
 unfolding sweep_answer
 returns-then-has_room c = let s = c.args.ring.now in rw (
-      ne_eqb _ _ c.if-n-eq0.false,
-      ← c.has_room.ensures,
-      c.if-has_room.true,
-    )
+  ne_eqb _ _ c.if-n-eq0.false,
+  ← c.has_room.ensures,
+  c.if-has_room.true,
+)
     (c.pair_code.ensures ∙ same_pair s (length s / 2) _
     c.if-n-eq0.false
     c.sweep_pairs.ensures.value)

@@ -17,11 +17,11 @@ returns-then-origins-n c = rw (le-leb _ _ c.if-n.false, lt-leb _ _ c.if-origins-
 
 pub overflow_mul-most : goal.overflow_mul-most
 overflow_mul-most c = Fits-under _ _ (2 ^ 63) (omega (
-      arith,
-      half_growth-le c.args.n,
-      c.half_growth-most.ensures,
-      c.if-n.false,
-    )) tt
+  arith,
+  half_growth-le c.args.n,
+  c.half_growth-most.ensures,
+  c.if-n.false,
+)) tt
 
 pub returns-then-out-most : goal.returns-then-out-most
 unfolding has_pass_room
@@ -30,8 +30,8 @@ returns-then-out-most c = let e = c.half_growth-most.ensures in rw (le-leb _ _ c
 pub returns : goal.returns
 unfolding has_pass_room
 returns c = let e = c.half_growth-most.ensures in rw (
-      le-leb _ _ c.if-n.false,
-      le-leb _ _ c.if-origins-n.false,
-      le-leb _ _ (rw e at c.if-out-most.false),
-      e,
-    )
+  le-leb _ _ c.if-n.false,
+  le-leb _ _ c.if-origins-n.false,
+  le-leb _ _ (rw e at c.if-out-most.false),
+  e,
+)

@@ -13,14 +13,14 @@ returns-then-runs_along c = rw (← c.is_degenerate.ensures, c.if-is_degenerate.
 pub returns-then-runs_along-2 : goal.returns-then-runs_along-2
 unfolding bridge_of
 returns-then-runs_along-2 c = rw (
-      ← c.is_degenerate.ensures,
-      c.if-is_degenerate.false,
-      ←
-          c.runs_along.ensures,
-      c.if-runs_along.false,
-      ← c.runs_along-2.ensures,
-      c.if-runs_along-2.true,
-    )
+  ← c.is_degenerate.ensures,
+  c.if-is_degenerate.false,
+  ←
+      c.runs_along.ensures,
+  c.if-runs_along.false,
+  ← c.runs_along-2.ensures,
+  c.if-runs_along-2.true,
+)
 
 pub returns-then-runs_along-3 : goal.returns-then-runs_along-3
 unfolding bridge_of

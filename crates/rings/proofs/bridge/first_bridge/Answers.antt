@@ -1,6 +1,6 @@
 -- `first_bridge` meets its contract. The invariant: the first bridge of all is that of the edges that are left. Assumes nothing.
 use mathlib.Core.Path.{sym, ◌∙◌, ap₂}
-use Prim.Native.Nat.{◌+◌, ◌*◌, ◌-◌, ◌<◌}
+use Prim.Native.Nat.{◌+◌, ◌*◌, ◌<◌}
 use native.Mathlib.Omega.{arith}
 use borrow.Author.Rules.{rules}
 use lib.Ieee.{nan}

@@ -1,6 +1,6 @@
 -- `closed_sum` meets its contract. The invariant: the count so far, with that of the rings that are left, is that of all. Assumes nothing.
 use mathlib.Core.Path.{◌≡◌, ◌∙◌}
-use Prim.Native.Nat.{◌*◌, ◌-◌}
+use Prim.Native.Nat.{◌*◌}
 use native.Mathlib.Omega.{arith}
 use lib.ListN.{length, get_or, take, drop, length-drop}
 use Rattle.binary64.proofs.Fill.{tail_part}
@@ -46,8 +46,8 @@ loop-k-preserved c = let s = c.args.coords.now in
 
 pub returns : goal.returns
 returns c = let l = c.loop-k in omega (
-      arith,
-      l.invariant.1,
-      total_end length c.args.lengths.now
-          c.args.coords.now l.k l.at c.loop-k-test.false,
-    )
+  arith,
+  l.invariant.1,
+  total_end length c.args.lengths.now
+      c.args.coords.now l.k l.at c.loop-k-test.false,
+)

@@ -1,5 +1,4 @@
 -- `lent_count` meets its contract. The invariant: the sum so far, with that of the lengths that are left, is that of all. Assumes nothing.
-use Prim.Native.Nat.{◌-◌}
 use native.Mathlib.Omega.{arith}
 use borrow.Author.Rules.{rules}
 use Rattle.rings.proofs.LentRings.{sum_step, sum_end}

@@ -1,7 +1,7 @@
 -- `polygon_rect_all_rings` meets its contract. The invariant: the rectangle so far, with the rings that are left, is that of all. Assumes
 -- nothing.
 use mathlib.Core.Path.{◌≡◌, ◌∙◌, sym}
-use Prim.Native.Nat.{◌*◌, ◌-◌}
+use Prim.Native.Nat.{◌*◌}
 use native.Mathlib.Omega.{arith}
 use lib.ListN.{get_or, take, drop}
 use Rattle.binary64.proofs.Fill.{tail_part}

@@ -9,11 +9,11 @@ returns-then-is_finite_coord c = rw (c.in-Nothing.is, ← c.is_finite_coord.ensu
 pub returns-then-is_finite_coord-2 : goal.returns-then-is_finite_coord-2
 unfolding with_coord
 returns-then-is_finite_coord-2 c = rw (
-      c.in-Box.is,
-      ←
-          c.is_finite_coord-in-Box.ensures,
-      c.if-is_finite_coord-2.true,
-    ) (cc)
+  c.in-Box.is,
+  ←
+      c.is_finite_coord-in-Box.ensures,
+  c.if-is_finite_coord-2.true,
+) (cc)
 
 pub returns-in-NotFinite : goal.returns-in-NotFinite
 unfolding with_coord

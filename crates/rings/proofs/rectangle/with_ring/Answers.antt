@@ -17,10 +17,10 @@ returns-then-n-eq0 c = let m = length_front c.args.ring.now c.args.n c.requires 
 
 pub box_with_rest-requires : goal.box_with_rest-requires
 box_with_rest-requires c = let p = c.coord_at.result in (
-      corners_numbers p _ _ _ _ (subst (Holds p) (sym c.with_coord.ensures ∙ c.in-Box.is)
-          (holds_new p c.args.r)),
-      c.requires,
-    )
+  corners_numbers p _ _ _ _ (subst (Holds p) (sym c.with_coord.ensures ∙ c.in-Box.is)
+      (holds_new p c.args.r)),
+  c.requires,
+)
 
 pub returns-in-Nothing : goal.returns-in-Nothing
 returns-in-Nothing c = let p = c.coord_at.result in absurd (subst (Holds p) (sym c.with_coord.ensures ∙ c.in-Nothing.is)

@@ -17,11 +17,11 @@ closed_sum-requires c = fitting c.args.lengths.now c.args.coords.now
 pub returns-then-closed_sum-gt-MOST_COORDINATES : goal.returns-then-closed_sum-gt-MOST_COORDINATES
 unfolding check_polygon
 returns-then-closed_sum-gt-MOST_COORDINATES c = rw (
-      ← c.lengths_fit.ensures,
-      c.if-not-lengths_fit.false,
-      ← c.closed_sum.ensures,
-      lt-ltb _ _ c.if-closed_sum-gt-MOST_COORDINATES.true,
-    )
+  ← c.lengths_fit.ensures,
+  c.if-not-lengths_fit.false,
+  ← c.closed_sum.ensures,
+  lt-ltb _ _ c.if-closed_sum-gt-MOST_COORDINATES.true,
+)
 
 pub check_room-requires : goal.check_room-requires
 check_room-requires c = record {
@@ -35,9 +35,9 @@ check_room-requires c = record {
 pub returns : goal.returns
 unfolding check_polygon
 returns c = rw (
-      ← c.lengths_fit.ensures,
-      c.if-not-lengths_fit.false,
-      ← c.closed_sum.ensures,
-      le-ltb _ _ c.if-closed_sum-gt-MOST_COORDINATES.false,
-    )
+  ← c.lengths_fit.ensures,
+  c.if-not-lengths_fit.false,
+  ← c.closed_sum.ensures,
+  le-ltb _ _ c.if-closed_sum-gt-MOST_COORDINATES.false,
+)
     c.check_room.ensures

@@ -16,26 +16,26 @@ returns-then-scratch-room c = rw (← c.room_of-room.ensures.largest-room, lt-lt
 pub returns-then-origin_scratch-room : goal.returns-then-origin_scratch-room
 unfolding check_room slice_call_room
 returns-then-origin_scratch-room c = let room = c.room_of-room in rw (
-      ← room.ensures.largest-room,
-      le-ltb _ _ c.if-scratch-room.false,
-      lt-ltb c.args.origin_scratch room.result.largest (omega (
-        arith,
-        c.if-origin_scratch-room.true,
-      )),
-    )
+  ← room.ensures.largest-room,
+  le-ltb _ _ c.if-scratch-room.false,
+  lt-ltb c.args.origin_scratch room.result.largest (omega (
+    arith,
+    c.if-origin_scratch-room.true,
+  )),
+)
 
 pub returns-then-order-room : goal.returns-then-order-room
 unfolding check_room slice_call_room
 returns-then-order-room c = let room = c.room_of-room in rw (
-      ← room.ensures.largest-room,
-      le-ltb _ _ c.if-scratch-room.false,
-      le-ltb c.args.origin_scratch room.result.largest
-          (omega (arith, c.if-origin_scratch-room.false)),
-      lt-ltb c.args.order room.result.largest (omega (
-        arith,
-        c.if-order-room.true,
-      )),
-    )
+  ← room.ensures.largest-room,
+  le-ltb _ _ c.if-scratch-room.false,
+  le-ltb c.args.origin_scratch room.result.largest
+      (omega (arith, c.if-origin_scratch-room.false)),
+  lt-ltb c.args.order room.result.largest (omega (
+    arith,
+    c.if-order-room.true,
+  )),
+)
 
 pub overflow_mul-asked : goal.overflow_mul-asked
 overflow_mul-asked c = omega (
@@ -47,13 +47,13 @@ overflow_mul-asked c = omega (
 pub returns-then-out-asked : goal.returns-then-out-asked
 unfolding check_room slice_call_room slice_call_origin_room
 returns-then-out-asked c = let room = c.room_of-room.ensures in rw (
-      ← room.largest-room,
-      ← room.whole_room,
-      le-ltb _ _ c.if-scratch-room.false,
-      le-ltb _ _ c.if-origin_scratch-room.false,
-      le-ltb _ _ c.if-order-room.false,
-      lt-ltb _ _ c.if-out-asked.true,
-    )
+  ← room.largest-room,
+  ← room.whole_room,
+  le-ltb _ _ c.if-scratch-room.false,
+  le-ltb _ _ c.if-origin_scratch-room.false,
+  le-ltb _ _ c.if-order-room.false,
+  lt-ltb _ _ c.if-out-asked.true,
+)
 
 pub returns-then-out_lengths-lengths : goal.returns-then-out_lengths-lengths
 unfolding check_room slice_call_room slice_call_origin_room

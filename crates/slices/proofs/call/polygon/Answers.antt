@@ -93,11 +93,11 @@ returns-in-Passes-clause-lent c = let a = c.args in
     let bounds = c.buffered.result in
     let rings = closed_rings a.lengths.now a.coords.now in
     let to = route a.flags bounds rings in rw (← b)
-          (written _ to p.passes rings (routed_origins to bounds rings) _ origin-room p.asked _ _ _ _ _ _
-          (cleared plus_zero _ _ _ c.clear.ensures kept)
-          (cleared 0 _ _ _ c.clear_origins.ensures c.clip_padded-answer.auto.origin_scratch)
-          (cleared 0 _ _ _ c.clear_order.ensures c.clip_padded-answer.auto.order)
-          (padded-front plus_zero (numbers_of (written_rings to)) _ a.out.now (2 * origin-room) p.within clipped.ensures.written.output)
-          clipped.ensures.written.lengths
-          (padded-front 0 (origins_of (routed_origins to bounds rings)) _ a.out_origins.now origin-room p.origins-within
-          clipped.ensures.origins))
+    (written _ to p.passes rings (routed_origins to bounds rings) _ origin-room p.asked _ _ _ _ _ _
+    (cleared plus_zero _ _ _ c.clear.ensures kept)
+    (cleared 0 _ _ _ c.clear_origins.ensures c.clip_padded-answer.auto.origin_scratch)
+    (cleared 0 _ _ _ c.clear_order.ensures c.clip_padded-answer.auto.order)
+    (padded-front plus_zero (numbers_of (written_rings to)) _ a.out.now (2 * origin-room) p.within clipped.ensures.written.output)
+    clipped.ensures.written.lengths
+    (padded-front 0 (origins_of (routed_origins to bounds rings)) _ a.out_origins.now origin-room p.origins-within
+    clipped.ensures.origins))

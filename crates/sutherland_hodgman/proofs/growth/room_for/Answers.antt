@@ -20,22 +20,22 @@ half_growth-requires-3 c = omega (arith, half_growth-le c.args.n, half_growth-le
 
 pub half_growth-requires-4 : goal.half_growth-requires-4
 half_growth-requires-4 c = omega (
-      arith,
-      half_growth-le c.args.n,
-      half_growth-le c.half_growth.result,
-      half_growth-le c.half_growth-2.result,
-    )
+  arith,
+  half_growth-le c.args.n,
+  half_growth-le c.half_growth.result,
+  half_growth-le c.half_growth-2.result,
+)
 
 pub overflow_add-result : goal.overflow_add-result
 overflow_add-result c = omega (
-      arith,
-      half_growth-le c.args.n,
-      half_growth-le
-          c.half_growth.result,
-      half_growth-le c.half_growth-2.result,
-      half_growth-le
-          c.half_growth-3.result,
-    )
+  arith,
+  half_growth-le c.args.n,
+  half_growth-le
+      c.half_growth.result,
+  half_growth-le c.half_growth-2.result,
+  half_growth-le
+      c.half_growth-3.result,
+)
 
 pub returns : goal.returns
 unfolding four_half_growths
