@@ -36,9 +36,9 @@ are_all (y ∷ l) x = eqb y x && are_all l x
 
 -- whether a list has these at its front, and past them the mark everywhere
 unfoldable pub holds : ℕ → List ℕ → List ℕ → Bool
-holds mark [] l = are_all l mark
-holds mark (x ∷ front) [] = false
-holds mark (x ∷ front) (y ∷ l) = eqb y x && holds mark front l
+holds m [] l = are_all l m
+holds m (x ∷ front) [] = false
+holds m (x ∷ front) (y ∷ l) = eqb y x && holds m front l
 
 -- what scratch, the order slice and the scratch slice of the origins hold everywhere after a call, each having held its mark: a refusal
 -- changes nothing, another answer leaves zeros
