@@ -100,7 +100,7 @@ fn note_lows(ring: &[f64], work: &mut [f64], edges: usize)
 fn sweep_sorted(ring: &[f64], lows: &[f64], order: &[u32], edges: usize) -> usize
     requires has_edges { HasEdges edges ring.now × (edges ≤ length lows.now) }
     requires swept { Swept edges (front ring.now (edges + 1)) lows.now order.now }
-    ensures edges_value { ltb result edges ≡ Internal.self_intersecting (front ring.now (edges + 1)) }
+    ensures verdict { ltb result edges ≡ Internal.self_intersecting (front ring.now (edges + 1)) }
     ensures passed { Internal.Passed (Internal.at_slots (edges_cross (front ring.now (edges + 1))) order.now)
         edges result }
 {
@@ -152,8 +152,8 @@ fn pair_of(number: u64) -> Pair
 // The number of the edges i and j if they cross and it is below `best`, else `best`. Once a crossing is known, most pairs end at the first
 // test, which reads no coordinate.
 fn lesser(ring: &[f64], i: usize, j: usize, best: u64) -> u64
-    requires i_in_bounds { (2 * i + 3 < length ring.now) × (2 * j + 3 < length ring.now) }
-    requires i_bound { (i < 2 ^ 32) × (j < 2 ^ 32) }
+    requires edges_in_bounds { (2 * i + 3 < length ring.now) × (2 * j + 3 < length ring.now) }
+    requires small_edges { (i < 2 ^ 32) × (j < 2 ^ 32) }
     ensures { result ≡ Internal.lesser ring.now i j best }
 {
     let number = pair_number(i, j);

@@ -21,8 +21,8 @@ pub mod origins;
 
 // Fewer than three vertices are none; else the ring is closed.
 fn finish(ring: &mut [f64], origins: &mut [u16], n: usize) -> usize
-    requires n_in_bounds { (2 * n ≤ length ring.old) × (3 ≤ n → 2 * n + 2 ≤ length ring.old) }
-    requires n_in_bounds_2 { (n ≤ length origins.old) × (3 ≤ n → n + 1 ≤ length origins.old) }
+    requires numbers_room { (2 * n ≤ length ring.old) × (3 ≤ n → 2 * n + 2 ≤ length ring.old) }
+    requires origins_room { (n ≤ length origins.old) × (3 ≤ n → n + 1 ≤ length origins.old) }
     ensures ring { Written (Clip.finish (coords (take (2 * n) ring.old))) ring.old result ring.new }
     ensures origins { origins.new ≡ Origins.finish_origins (coords (take (2 * n) ring.old))
         (take n origins.old) ++ drop result origins.old }
@@ -91,9 +91,9 @@ pub fn clip_top(
     out: &mut [f64],
     out_origins: &mut [u16],
 ) -> usize
-    requires n_in_bounds { (2 * n ≤ length scratch.now) × (2 * half_growth n ≤ length out.old)
+    requires numbers_room { (2 * n ≤ length scratch.now) × (2 * half_growth n ≤ length out.old)
         × (0 < n → 2 * half_growth n + 2 ≤ length out.old) }
-    requires n_in_bounds_2 { (n ≤ length origin_scratch.now) × (half_growth n ≤ length out_origins.old)
+    requires origins_room { (n ≤ length origin_scratch.now) × (half_growth n ≤ length out_origins.old)
         × (0 < n → half_growth n + 1 ≤ length out_origins.old) }
     ensures ring { Stands (Clip.finish (pass Edge.Top bounds (coords (take (2 * n) scratch.now)))) result
         out.new }

@@ -44,8 +44,8 @@ done c =
       few = B-le c.args.n c.requires.origin_room.positions;
     }
 
-pub clip_top-len-requires-clause-n_in_bounds : goal.clip_top-len-requires-clause-n_in_bounds
-clip_top-len-requires-clause-n_in_bounds c = let p = c.requires.cutter_room in
+pub clip_top-len-requires-clause-numbers_room : goal.clip_top-len-requires-clause-numbers_room
+clip_top-len-requires-clause-numbers_room c = let p = c.requires.cutter_room in
     let q = c.requires.origin_room in
     let k = c.clip_three_edges-bottom.auto in
     let t = c.clip_three_edges-bottom.ensures.ring in last-room c.args.bounds c.args.ring.now c.args.n _ _ t (record {
@@ -54,8 +54,8 @@ clip_top-len-requires-clause-n_in_bounds c = let p = c.requires.cutter_room in
       output-room = omega (arith, p.output-room, k);
     })
 
-pub clip_top-len-requires-clause-n_in_bounds_2 : goal.clip_top-len-requires-clause-n_in_bounds_2
-clip_top-len-requires-clause-n_in_bounds_2 c = let p = c.requires.cutter_room in
+pub clip_top-len-requires-clause-origins_room : goal.clip_top-len-requires-clause-origins_room
+clip_top-len-requires-clause-origins_room c = let p = c.requires.cutter_room in
     let q = c.requires.origin_room in
     let k = c.clip_three_edges-bottom.auto in
     let t = c.clip_three_edges-bottom.ensures.ring in last-origin-room c.args.bounds c.args.ring.now c.args.n _ _ t p.vertices (record {

@@ -4,8 +4,8 @@ use borrow.Author.Rules.{rules}
 use Rattle.sutherland_hodgman.proofs.Offered.{last-room, last-origin-room, last-cut, last-origins}
 use Rattle.sutherland_hodgman.proofs.clip_ring.Goals as goal
 
-pub clip_top-requires-clause-n_in_bounds : goal.clip_top-requires-clause-n_in_bounds
-clip_top-requires-clause-n_in_bounds c = let p = c.requires.cutter_room in
+pub clip_top-requires-clause-numbers_room : goal.clip_top-requires-clause-numbers_room
+clip_top-requires-clause-numbers_room c = let p = c.requires.cutter_room in
     let q = c.requires.origin_room in
     let k = c.clip_three_edges-len.auto in
     let t = c.clip_three_edges-len.ensures.ring in last-room c.args.bounds c.args.ring.now c.args.n _ _ t (record {
@@ -14,8 +14,8 @@ clip_top-requires-clause-n_in_bounds c = let p = c.requires.cutter_room in
       output-room = omega (arith, p.output-room, k);
     })
 
-pub clip_top-requires-clause-n_in_bounds_2 : goal.clip_top-requires-clause-n_in_bounds_2
-clip_top-requires-clause-n_in_bounds_2 c = let p = c.requires.cutter_room in
+pub clip_top-requires-clause-origins_room : goal.clip_top-requires-clause-origins_room
+clip_top-requires-clause-origins_room c = let p = c.requires.cutter_room in
     let q = c.requires.origin_room in
     let k = c.clip_three_edges-len.auto in
     let t = c.clip_three_edges-len.ensures.ring in last-origin-room c.args.bounds c.args.ring.now c.args.n _ _ t p.vertices (record {

@@ -13,7 +13,7 @@ returns-then-slot-edges-clause-unused c = let r = front c.args.ring.now (c.args.
 pub returns-clause-value : goal.returns-clause-value
 returns-clause-value c = let r = front c.args.ring.now (c.args.edges + 1) in
     let noted = c.note_lows in
-    let sorted = c.sort.ensures in no_pair_left r _ c.args.edges c.sweep_sorted-slot.ensures.edges_value c.if-slot-edges.false
+    let sorted = c.sort.ensures in no_pair_left r _ c.args.edges c.sweep_sorted-slot.ensures.verdict c.if-slot-edges.false
 
 pub returns-clause-unused : goal.returns-clause-unused
 returns-clause-unused c = let r = front c.args.ring.now (c.args.edges + 1) in

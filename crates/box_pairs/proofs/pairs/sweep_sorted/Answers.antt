@@ -88,17 +88,17 @@ pairs-preserved c = let l = c.loop-q in
     outer_next (at_slots (edges_cross (ring_of c.args.ring.now c.args.edges)) c.args.order.now) c.args.edges c.pairs.p
     c.pairs-test.true c.pairs.invariant rest
 
-pub returns-after-pairs-clause-edges_value : goal.returns-after-pairs-clause-edges_value
-returns-after-pairs-clause-edges_value c = let none = sweep_done (λ i. key (low_x (ring_of c.args.ring.now c.args.edges) i)) c.args.edges (stops (ring_of c.args.ring.now c.args.edges)) (edges_cross (ring_of c.args.ring.now c.args.edges)) (sweeps (goal.at.returns-after-pairs-clause-edges_value c).At-pairs)
+pub returns-after-pairs-clause-verdict : goal.returns-after-pairs-clause-verdict
+returns-after-pairs-clause-verdict c = let none = sweep_done (λ i. key (low_x (ring_of c.args.ring.now c.args.edges) i)) c.args.edges (stops (ring_of c.args.ring.now c.args.edges)) (edges_cross (ring_of c.args.ring.now c.args.edges)) (sweeps (goal.at.returns-after-pairs-clause-verdict c).At-pairs)
     c.args.order.now c.requires.swept.positions c.requires.swept.sorted c.pairs.p c.pairs-test.false c.pairs.invariant in le-ltb c.pairs.p c.args.edges c.pairs-test.false
     ∙ sym (crossing-front c.args.ring.now c.args.edges c.requires.has_edges.0 ∙ none)
 
-pub returns-then-edges_cross-clause-edges_value : goal.returns-then-edges_cross-clause-edges_value
-returns-then-edges_cross-clause-edges_value c = let l = c.loop-q in
-    let hit = sweep_hit (λ i. key (low_x (ring_of c.args.ring.now c.args.edges) i)) c.args.edges (stops (ring_of c.args.ring.now c.args.edges)) (edges_cross (ring_of c.args.ring.now c.args.edges)) (sweeps (goal.at.returns-then-edges_cross-clause-edges_value c).At-pairs)
+pub returns-then-edges_cross-clause-verdict : goal.returns-then-edges_cross-clause-verdict
+returns-then-edges_cross-clause-verdict c = let l = c.loop-q in
+    let hit = sweep_hit (λ i. key (low_x (ring_of c.args.ring.now c.args.edges) i)) c.args.edges (stops (ring_of c.args.ring.now c.args.edges)) (edges_cross (ring_of c.args.ring.now c.args.edges)) (sweeps (goal.at.returns-then-edges_cross-clause-verdict c).At-pairs)
     c.args.order.now c.requires.swept.positions c.requires.swept.sorted
     c.pairs.p l.q l.invariant.after c.loop-q-test.true
-    (sym (verdict (goal.at.returns-then-edges_cross-clause-edges_value c).At-loop-q l.q
+    (sym (verdict (goal.at.returns-then-edges_cross-clause-verdict c).At-loop-q l.q
     c.loop-q-test.true) ∙
     (sym c.edges_cross.ensures ∙ c.if-edges_cross.true)) in lt-ltb c.pairs.p c.args.edges
     c.pairs-test.true
