@@ -2,7 +2,7 @@
  * Cuts three polygons to the tile 0, 0, 10, 10 and prints the rings that are left of each, or why it wants an overlay, with the corners
  * or edges that are the reason; the second is then mended and cut once more. Behind each corner of a cut stands where it came from: its
  * number in the ring that was lent, or the line that made it. Between two corners stands -- where a border is to be drawn, and .. where
- * the cut runs along the tile's edge. In the repository's root, with the library built by `rt staticlib ringcut_calls`:
+ * the cut runs along the tile's edge. In the repository's root, with the library built by `sh scripts/build ringcut_calls`:
  *
  *   cc -std=c11 -Wall -Wextra -I include examples/c/ringcut.c target/staticlib/libringcut_calls.a -o ringcut-in-c
  *   ./ringcut-in-c

@@ -1,6 +1,6 @@
 """Cuts a rectangle that lies across the east bound of a tile, the frame in line 2 of examples/frames.hex, by the library's frame call.
 Python loads shared objects alone, so one is made of the static library. In the repository's root, with the library built by
-`rt staticlib ringcut_calls`:
+`sh scripts/build ringcut_calls`:
 
     cc -shared -o libringcut.so -Wl,--whole-archive target/staticlib/libringcut_calls.a -Wl,--no-whole-archive
     python3 examples/python/ringcut.py ./libringcut.so

@@ -63,7 +63,7 @@ fn folder() -> PathBuf {
 /// script can't tell them from `cargo build`: so the sentence is given as the name of a library, which rustc will not find.
 fn ask_for(archive: &Path) {
     let sentence = format!(
-        "{} (build it with 'rt staticlib ringcut_calls', or set {FOLDER} to the full path of its folder)",
+        "{} (build it with 'sh scripts/build ringcut_calls', or set {FOLDER} to the full path of its folder)",
         archive.display()
     );
     // In the name of a library a colon means something else to rustc.

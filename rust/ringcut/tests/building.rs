@@ -126,7 +126,7 @@ fn only_a_build_needs_the_library() {
     assert_succeeds(&mut cargo("check"));
     assert_succeeds(&mut cargo("doc"));
     let sentence = format!(
-        "{} (build it with 'rt staticlib ringcut_calls', or set RINGCUT_LIB_DIR to the full path of its folder)",
+        "{} (build it with 'sh scripts/build ringcut_calls', or set RINGCUT_LIB_DIR to the full path of its folder)",
         archive.display()
     );
     assert_fails(&mut cargo("build"), &format!("error: could not find native static library `{sentence}`"));
