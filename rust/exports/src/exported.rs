@@ -42,8 +42,8 @@ const NUMBERS: [Number; 13] = [
     ("f64", "double"),
 ];
 
-/// How an export begins. `rt staticlib` takes no other function into the library.
-const BEGINNING: [&str; 8] = ["#", "[", "no_mangle", "]", "pub", "extern", "\"C\"", "fn"];
+/// How an export begins. A static library is made of no other function.
+const BEGINNING: [&str; 11] = ["#", "[", "unsafe", "(", "no_mangle", ")", "]", "pub", "extern", "\"C\"", "fn"];
 /// Words that have to do with exports: written in another way than `BEGINNING` they can't be read here.
 const RESERVED: [&str; 3] = ["no_mangle", "export_name", "extern"];
 
@@ -59,7 +59,7 @@ pub fn exports(text: &str) -> Vec<Result<Export, String>> {
             let end = words[at..].iter().position(|word| word == "fn").map_or(words.len(), |length| at + length);
             exports.push(Export::read(&words[at..end]));
         } else if RESERVED.contains(&words[at].as_str()) {
-            exports.push(Err(format!("`{}`: an export is written `#[no_mangle] pub extern \"C\" fn`", words[at])));
+            exports.push(Err(format!("`{}`: an export is written `#[unsafe(no_mangle)] pub extern \"C\" fn`", words[at])));
         }
         at += 1;
     }

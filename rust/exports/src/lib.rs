@@ -42,10 +42,14 @@ pub fn read(root: &Path) -> io::Result<Files> {
     Ok(files)
 }
 
+/// What the toolchain makes of a crate, in the crate's folder `out`, is left aside: copies of the code are among it.
 fn read_rattle(root: &Path, folder: &str, files: &mut Files) -> io::Result<()> {
     for entry in fs::read_dir(root.join(folder))? {
         let entry = entry?;
         let path = format!("{folder}/{}", entry.file_name().to_string_lossy());
+        if is_made(&path) {
+            continue;
+        }
         if entry.file_type()?.is_dir() {
             read_rattle(root, &path, files)?;
         } else if path.ends_with(".rt") {
@@ -53,6 +57,12 @@ fn read_rattle(root: &Path, folder: &str, files: &mut Files) -> io::Result<()> {
         }
     }
     Ok(())
+}
+
+/// Whether a path is `crates/NAME/out`.
+fn is_made(path: &str) -> bool {
+    let folders = path.split('/').collect::<Vec<_>>();
+    matches!(folders.as_slice(), [CRATES, _, "out"])
 }
 
 /// What is wrong, each with its file and what it is wrong of.

@@ -20,7 +20,7 @@ fn the_files_agree() {
 /// A text of a file, another that is written in its place, and what is told.
 type Mistake = (&'static str, &'static str, &'static str, &'static str);
 
-const OF_DECLARATIONS: [Mistake; 25] = [
+const OF_DECLARATIONS: [Mistake; 26] = [
     // A flag as a u32: in the export, where both declarations differ from it, and in each declaration.
     (
         CALLS_CODE,
@@ -45,13 +45,13 @@ const OF_DECLARATIONS: [Mistake; 25] = [
     (
         CALLS_CODE,
         "fn ringcut_frame(frame: &[u8], out: &mut [u8]) -> i64",
-        "fn ringcut_frame(frame: &[u8], out: &mut [u8]) -> i64\n    requires { ⌜ 0 < length (now (out .entry)) ⌝ }",
+        "fn ringcut_frame(frame: &[u8], out: &mut [u8]) -> i64\n    requires { 0 < length out.old }",
         "crates/ringcut_calls/src/lib.rt: ringcut_frame: it has a `requires`, and nothing proves that a caller meets it",
     ),
     (
         PROBE,
         "fn probe_empty(out: &mut [f64])",
-        "fn probe_empty(out: &mut [f64])\n    requires room { ⌜ length (now (out .entry)) ≡ 4 ⌝ }",
+        "fn probe_empty(out: &mut [f64])\n    requires room { length out.old ≡ 4 }",
         "crates/probe/src/lib.rt: probe_empty: it has a `requires`, and nothing proves that a caller meets it",
     ),
     // Parameters exchanged.
@@ -179,9 +179,16 @@ const OF_DECLARATIONS: [Mistake; 25] = [
     ),
     (
         PROBE,
-        "#[no_mangle]\npub extern \"C\" fn probe_empty",
+        "#[unsafe(no_mangle)]\npub extern \"C\" fn probe_empty",
         "pub extern \"C\" fn probe_empty",
-        "crates/probe/src/lib.rt: `extern`: an export is written `#[no_mangle] pub extern \"C\" fn`",
+        "crates/probe/src/lib.rt: `extern`: an export is written `#[unsafe(no_mangle)] pub extern \"C\" fn`",
+    ),
+    (
+        PROBE,
+        "#[unsafe(no_mangle)]\npub extern \"C\" fn probe_empty",
+        "#[no_mangle]\npub extern \"C\" fn probe_empty",
+        "crates/probe/src/lib.rt: `no_mangle`: an export is written `#[unsafe(no_mangle)] pub extern \"C\" fn`\n\
+         crates/probe/src/lib.rt: `extern`: an export is written `#[unsafe(no_mangle)] pub extern \"C\" fn`",
     ),
     (
         PROBE,
@@ -388,14 +395,14 @@ fn a_header_without_a_version_is_told() {
 fn other_forms_are_read() {
     let rattle = r#"
         // Not an export: it may have a `requires`.
-        fn before(n: usize) requires { ⌜ n < 8 ⌝ } {}
-        #[no_mangle]
+        fn before(n: usize) requires { n < 8 } {}
+        #[unsafe(no_mangle)]
         pub extern "C" fn tally(kinds: &[u16], sums: &mut [f64; 1024], keys: &[u8; KEYS], last: &mut u32, sign: i8)
-            ensures written { λ _. ⌜ now (last .exit) ≡ 0 ⌝ }
+            ensures written { last.new ≡ 0 }
         { *last = 0; }
-        #[no_mangle]
+        #[unsafe(no_mangle)]
         pub extern "C" fn version() -> u16 { 1 }
-        fn behind(n: usize) requires { ⌜ n < 8 ⌝ } {}
+        fn behind(n: usize) requires { n < 8 } {}
     "#;
     let header = "
         #ifdef __cplusplus
