@@ -166,8 +166,8 @@ enum ringcut_origin {
  * out needs 5 bytes and, for each part, 6, 2 for each ring and 18 * RINGCUT_ROOM of its coordinates. A ring whose last
  * coordinate doesn't equal its first is closed, which makes one more; a NaN equals nothing.
  *
- * Every frame of 44 to 5,120 bytes takes about 70 KiB of the stack, however few its coordinates, and refused or not; 100 KiB
- * are enough. For the other calls 8 KiB are.
+ * Every frame that is not refused takes about 70 KiB of the stack, however few its coordinates; 100 KiB are enough. For the
+ * other calls 8 KiB are.
  */
 int64_t ringcut_frame(const uint8_t *frame, size_t frame_len, uint8_t *out, size_t out_len);
 

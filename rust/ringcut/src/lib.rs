@@ -119,8 +119,7 @@ pub struct PolygonBuffers<'a> {
 /// `out` needs 5 bytes and, for each part, 6, 2 for each ring and 18 × [`room_for_ring`] of its coordinates, the closing one
 /// counted; [`MOST_FRAME_OUTPUT`] bytes are always enough.
 ///
-/// Every frame of 44 to 5,120 bytes takes about 70 KiB of the stack, however few its coordinates, and refused or not; 100 KiB
-/// are enough.
+/// Every frame that is not refused takes about 70 KiB of the stack, however few its coordinates; 100 KiB are enough.
 ///
 /// The page of [`Frame`] has the bytes of a frame, which [`FrameBuilder`] builds, and that of [`FrameAnswer`] those of an answer;
 /// [`answer_frame`] reads it at once.
