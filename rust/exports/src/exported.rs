@@ -59,7 +59,8 @@ pub fn exports(text: &str) -> Vec<Result<Export, String>> {
             let end = words[at..].iter().position(|word| word == "fn").map_or(words.len(), |length| at + length);
             exports.push(Export::read(&words[at..end]));
         } else if RESERVED.contains(&words[at].as_str()) {
-            exports.push(Err(format!("`{}`: an export is written `#[unsafe(no_mangle)] pub extern \"C\" fn`", words[at])));
+            exports
+                .push(Err(format!("`{}`: an export is written `#[unsafe(no_mangle)] pub extern \"C\" fn`", words[at])));
         }
         at += 1;
     }
