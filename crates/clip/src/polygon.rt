@@ -256,6 +256,9 @@ pub fn route_exterior(
     )
 }
 
+// "A cut hole under 4 coordinates is left out."
+const SHORTEST_HOLE: usize = 4;
+
 // Cuts a hole, to the front of the output, and its origins to the front of theirs, and answers how many coordinates it has; one that is
 // left out has none.
 pub fn clip_hole(
@@ -275,7 +278,7 @@ pub fn clip_hole(
         ≡ Origins.hole_origins bounds (Ring.close (Ring.coords (take (2 * n) ring.now))) }
 {
     let clipped = clip_ring(ring, n, bounds, scratch, origin_scratch, out, out_origins);
-    if clipped < 4 {
+    if clipped < SHORTEST_HOLE {
         return 0;
     }
     close_with_origins(out, out_origins, clipped)

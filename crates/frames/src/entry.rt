@@ -192,6 +192,7 @@ fn answer_measured(frame: &[u8], head: Head, rect: Rect, out: &mut [u8]) -> usiz
 }
 
 // Writes the answer to an accepted frame and tells how many bytes it has.
+#[inline(never)]
 fn answer(frame: &[u8], out: &mut [u8]) -> usize
     requires { FrameBytesInternal.Accepted (Frames.read_frame frame.now)
         × (FrameBytesInternal.frame_room OutputRoom.answer_coord_size (Frames.read_frame frame.now) ≤ length out.old) }

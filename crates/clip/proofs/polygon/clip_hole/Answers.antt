@@ -15,25 +15,25 @@ clip_ring-clipped-requires-clause-cutter_room c = let s = c.args.ring.now in cut
 pub clip_ring-clipped-requires-clause-origin_room : goal.clip_ring-clipped-requires-clause-origin_room
 clip_ring-clipped-requires-clause-origin_room c = let s = c.args.ring.now in origin-room c.args.n s _ _ c.requires.ring_room _ _ c.requires.ring_origin_room
 
-pub returns-then-clipped-lt4-clause-cut : goal.returns-then-clipped-lt4-clause-cut
+pub returns-then-clipped-lt-SHORTEST_HOLE-clause-cut : goal.returns-then-clipped-lt-SHORTEST_HOLE-clause-cut
 unfolding cut_hole hole_origins flat
-returns-then-clipped-lt4-clause-cut c = let e = cut-count c.args.n c.args.ring.now _ _ c.requires.ring_room c.args.bounds _ _
+returns-then-clipped-lt-SHORTEST_HOLE-clause-cut c = let e = cut-count c.args.n c.args.ring.now _ _ c.requires.ring_room c.args.bounds _ _
     c.clip_ring-clipped.ensures.ring in
     let t = lt-ltb c.clip_ring-clipped.result 4 (omega
-    (arith, c.if-clipped-lt4.true)) in record { count = rw (← e, t); numbers = rw (← e, t) refl }
+    (arith, c.if-clipped-lt-SHORTEST_HOLE.true)) in record { count = rw (← e, t); numbers = rw (← e, t) refl }
 
-pub returns-then-clipped-lt4-clause-origins : goal.returns-then-clipped-lt4-clause-origins
+pub returns-then-clipped-lt-SHORTEST_HOLE-clause-origins : goal.returns-then-clipped-lt-SHORTEST_HOLE-clause-origins
 unfolding cut_hole hole_origins flat
-returns-then-clipped-lt4-clause-origins c = let e = cut-count c.args.n c.args.ring.now _ _ c.requires.ring_room c.args.bounds _ _
+returns-then-clipped-lt-SHORTEST_HOLE-clause-origins c = let e = cut-count c.args.n c.args.ring.now _ _ c.requires.ring_room c.args.bounds _ _
     c.clip_ring-clipped.ensures.ring in
     let t = lt-ltb c.clip_ring-clipped.result 4 (omega
-    (arith, c.if-clipped-lt4.true)) in rw (← e, t)
+    (arith, c.if-clipped-lt-SHORTEST_HOLE.true)) in rw (← e, t)
 
 pub close_with_origins-requires : goal.close_with_origins-requires
 close_with_origins-requires c = let k = c.clip_ring-clipped.auto in
     let f = cut_fits c.args.n c.args.ring.now _ _ c.requires.ring_room c.args.bounds _ _
     c.clip_ring-clipped.ensures.ring (omega
-    (arith, c.if-clipped-lt4.false)) in (omega (arith, k, f, c.requires.ring_room.output-room), omega (arith, k, f, c.requires.ring_origin_room.output-room))
+    (arith, c.if-clipped-lt-SHORTEST_HOLE.false)) in (omega (arith, k, f, c.requires.ring_room.output-room), omega (arith, k, f, c.requires.ring_origin_room.output-room))
 
 pub returns-clause-cut : goal.returns-clause-cut
 unfolding cut_hole hole_origins
@@ -41,7 +41,7 @@ returns-clause-cut c = let s = c.args.ring.now in
     let cut = c.clip_ring-clipped.ensures in
     let closed = c.close_with_origins.ensures in
     let e = cut-count c.args.n s _ _ c.requires.ring_room c.args.bounds _ _ cut.ring in
-    let t = le-ltb _ _ c.if-clipped-lt4.false in rw (← e, t) (written_stands (closed-written c.args.n s _ _ c.requires.ring_room c.args.bounds _ _ cut.ring _ _ closed.ring))
+    let t = le-ltb _ _ c.if-clipped-lt-SHORTEST_HOLE.false in rw (← e, t) (written_stands (closed-written c.args.n s _ _ c.requires.ring_room c.args.bounds _ _ cut.ring _ _ closed.ring))
 
 pub returns-clause-origins : goal.returns-clause-origins
 unfolding cut_hole hole_origins
@@ -49,5 +49,5 @@ returns-clause-origins c = let s = c.args.ring.now in
     let cut = c.clip_ring-clipped.ensures in
     let closed = c.close_with_origins.ensures in
     let e = cut-count c.args.n s _ _ c.requires.ring_room c.args.bounds _ _ cut.ring in
-    let t = le-ltb _ _ c.if-clipped-lt4.false in rw (← e, t)
+    let t = le-ltb _ _ c.if-clipped-lt-SHORTEST_HOLE.false in rw (← e, t)
     (closed-origins c.args.n s _ _ c.requires.ring_room c.args.bounds _ _ cut.ring _ _ closed.ring _ _ cut.origins closed.origins)
