@@ -98,7 +98,7 @@ static inline const char *ringcut_refusal_text(int64_t code)
 #define RINGCUT_ROOM(n) \
     ((n) == 0 ? 0 : RINGCUT_HALF_GROWTH(RINGCUT_HALF_GROWTH(RINGCUT_HALF_GROWTH(RINGCUT_HALF_GROWTH(n)))) + 2)
 
-/* The bytes of output that are enough for every frame: proved by the law frame-most, crates/frame_bytes/proofs/MostRoom.antt. */
+/* The bytes of output that are enough for every frame: proved by the law frame_most, crates/frame_bytes/proofs/MostRoom.antt. */
 #define RINGCUT_MOST_FRAME_OUTPUT 56259
 
 /*

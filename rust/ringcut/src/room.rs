@@ -1,6 +1,6 @@
 //! How much a caller has to lend.
 
-/// The bytes of output that are enough for every frame, which is proved: the law `frame-most` in
+/// The bytes of output that are enough for every frame, which is proved: the law `frame_most` in
 /// `crates/frame_bytes/proofs/MostRoom.antt`. So much is asked by rings of one NaN coordinate, which closing makes two: 281 of
 /// them, in nine parts.
 pub const MOST_FRAME_OUTPUT: usize = 56_259;
