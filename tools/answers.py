@@ -1,11 +1,13 @@
 #!/usr/bin/env python3
 """Turns a crate's proofs/F/Proof.antt over `Tie`, as older Rattles had them, into Invariants.antt and Answers.antt.
 
-usage: python3 tools/answers.py CRATE [FUNCTION..]      at the top of the repository; FUNCTION is a folder below proofs/, as slices/copy
+usage: python3 tools/answers.py CRATE [--fill LOG] [FUNCTION..]      at the top of the repository; FUNCTION is a folder below proofs/, as
+slices/copy
 
-Run `rt check --generated /tmp/names-CRATE --old-names` in the crate first: its names.json has each goal's old and new name. An answer that
-only searches is left out, since the check searches by itself. The old file goes to /tmp/old-proofs/CRATE/. What a proof still lacks the
-check says.
+Run `rt check --generated names-CRATE --old-names` in the crate first, with a path into the folder for temporary files: the names.json that
+it writes has each goal's old and new name. An answer that only searches is left out, since the check searches by itself. What an old file
+held goes to old-proofs/CRATE/ in the same folder; `--fill LOG` then writes answers to the goals that a check, whose output is LOG, left
+open. What a proof still lacks the check says.
 """
 import json
 import os
@@ -13,7 +15,9 @@ import re
 import shutil
 import subprocess
 import sys
+import tempfile
 
+TEMPORARY = tempfile.gettempdir()
 NAME = r"[^\s(){}\[\];,.:]+"
 
 
@@ -470,7 +474,7 @@ def convert(root, crate, folder, info, clauses):
             parts[k] = re.sub(r"not-(?:true|false)\s+(?:c\.[^\s()]+|_)\s+(c\.if-not-[^\s(){},;]+\.(?:true|false))", r"\1", parts[k])
         lets = re.sub(r"not-(?:true|false)\s+(?:c\.[^\s()]+|_)\s+(c\.if-not-[^\s(){},;]+\.(?:true|false))", r"\1", lets)
         answers.append({"comment": d["comment"], "unfolding": unfold, "goal": new, "param": params[0] if params else "c", "lets": lets, "parts": parts})
-    old = os.path.join("/tmp/old-proofs", crate, folder)
+    old = os.path.join(TEMPORARY, "old-proofs", crate, folder)
     os.makedirs(old, exist_ok=True)
     shutil.copy(path, os.path.join(old, "Proof.antt"))
     os.remove(path)
@@ -526,7 +530,7 @@ def fill(root, crate, log, only):
     """Writes answers to the goals that a check left open."""
     with open(log, encoding="utf-8") as f:
         text = f.read()
-    base = os.path.join("/tmp/old-proofs", crate)
+    base = os.path.join(TEMPORARY, "old-proofs", crate)
     for m in re.finditer(r"^fn (\S+): no proof: expected answers in (\S+)/Answers\.antt; `search` did not prove (.*)$", text, re.M):
         folder = os.path.relpath(m.group(2), "./proofs")
         if only and folder not in only:
@@ -580,7 +584,7 @@ def main():
     if only and only[0] == "--fill":
         fill(root, crate, only[1], only[2:])
         return
-    with open(f"/tmp/names-{crate}/names.json", encoding="utf-8") as f:
+    with open(os.path.join(TEMPORARY, f"names-{crate}", "names.json"), encoding="utf-8") as f:
         names = json.load(f)
     clauses = clauses_of(root)
     SOURCE.update(source_names(root))

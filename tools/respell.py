@@ -15,7 +15,8 @@ import re
 import subprocess
 import sys
 
-KIT = "/opt/rattle"
+# the toolchain's folder: rt doc prints the path of a page in it
+KIT = os.path.dirname(subprocess.run(["rt", "doc"], capture_output=True, text=True, check=True).stdout.split()[-1])
 # Lemmas that would have the name of the definition they speak of, each with the files that name them (the rest of the path for all files
 # where it is empty).
 LEMMAS = {

@@ -16,7 +16,8 @@ use Rattle.lines.specs.Lines.{newline, in_front, lines_of, answer_line, printed}
 use Rattle.lines.specs.declared.feed.Finished.TheVariants.{Wrote}
 use Rattle.lines.specs.LineStep.{chars_of, Begins, in_front_of_some, ended, printed_now, GoesOn, slices_fit}
 use Rattle.lines.specs.LineStep.{finish_answer, finish_output, bytes_written}
-use Rattle.ringcut.specs.Streams.{AppendsSome, ReadsAll}
+use Rattle.ringcut.specs.Internal.{ReadsAll}
+use Rattle.ringcut.specs.Streams.{AppendsSome}
 use Rattle.ringcut.proofs.Written.{some_written, some_then}
 
 -- ---- an input prints first what it prints up to its last newline, whatever follows

@@ -1,9 +1,9 @@
 // Reads frames from standard input, one a line in hexadecimal, and prints each answer as a line on standard output. Proved: in `lines`,
 // which bytes are to be printed; and here, of any reader and writer that say what bytes they have, that `answer_input` writes what all of
-// the input prints, once and in order, with the last line, or where a read or a write fails the front of that. No contract says what
-// standard input and standard output have: so of the system it is believed that it reads and writes as a slice of bytes does. Not proved:
-// that the first read or write that fails is told on standard error, and what is done with arguments (rust/program tests both). A line that
-// a failed read cut off gets no answer: it is not the line that was sent.
+// the input prints, once and in order, with the last line, or where it returns an error a front of that. No contract says what standard
+// input and standard output have: so of the system it is believed that it reads and writes as a slice of bytes does. Not proved: that an
+// error is returned only where a read or a write failed, which of the two it names, that it is told on standard error, and what is done
+// with arguments (rust/program tests all of these). A line that a failed read cut off gets no answer: it is not the line that was sent.
 #![tactic(auto)]
 
 mod arguments;
@@ -51,7 +51,7 @@ fn feed_all<W: Write>(
 ) -> Turn
     requires { (longest ≤ length kept.old) × (LineStep.line_room ≤ length out.old) }
     ensures goes_on { Internal.GoesOnIfMore block.now line kept.old result kept.new }
-    ensures answers { Streams.Answers (W.contents to.old) (W.contents to.new) block.now line kept.old
+    ensures answers { Internal.Answers (W.contents to.old) (W.contents to.new) block.now line kept.old
         result }
 {
     let mut known = line;
@@ -76,7 +76,7 @@ fn read_block<R: Read, W: Write>(
     out: &mut [u8],
 ) -> Turn
     requires { (longest ≤ length kept.old) × (LineStep.line_room ≤ length out.old) }
-    ensures turns { Streams.Turns (R.remaining input.old) (R.remaining input.new)
+    ensures turns { Internal.Turns (R.remaining input.old) (R.remaining input.new)
         (W.contents to.old) (W.contents to.new) line kept.old result kept.new }
 {
     let mut block = [0u8; BLOCK];
@@ -102,7 +102,7 @@ fn read_all<R: Read, W: Write>(
     out: &mut [u8],
 ) -> Result<Line, Stopped>
     requires { (longest ≤ length kept.old) × (LineStep.line_room ≤ length out.old) }
-    ensures all { IfOk result (λ last. Streams.ReadsAll (R.remaining input.old) (R.remaining input.new)
+    ensures all { IfOk result (λ last. Internal.ReadsAll (R.remaining input.old) (R.remaining input.new)
         (W.contents to.old) (W.contents to.new) last kept.new) }
     ensures part { OnErr result (IfSome (R.remaining input.old)
         (λ characters. Streams.AppendsSome (W.contents to.old) (W.contents to.new) (printed characters))) }

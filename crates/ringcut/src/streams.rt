@@ -115,6 +115,14 @@ fn check_is_open(rt: HostRuntime) -> io::Result<()> {
     }
 }
 
+// Standard output's file, opened once more: for writing, or where its owner does not allow that any more, for reading.
+fn open_out<R: Files>(files: &R) -> io::Result<R::File> {
+    match fs::OpenOptions::new().write(true).open(files, OUT) {
+        Err(_) => fs::File::open(files, OUT),
+        opened => opened,
+    }
+}
+
 // Where standard output is a file, has the system keep what was written to it. Where it has no name that can be opened, and where its file
 // system keeps nothing, nothing can be asked.
 fn sync_file(files: &impl Files) -> io::Result<()> {
@@ -124,7 +132,7 @@ fn sync_file(files: &impl Files) -> io::Result<()> {
     if !found.is_file() {
         return Ok(());
     }
-    let Ok(file) = fs::File::open(files, OUT) else {
+    let Ok(file) = open_out(files) else {
         return Ok(());
     };
     match file.sync_data() {
