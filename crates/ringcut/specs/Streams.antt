@@ -1,5 +1,5 @@
--- What is written to a writer where it is known what that holds. `Appends` of std says that all of some bytes were written. Of a writer that
--- does not say what it holds, as standard output, both claim nothing. Definitions only.
+-- What is written to a writer where it is known what that holds. `Appends` of std says that all of some bytes were written. Of a writer
+-- that does not say what it holds, as standard output, both claim nothing. Definitions only.
 use Rattle.std.specs.Prelude.{List, ℕ, take, Option}
 use Rattle.std.specs.Io.KnownBytes.{Appends}
 
