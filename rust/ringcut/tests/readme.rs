@@ -1,6 +1,5 @@
 //! The programs of README.md print what it says, built as it says: by hand, in the root of a repository.
 
-use std::os::unix::fs::symlink;
 use std::path::{Path, PathBuf};
 use std::process::Command;
 use std::{env, fs};
@@ -13,7 +12,22 @@ fn blocks(language: &str) -> Vec<&'static str> {
     README.split(&beginning).skip(1).map(|rest| rest.split_once("```").unwrap().0).collect()
 }
 
-/// A folder that has what the commands name: the crate and the library, at their places in the repository.
+/// Copies the files of a folder, and of those below it.
+fn copy_files(from: &Path, to: &Path) {
+    fs::create_dir_all(to).unwrap();
+    for entry in fs::read_dir(from).unwrap() {
+        let path = entry.unwrap().path();
+        let copy = to.join(path.file_name().unwrap());
+        if path.is_dir() {
+            copy_files(&path, &copy);
+        } else {
+            fs::copy(&path, copy).unwrap();
+        }
+    }
+}
+
+/// A folder that has what the commands name: the crate and the library, at their places in the repository. They are copies: `rt ci`
+/// refuses a repository with links in it.
 fn root() -> PathBuf {
     let root = Path::new(env!("CARGO_TARGET_TMPDIR")).join("the repository");
     if root.exists() {
@@ -21,10 +35,8 @@ fn root() -> PathBuf {
     }
     let this_crate = Path::new(env!("CARGO_MANIFEST_DIR"));
     let library = env::var_os("RINGCUT_LIB_DIR").map_or(this_crate.join("../../target/staticlib"), PathBuf::from);
-    for (folder, name, linked) in [("rust", "ringcut", this_crate), ("target", "staticlib", &library)] {
-        fs::create_dir_all(root.join(folder)).unwrap();
-        symlink(linked, root.join(folder).join(name)).unwrap();
-    }
+    copy_files(&this_crate.join("src"), &root.join("rust/ringcut/src"));
+    copy_files(&library, &root.join("target/staticlib"));
     root
 }
 
