@@ -10,11 +10,11 @@ use super::merge::sort;
 use binary64::compare::{maximum, minimum};
 use tile::ring::coord_at;
 
-// Two edges that cross, the lower number first, or none.
+// Two edges that cross, by their numbers.
 #[derive(Clone, Copy)]
-pub enum Pair {
-    None,
-    At(u32, u32),
+pub struct Pair {
+    pub lower: u32,
+    pub higher: u32,
 }
 
 // Up to this many edges, all pairs are scanned; more are swept.
@@ -55,7 +55,7 @@ pub fn edges_cross(ring: &[f64], i: usize, j: usize) -> bool
 }
 
 // The first two of the first `edges` edges that cross, by a look at all pairs.
-pub fn scan_pairs(ring: &[f64], edges: usize) -> Pair
+pub fn scan_pairs(ring: &[f64], edges: usize) -> Option<Pair>
     requires { HasEdges edges ring.now × (edges < 2 ^ 32) }
     ensures { result ≡ first_pair (front ring.now (edges + 1)) }
 {
@@ -75,9 +75,12 @@ pub fn scan_pairs(ring: &[f64], edges: usize) -> Pair
         i += 1;
     }
     if i < edges {
-        return Pair::At(i as u32, j as u32);
+        return Some(Pair {
+            lower: i as u32,
+            higher: j as u32,
+        });
     }
-    Pair::None
+    None
 }
 
 // Notes the lowest x of each of the first `edges` edges.
@@ -140,13 +143,16 @@ fn pair_number(i: usize, j: usize) -> u64
     PAIR_BASE * (j as u64) + (i as u64)
 }
 
-fn pair_of(number: u64) -> Pair
+fn pair_of(number: u64) -> Option<Pair>
     ensures { result ≡ Internal.pair_of number }
 {
     if number == NO_PAIR {
-        return Pair::None;
+        return None;
     }
-    Pair::At((number / PAIR_BASE) as u32, (number % PAIR_BASE) as u32)
+    Some(Pair {
+        lower: (number / PAIR_BASE) as u32,
+        higher: (number % PAIR_BASE) as u32,
+    })
 }
 
 // The number of the edges i and j if they cross and it is below `best`, else `best`. Once a crossing is known, most pairs end at the first
@@ -200,7 +206,7 @@ fn least_at_slot(
 
 // The first two of the first `edges` edges that cross, none of those in the slots before `from` crossing one in a later slot. The sweep
 // goes on from there past the pairs that cross and keeps the least, unless that is early enough to be left to a scan.
-fn least_pair(ring: &[f64], lows: &[f64], order: &[u32], edges: usize, from: usize) -> Pair
+fn least_pair(ring: &[f64], lows: &[f64], order: &[u32], edges: usize, from: usize) -> Option<Pair>
     requires has_edges { HasEdges edges ring.now × (edges ≤ length lows.now) × (edges < 2 ^ 32) }
     requires swept { Swept edges (front ring.now (edges + 1)) lows.now order.now }
     requires passed { Internal.Passed (Internal.at_slots (edges_cross (front ring.now (edges + 1))) order.now) edges from }
@@ -219,7 +225,7 @@ fn least_pair(ring: &[f64], lows: &[f64], order: &[u32], edges: usize, from: usi
 }
 
 // The first two of the first `edges` edges that cross, by a sweep.
-pub fn sweep_pairs(ring: &[f64], edges: usize, work: &mut [f64], order: &mut [u32]) -> Pair
+pub fn sweep_pairs(ring: &[f64], edges: usize, work: &mut [f64], order: &mut [u32]) -> Option<Pair>
     requires { IssueRoom (edges + 1) ring.now work.old order.old }
     ensures value { result ≡ first_pair (front ring.now (edges + 1)) }
     ensures unused { Unused (edges + 1) work.old order.old work.new order.new }
@@ -231,7 +237,7 @@ pub fn sweep_pairs(ring: &[f64], edges: usize, work: &mut [f64], order: &mut [u3
     if slot < edges {
         return least_pair(ring, work, order, edges, slot);
     }
-    Pair::None
+    None
 }
 
 // Whether all pairs of this many edges are scanned; else they are swept.
@@ -242,7 +248,7 @@ fn is_scanned(edges: usize) -> bool
 }
 
 // The first two of the first `edges` edges that cross.
-fn first_edge_pair(ring: &[f64], edges: usize, work: &mut [f64], order: &mut [u32]) -> Pair
+fn first_edge_pair(ring: &[f64], edges: usize, work: &mut [f64], order: &mut [u32]) -> Option<Pair>
     requires { IssueRoom (edges + 1) ring.now work.old order.old }
     ensures value { result ≡ first_pair (front ring.now (edges + 1)) }
     ensures unused { Unused (edges + 1) work.old order.old work.new order.new }
@@ -256,7 +262,7 @@ fn first_edge_pair(ring: &[f64], edges: usize, work: &mut [f64], order: &mut [u3
 }
 
 // The first two edges of the ring of n coordinates that cross.
-pub fn first_pair(ring: &[f64], n: usize, work: &mut [f64], order: &mut [u32]) -> Pair
+pub fn first_pair(ring: &[f64], n: usize, work: &mut [f64], order: &mut [u32]) -> Option<Pair>
     requires { IssueRoom n ring.now work.old order.old }
     ensures value { result ≡ first_pair (front ring.now n) }
     ensures unused { Unused n work.old order.old work.new order.new }
@@ -264,7 +270,7 @@ pub fn first_pair(ring: &[f64], n: usize, work: &mut [f64], order: &mut [u32]) -
         work.new order.new }
 {
     if n == 0 {
-        return Pair::None;
+        return None;
     }
     first_edge_pair(ring, n - 1, work, order)
 }

@@ -6,11 +6,10 @@ use mathlib.Core.List.{List}
 use Prim.Native.Nat.{ℕ, ◌+◌}
 use native.Mathlib.Omega.{arith}
 use lib.Ieee.{Float}
-use Rattle.box_pairs.specs.declared.pairs.Pair.TheVariants.{At}
 use Rattle.box_pairs.specs.Internal.{front}
 use Rattle.box_pairs.specs.Pairs.{edges_cross}
 use Rattle.box_pairs.proofs.Sweep.{inner_next}
-use Rattle.box_pairs.proofs.First.{scan-none, scan-here}
+use Rattle.box_pairs.proofs.First.{At, scan-none, scan-here}
 use Rattle.box_pairs.proofs.Edges.{first_front, edges_front, never_meet}
 use Rattle.box_pairs.proofs.pairs.scan_pairs.Goals as goal
 use Rattle.box_pairs.proofs.pairs.scan_pairs.Goals.{then-may_meet_in_y+else-edges_cross, else-may_meet_in_y, else-pairs-test, then-pairs-test+then-loop-j-test+then-may_meet_in_y+then-edges_cross}
