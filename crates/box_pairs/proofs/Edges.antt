@@ -198,16 +198,12 @@ unfolding first_pair self_intersecting
 crossing_first r = first_verdict (edges_cross r) (length r - 1)
 
 -- where none cross there is none
-crossing-no_pair : (r : List Coord) → self_intersecting r ≡ false → None ≡ first_pair r
+pub crossing-no_pair : (r : List Coord) → self_intersecting r ≡ false → None ≡ first_pair r
 crossing-no_pair r e = go (first_pair r) (crossing_first r ∙ e)
   where
     go : (x : Option Pair) → is_pair x ≡ false → None ≡ x
     go None h = refl
     go (Some x) h = absurd (never_both refl h)
-
--- nor where the sweep, which answers a slot, passed all of them
-pub no_pair_left : (r : List Coord) (p n : ℕ) → ltb p n ≡ self_intersecting r → n ≤ p → None ≡ first_pair r
-no_pair_left r p n e l = crossing-no_pair r (sym e ∙ le-ltb p n l)
 
 -- the edges of the first pair are edges of the ring
 pub pair_below : (n : ℕ) (r : List Coord) → length r ≤ n → PairBelow n (first_pair r)

@@ -15,6 +15,7 @@ pub mod pairs;
 // What is wrong with an exterior: nothing, fewer than 4 coordinates, two neighbours less than 1e-10 apart in x and in y
 // (the last segment excepted), two edges that cross. Neighbours are told by the position of the first, edges by their numbers, the lower
 // first: edge k runs from coordinate k to the next.
+// Stays an enum, where an Option of the other three would do: `clip::polygon::reason_detail` takes `Sound` too.
 #[derive(Clone, Copy)]
 pub enum Issue {
     Sound,
@@ -36,14 +37,12 @@ fn first_repeated(ring: &[f64], n: usize) -> Option<u32>
     requires { (2 * n ≤ length ring.now) × (n < 2 ^ 32) }
     ensures { result ≡ first_repeated (front ring.now n) }
 {
-    let mut k = 0usize;
-    while k + 2 < n {
+    for k in 0..n.saturating_sub(2) {
         let p = coord_at(ring, k);
         let q = coord_at(ring, k + 1);
         if cross::is_degenerate(p, q) {
             return Some(k as u32);
         }
-        k += 1;
     }
     None
 }
