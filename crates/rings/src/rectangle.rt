@@ -59,8 +59,7 @@ fn box_with_rest(w: f64, s: f64, e: f64, n: f64, ring: &[f64], count: usize) -> 
     let mut south = s;
     let mut east = e;
     let mut north = n;
-    let mut i = 1usize;
-    while i < count {
+    for i in 1..count {
         let p = coord_at(ring, i);
         if !is_finite_coord(p) {
             return Rect::NotFinite;
@@ -69,7 +68,6 @@ fn box_with_rest(w: f64, s: f64, e: f64, n: f64, ring: &[f64], count: usize) -> 
         south = lower(south, p.y);
         east = higher(east, p.x);
         north = higher(north, p.y);
-        i += 1;
     }
     Rect::Box(west, south, east, north)
 }

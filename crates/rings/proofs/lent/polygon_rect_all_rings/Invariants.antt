@@ -8,8 +8,5 @@ use Rattle.rings.specs.LentRings.{closed_rings}
 use Rattle.rings.proofs.LentRings.{Left}
 use Rattle.rings.proofs.lent.polygon_rect_all_rings.Given as goal
 
-abbrev pub invariant-loop-k : goal.invariant-loop-k
-invariant-loop-k l = Left l.lengths l.coords l.k l.at × (rectangle (closed_rings l.lengths l.coords) ≡ with_rings l.rect (closed_rings (drop l.k l.lengths) (drop l.at l.coords)))
-
-abbrev pub decreases-loop-k : goal.decreases-loop-k
-decreases-loop-k l = length l.lengths - l.k
+abbrev pub invariant-loop-length : goal.invariant-loop-length
+invariant-loop-length l = Left l.lengths l.coords l.length-index l.at × (rectangle (closed_rings l.lengths l.coords) ≡ with_rings l.rect (closed_rings (drop l.length-index l.lengths) (drop l.at l.coords)))

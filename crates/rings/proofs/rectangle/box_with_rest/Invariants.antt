@@ -12,6 +12,3 @@ use Rattle.rings.proofs.rectangle.box_with_rest.Given as goal
 abbrev pub invariant-loop-i : goal.invariant-loop-i
 invariant-loop-i l = Numbers l.west l.south l.east l.north × (with_ring (Rects.Box l.w l.s l.e l.n) (drop 1 (coords (take (2 * l.count) l.ring))) ≡ with_ring
     (Rects.Box l.west l.south l.east l.north) (drop l.i (coords (take (2 * l.count) l.ring))))
-
-abbrev pub decreases-loop-i : goal.decreases-loop-i
-decreases-loop-i l = l.count - l.i

@@ -22,7 +22,7 @@ returns-then-is_huge_coord c = let s = c.args.ring.now in
     let m = length_front s n c.requires in
     let e = sym (c.is_huge_coord.ensures
     ∙ ap huge_coord (c.coord_at.ensures
-    ∙ sym (front_at s n l.i none c.requires c.loop-i-test.true))) ∙ c.if-is_huge_coord.true in sym (l.invariant.1 ∙ huge-here (coords (take (2 * n) s)) l.i none (omega arith) e)
+    ∙ sym (front_at s n l.i none c.requires (omega arith)))) ∙ c.if-is_huge_coord.true in sym (l.invariant.1 ∙ huge-here (coords (take (2 * n) s)) l.i none (omega arith) e)
 
 pub loop-i-preserved : goal.loop-i-preserved
 loop-i-preserved c = let s = c.args.ring.now in
@@ -31,7 +31,7 @@ loop-i-preserved c = let s = c.args.ring.now in
     let m = length_front s n c.requires in
     let e = sym (c.is_huge_coord.ensures
     ∙ ap huge_coord (c.coord_at.ensures
-    ∙ sym (front_at s n l.i none c.requires c.loop-i-test.true))) ∙ c.if-is_huge_coord.false in (search rules, l.invariant.1 ∙ huge-later (coords (take (2 * n) s)) l.i none (omega arith) e)
+    ∙ sym (front_at s n l.i none c.requires (omega arith)))) ∙ c.if-is_huge_coord.false in (search rules, l.invariant.1 ∙ huge-later (coords (take (2 * n) s)) l.i none (omega arith) e)
 
 pub returns : goal.returns
 returns c = let m = length_front c.args.ring.now c.args.n c.requires in sym (c.loop-i.invariant.1 ∙ huge-none (coords (take (2 * c.args.n) c.args.ring.now)) c.loop-i.i (omega arith))

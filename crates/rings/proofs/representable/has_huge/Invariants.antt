@@ -8,6 +8,3 @@ use Rattle.rings.proofs.representable.has_huge.Given as goal
 
 abbrev pub invariant-loop-i : goal.invariant-loop-i
 invariant-loop-i l = (l.i ≤ l.n) × (any_huge (coords (take (2 * l.n) l.ring)) ≡ any_huge (drop l.i (coords (take (2 * l.n) l.ring))))
-
-abbrev pub decreases-loop-i : goal.decreases-loop-i
-decreases-loop-i l = l.n - l.i
