@@ -24,6 +24,7 @@ pub fn is_finite_coord(p: Coord) -> bool
 }
 
 // The rectangle with one more coordinate.
+#[tactic(auto, unfolding(crate::specs::Rectangle::with_coord))]
 pub fn with_coord(r: Rect, p: Coord) -> Rect
     ensures { result ≡ Rectangle.with_coord r p }
 {
@@ -88,6 +89,7 @@ pub fn with_ring(r: Rect, ring: &[f64], n: usize) -> Rect
 }
 
 // Whether the numbers from low to high and those from one bound to the other are not apart.
+#[tactic(auto, unfolding(crate::specs::Rectangle::reaches))]
 fn reaches(low: f64, high: f64, from: f64, to: f64) -> bool
     ensures { result ≡ Rectangle.reaches low high from to }
 {
@@ -95,6 +97,7 @@ fn reaches(low: f64, high: f64, from: f64, to: f64) -> bool
 }
 
 // Whether the numbers from low to high lie between the bounds.
+#[tactic(auto, unfolding(crate::specs::Rectangle::lies_between))]
 fn lies_between(low: f64, high: f64, from: f64, to: f64) -> bool
     ensures { result ≡ Rectangle.lies_between low high from to }
 {
@@ -102,6 +105,7 @@ fn lies_between(low: f64, high: f64, from: f64, to: f64) -> bool
 }
 
 // Whether the rectangle and the bounds are not apart.
+#[tactic(auto, unfolding(crate::specs::Rectangle::intersects_bounds))]
 pub fn intersects_bounds(r: Rect, bounds: TileBounds) -> bool
     ensures { result ≡ Rectangle.intersects_bounds r bounds }
 {
@@ -116,6 +120,7 @@ pub fn intersects_bounds(r: Rect, bounds: TileBounds) -> bool
 }
 
 // Whether the rectangle lies in the bounds, edges included.
+#[tactic(auto, unfolding(crate::specs::Rectangle::is_fully_inside))]
 pub fn is_fully_inside(r: Rect, bounds: TileBounds) -> bool
     ensures { result ≡ Rectangle.is_fully_inside r bounds }
 {

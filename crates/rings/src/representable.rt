@@ -7,6 +7,7 @@ use binary64::compare::is_huge;
 use tile::Coord;
 use tile::ring::coord_at;
 
+#[tactic(auto, unfolding(crate::specs::Representable::huge_coord))]
 pub fn is_huge_coord(p: Coord) -> bool
     ensures { result ≡ Representable.huge_coord p }
 {

@@ -1,6 +1,6 @@
 -- `closed_sum` meets its contract. The invariant: the count so far, with that of the rings that are left, is that of all. Assumes nothing.
 use mathlib.Core.Path.{◌≡◌, ◌∙◌}
-use Prim.Native.Nat.{◌<◌, ◌≤◌, ◌*◌}
+use Prim.Native.Nat.{◌<◌, ◌*◌}
 use native.Mathlib.Omega.{arith}
 use lib.ListN.{length, get_or, take, drop, length-drop}
 use Rattle.binary64.proofs.Fill.{tail_part}
@@ -13,7 +13,6 @@ pub closed_count-count-requires : goal.closed_count-count-requires
 closed_count-count-requires c = let a = c.args in
     let l = c.loop-length in omega (
       arith,
-      c.closed_count-arg-1.given.1,
       left-ring a.lengths.now a.coords.now l.length-index l.at
           (omega arith) l.invariant.0,
     )

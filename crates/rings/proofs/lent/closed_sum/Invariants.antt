@@ -1,6 +1,6 @@
 -- `closed_sum` meets its contract. The invariant: the count so far, with that of the rings that are left, is that of all. Assumes nothing.
 use mathlib.Core.Path.{◌≡◌}
-use Prim.Native.Nat.{◌+◌, ◌-◌, ◌≤◌}
+use Prim.Native.Nat.{◌+◌, ◌≤◌}
 use lib.ListN.{length, drop}
 use Rattle.rings.specs.LentRings.{closed_rings, total}
 use Rattle.rings.proofs.LentRings.{Left}

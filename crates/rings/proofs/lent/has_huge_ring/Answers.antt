@@ -1,7 +1,7 @@
 -- `has_huge_ring` meets its contract. The invariant: a ring that is left is huge if one of all is. Assumes nothing.
 use mathlib.Core.Path.{◌≡◌, ◌∙◌, sym}
 use mathlib.Core.Bool.{true, false}
-use Prim.Native.Nat.{◌<◌, ◌≤◌, ◌*◌}
+use Prim.Native.Nat.{◌<◌, ◌*◌}
 use native.Mathlib.Omega.{arith}
 use lib.ListN.{length, get_or, take, drop}
 use Rattle.binary64.proofs.Fill.{tail_part}
@@ -14,7 +14,6 @@ pub has_huge-requires : goal.has_huge-requires
 has_huge-requires c = let a = c.args in
     let l = c.loop-length in omega (
       arith,
-      c.has_huge-arg-1.given.1,
       left-ring a.lengths.now a.coords.now l.length-index l.at
           (omega arith) l.invariant.0,
     )

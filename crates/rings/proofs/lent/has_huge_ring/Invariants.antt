@@ -1,7 +1,6 @@
 -- `has_huge_ring` meets its contract. The invariant: a ring that is left is huge if one of all is. Assumes nothing.
 use mathlib.Core.Path.{◌≡◌}
-use Prim.Native.Nat.{◌-◌}
-use lib.ListN.{length, drop}
+use lib.ListN.{drop}
 use Rattle.rings.specs.Representable.{any_huge_ring}
 use Rattle.rings.specs.LentRings.{closed_rings}
 use Rattle.rings.proofs.LentRings.{Left}

@@ -1,7 +1,6 @@
 -- `lent_count` meets its contract. Assumes nothing.
 use borrow.Author.Rules.{rules}
 use Rattle.std.proofs.iter.runs.Sources.{sums}
-use Rattle.rings.specs.LentRings.{sum}
 use Rattle.rings.proofs.LentRings.{sum_std}
 use Rattle.rings.proofs.lent.lent_count.Goals as goal
 

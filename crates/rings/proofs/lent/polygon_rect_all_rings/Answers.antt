@@ -1,7 +1,7 @@
 -- `polygon_rect_all_rings` meets its contract. The invariant: the rectangle so far, with the rings that are left, is that of all. Assumes
 -- nothing.
 use mathlib.Core.Path.{◌≡◌, ◌∙◌, sym}
-use Prim.Native.Nat.{◌<◌, ◌≤◌, ◌*◌}
+use Prim.Native.Nat.{◌<◌, ◌*◌}
 use native.Mathlib.Omega.{arith}
 use lib.ListN.{length, get_or, take, drop}
 use Rattle.binary64.proofs.Fill.{tail_part}
@@ -15,7 +15,6 @@ pub with_ring-rect-requires : goal.with_ring-rect-requires
 with_ring-rect-requires c = let a = c.args in
     let l = c.loop-length in omega (
       arith,
-      c.with_ring-arg-1.given.1,
       left-ring a.lengths.now a.coords.now l.length-index l.at
           (omega arith) l.invariant.0,
     )

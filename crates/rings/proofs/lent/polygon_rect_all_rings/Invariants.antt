@@ -1,8 +1,7 @@
 -- `polygon_rect_all_rings` meets its contract. The invariant: the rectangle so far, with the rings that are left, is that of all. Assumes
 -- nothing.
 use mathlib.Core.Path.{◌≡◌}
-use Prim.Native.Nat.{◌-◌}
-use lib.ListN.{length, drop}
+use lib.ListN.{drop}
 use Rattle.rings.specs.Rectangle.{rectangle, with_rings}
 use Rattle.rings.specs.LentRings.{closed_rings}
 use Rattle.rings.proofs.LentRings.{Left}

@@ -1,12 +1,12 @@
 -- `room_of` meets its contract. The invariant: what is measured so far, with the rings that are left, is that of all. Assumes nothing.
-use mathlib.Core.Path.{◌≡◌, ◌∙◌, sym}
-use Prim.Native.Nat.{◌<◌, ◌≤◌, ◌+◌, ◌*◌}
+use mathlib.Core.Path.{◌≡◌, ◌∙◌}
+use Prim.Native.Nat.{◌<◌, ◌≤◌, ◌*◌}
 use native.Mathlib.Omega.{arith}
 use lib.ListN.{length, get_or, take, drop}
 use Rattle.binary64.proofs.Fill.{tail_part}
 use Rattle.tile.specs.Ring.{coords as coordinates, close}
 use Rattle.sutherland_hodgman.proofs.Offered.{B-le}
-use Rattle.rings.specs.LentRings.{closed_rings, largest as most, ring_room}
+use Rattle.rings.specs.LentRings.{ring_room}
 use Rattle.rings.proofs.LentRings.{left-ring, left_next, total-step, total_end}
 use Rattle.rings.proofs.LentRings.{largest_step, largest_end}
 use Rattle.rings.proofs.lent.room_of.Goals as goal
@@ -15,7 +15,6 @@ pub closed_count-requires : goal.closed_count-requires
 closed_count-requires c = let a = c.args in
     let l = c.loop-length in omega (
       arith,
-      c.closed_count-arg-1.given.1,
       left-ring a.lengths.now a.coords.now l.length-index l.at
           (omega arith) l.invariant.0,
     )

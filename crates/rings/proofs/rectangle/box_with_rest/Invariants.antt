@@ -1,7 +1,7 @@
 -- `box_with_rest` meets its contract. The invariant: the four numbers so far are no NaN, and their rectangle with the coordinates that are
 -- left is that of all. Assumes nothing.
 use mathlib.Core.Path.{◌≡◌}
-use Prim.Native.Nat.{◌*◌, ◌-◌}
+use Prim.Native.Nat.{◌*◌}
 use lib.ListN.{take, drop}
 use Rattle.tile.specs.Ring.{coords}
 use Rattle.rings.specs.declared.rectangle.Rect.TheVariants as Rects
