@@ -11,6 +11,7 @@ use lib.IntN.{ℤ, pos, negsuc}
 use lib.Ieee.{Float, nan, inf, fin, binary64, is_nan, of_bits, up, down, neg, lt, le, eq, ne}
 use lib.Ieee.Compare.{differs_from_itself}
 use lib.Ieee.Scale.{finite}
+use Rattle.std.specs.Float.{float_is_finite}
 use lib.Ieee.Fits.{up_pos, down_pos}
 use borrow.Author.Tests.{lt-ltb, eq-eqb, ne_eqb}
 use Rattle.binary64.specs.Compare.{minimum, maximum, magnitude, tolerance, overlay_limit}
@@ -36,12 +37,12 @@ pub higher-maximum : (a b : Float) → is_nan a ≡ false → higher a b ≡ max
 unfolding higher maximum
 higher-maximum a b n = rw (n, or-false (lt a b))
 
-pub finite-test : (x : Float) → lt x (inf false) && lt (inf true) x ≡ finite x
-unfolding lt
-finite-test nan = refl
-finite-test (inf true) = refl
-finite-test (inf false) = refl
-finite-test (fin s m e) = refl
+-- the library's test
+pub finite-same : (x : Float) → float_is_finite x ≡ finite x
+unfolding float_is_finite
+finite-same nan = refl
+finite-same (inf s) = refl
+finite-same (fin s m e) = refl
 
 -- ---- a magnitude compared with a number t above 0, as two comparisons of the number itself with t and -t
 

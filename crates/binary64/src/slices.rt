@@ -7,20 +7,12 @@ pub fn copy(from: &[f64], to: &mut [f64], n: usize)
     requires { (n ≤ length from.now) × (n ≤ length to.old) }
     ensures { to.new ≡ take n from.now ++ drop n to.old }
 {
-    let mut i = 0usize;
-    while i < n {
-        to[i] = from[i];
-        i += 1;
-    }
+    to[..n].copy_from_slice(&from[..n]);
 }
 
 // Fills the whole slice with +0.0.
 pub fn clear(s: &mut [f64])
     ensures { s.new ≡ zeros (length s.old) }
 {
-    let mut i = 0usize;
-    while i < s.len() {
-        s[i] = 0.0;
-        i += 1;
-    }
+    s.fill(0.0);
 }

@@ -22,7 +22,7 @@ use Rattle.tile.specs.Internal.{coord_at}
 use Rattle.tile.specs.Ring.{coords}
 use Rattle.tile.proofs.Rings.{front_at, length_front}
 use Rattle.box_pairs.specs.declared.pairs.Pair.{Pair}
-use Rattle.box_pairs.specs.declared.pairs.Pair.TheVariants.{None, At}
+use Rattle.std.specs.Prelude.{Option, Some, None}
 use Rattle.box_pairs.specs.Cross.{cross}
 use Rattle.box_pairs.specs.Internal.{key_at, Kept, Sorted, front, edges_at, may_meet_in_y, low_x, Noted, Swept, is_scanned, ScannedOrSwept}
 use Rattle.box_pairs.specs.Internal.{Unused, pair_number, lesser, PairBelow}
@@ -198,25 +198,21 @@ unfolding first_pair self_intersecting
 crossing_first r = first_verdict (edges_cross r) (length r - 1)
 
 -- where none cross there is none
-crossing-no_pair : (r : List Coord) → self_intersecting r ≡ false → None ≡ first_pair r
+pub crossing-no_pair : (r : List Coord) → self_intersecting r ≡ false → None ≡ first_pair r
 crossing-no_pair r e = go (first_pair r) (crossing_first r ∙ e)
   where
-    go : (x : Pair) → is_pair x ≡ false → None ≡ x
+    go : (x : Option Pair) → is_pair x ≡ false → None ≡ x
     go None h = refl
-    go (At i j) h = absurd (never_both refl h)
-
--- nor where the sweep, which answers a slot, passed all of them
-pub no_pair_left : (r : List Coord) (p n : ℕ) → ltb p n ≡ self_intersecting r → n ≤ p → None ≡ first_pair r
-no_pair_left r p n e l = crossing-no_pair r (sym e ∙ le-ltb p n l)
+    go (Some x) h = absurd (never_both refl h)
 
 -- the edges of the first pair are edges of the ring
 pub pair_below : (n : ℕ) (r : List Coord) → length r ≤ n → PairBelow n (first_pair r)
 unfolding first_pair First
 pair_below n r h = go (first_from (edges_cross r) 0 (length r - 1)) (first_from_lem (edges_cross r) 0 (length r - 1))
   where
-    go : (x : Pair) → First (edges_cross r) 0 (length r - 1) x → PairBelow n x
+    go : (x : Option Pair) → First (edges_cross r) 0 (length r - 1) x → PairBelow n x
     go None f = tt
-    go (At i j) f = (omega (arith, f.1, f.2), omega (arith, f.2))
+    go (Some x) f = (omega (arith, f.1, f.2), omega (arith, f.2))
 
 -- ---- a ring of no coordinate
 
@@ -238,9 +234,9 @@ pub after_none : (n : ℕ) (r : List Coord) (w : List Float) (o : List ℕ) → 
 after_none n r w o e = rw e (after-scan 0 r true refl w o refl)
 
 -- what `first_edge_pair` says of a ring's edges, of which there is one less than of its n coordinates
-abbrev pub ByEdges : (m edges : ℕ) (s w w' : List Float) (o o' : List ℕ) (x : Pair) → Type 0
+abbrev pub ByEdges : (m edges : ℕ) (s w w' : List Float) (o o' : List ℕ) (x : Option Pair) → Type 0
 ByEdges m edges s w w' o o' x = (x ≡ first_pair (front s m)) × (Unused m w o w' o' × ScannedOrSwept edges (front s m) w o w' o')
 
-pub by_edges : (n : ℕ) (s w w' : List Float) (o o' : List ℕ) (x : Pair) → (n ≡ 0 → ⊥)
+pub by_edges : (n : ℕ) (s w w' : List Float) (o o' : List ℕ) (x : Option Pair) → (n ≡ 0 → ⊥)
     → ByEdges (n - 1 + 1) (n - 1) s w w' o o' x → ByEdges n (n - 1) s w w' o o' x
 by_edges n s w w' o o' x h p = let q : n - 1 + 1 ≡ n = omega arith in subst (λ (m : ℕ). ByEdges m (n - 1) s w w' o o' x) q p

@@ -14,28 +14,33 @@ use lib.Dec.{ltb}
 use lib.ListN.{get_or}
 use Rattle.binary64.proofs.Booleans.{never_both}
 use Rattle.box_pairs.specs.declared.pairs.Pair.{Pair}
-use Rattle.box_pairs.specs.declared.pairs.Pair.TheVariants.{None, At}
+use Rattle.std.specs.Prelude.{Option, Some, None}
 use Rattle.box_pairs.specs.Internal.{Positions, InOrder, Clear, Passed, at_slots}
 use Rattle.box_pairs.specs.Internal.{pair_number, no_pair, pair_of, Held, NotBelow, LeastBefore}
 use Rattle.box_pairs.specs.Internal.{any_pair}
 use Rattle.box_pairs.specs.Pairs.{first_in_row, or_else, first_from}
 use Rattle.box_pairs.proofs.Sweep.{Sweeps, pair_here, pair_none}
 
+-- the pair of i and j
+abbrev pub At : ℕ → ℕ → Option Pair
+At i j = Some (record { lower = i; higher = j })
+
 -- ---- what the definition gives
 
 -- a pair is the first that is hit among those of i with the m numbers from j on
-unfoldable RowFirst : (ℕ → ℕ → Bool) → ℕ → ℕ → ℕ → Pair → Type 0
+unfoldable RowFirst : (ℕ → ℕ → Bool) → ℕ → ℕ → ℕ → Option Pair → Type 0
 RowFirst hit i j m None = (q : ℕ) → j ≤ q → q < j + m → hit i q ≡ false
-RowFirst hit i j m (At a b) = (a ≡ i) × (j ≤ b) × (b < j + m) × (hit i b ≡ true) × ((q : ℕ) → j ≤ q → q < b → hit i q ≡ false)
+RowFirst hit i j m (Some x) =
+    (x.lower ≡ i) × (j ≤ x.higher) × (x.higher < j + m) × (hit i x.higher ≡ true) × ((q : ℕ) → j ≤ q → q < x.higher → hit i q ≡ false)
 
 row_first : (hit : ℕ → ℕ → Bool) (i j m : ℕ) → RowFirst hit i j m (first_in_row hit i j m)
 unfolding first_in_row RowFirst
 row_first hit i j zero = λ q a b. absurd (omega arith)
 row_first hit i j (suc m) = go (hit i j) refl (row_first hit i (suc j) m)
   where
-    later : (x : Pair) → hit i j ≡ false → RowFirst hit i (suc j) m x → RowFirst hit i j (suc m) x
+    later : (x : Option Pair) → hit i j ≡ false → RowFirst hit i (suc j) m x → RowFirst hit i j (suc m) x
     later None e h = λ q a b. elim (ℕ_discrete q j) [ yes z ↦ rw z e | no ne ↦ h q (omega arith) (omega arith) ]
-    later (At a b) e h = (
+    later (Some x) e h = (
       h.0,
       omega (arith, h.1),
       omega (arith, h.2),
@@ -51,19 +56,19 @@ row_first hit i j (suc m) = go (hit i j) refl (row_first hit i (suc j) m)
 
 -- a pair is the first that is hit among those of the n numbers from a on: it is hit, no lower number has a hit, and its own has none with a
 -- number between
-unfoldable pub First : (ℕ → ℕ → Bool) → ℕ → ℕ → Pair → Type 0
+unfoldable pub First : (ℕ → ℕ → Bool) → ℕ → ℕ → Option Pair → Type 0
 First hit a n None = (p : ℕ) → a ≤ p → Clear hit p (a + n)
-First hit a n (At i j) = (a ≤ i) × (i < j) × (j < a + n) × (hit i j ≡ true) × ((p : ℕ) → a ≤ p → p < i → Clear hit p (a + n)) × Clear hit i
-    j
+First hit a n (Some x) = (a ≤ x.lower) × (x.lower < x.higher) × (x.higher < a + n) × (hit x.lower x.higher ≡ true)
+    × ((p : ℕ) → a ≤ p → p < x.lower → Clear hit p (a + n)) × Clear hit x.lower x.higher
 
 pub first_from_lem : (hit : ℕ → ℕ → Bool) (a n : ℕ) → First hit a n (first_from hit a n)
 unfolding first_from First RowFirst
 first_from_lem hit a zero = λ p l q u v. absurd (omega arith)
 first_from_lem hit a (suc n) = go (first_in_row hit a (suc a) n) (row_first hit a (suc a) n) (first_from_lem hit (suc a) n)
   where
-    later : (x : Pair) → Clear hit a (a + suc n) → First hit (suc a) n x → First hit a (suc n) x
+    later : (x : Option Pair) → Clear hit a (a + suc n) → First hit (suc a) n x → First hit a (suc n) x
     later None c h = λ p l q u v. elim (ℕ_discrete p a) [ yes z ↦ rw z (c q (omega arith) v) | no ne ↦ h p (omega arith) q u (omega arith) ]
-    later (At i j) c h = (
+    later (Some x) c h = (
       omega (arith, h.0),
       h.1,
       omega (arith, h.2),
@@ -72,10 +77,10 @@ first_from_lem hit a (suc n) = go (first_in_row hit a (suc a) n) (row_first hit 
       h.5,
     )
 
-    go : (x : Pair) → RowFirst hit a (suc a) n x → First hit (suc a) n (first_from hit (suc a) n) → First hit a (suc n)
+    go : (x : Option Pair) → RowFirst hit a (suc a) n x → First hit (suc a) n (first_from hit (suc a) n) → First hit a (suc n)
         (or_else x (first_from hit (suc a) n))
     go None h g = later (first_from hit (suc a) n) (λ q u v. h q (omega arith) (omega arith)) g
-    go (At i j) h g = rw h.0 (
+    go (Some x) h g = rw h.0 (
       le_refl a,
       omega (arith, h.1),
       omega (arith, h.2),
@@ -85,12 +90,16 @@ first_from_lem hit a (suc n) = go (first_in_row hit a (suc a) n) (row_first hit 
     )
 
 -- there is one first pair
-pub first_unique : (hit : ℕ → ℕ → Bool) (n : ℕ) (x y : Pair) → First hit 0 n x → First hit 0 n y → x ≡ y
+pub first_unique : (hit : ℕ → ℕ → Bool) (n : ℕ) (x y : Option Pair) → First hit 0 n x → First hit 0 n y → x ≡ y
 unfolding First
 first_unique hit n None None f g = refl
-first_unique hit n None (At k l) f g = absurd (never_both g.3 (f k zero-le l g.1 g.2))
-first_unique hit n (At i j) None f g = absurd (never_both f.3 (g i zero-le j f.1 f.2))
-first_unique hit n (At i j) (At k l) f g =
+first_unique hit n None (Some y) f g = absurd (never_both g.3 (f y.lower zero-le y.higher g.1 g.2))
+first_unique hit n (Some x) None f g = absurd (never_both f.3 (g x.lower zero-le x.higher f.1 f.2))
+first_unique hit n (Some x) (Some y) f g =
+    let i = x.lower in
+    let j = x.higher in
+    let k = y.lower in
+    let l = y.higher in
     elim (ℕ_discrete i k) [
       | no ne ↦ elim (dec_lt i k) [
         | yes u ↦ absurd (never_both f.3 (g.4 i zero-le u j f.1 f.2))
@@ -105,21 +114,21 @@ first_unique hit n (At i j) (At k l) f g =
       ]
     ]
 
-pub first-is : (hit : ℕ → ℕ → Bool) (n : ℕ) (x : Pair) → First hit 0 n x → x ≡ first_from hit 0 n
+pub first-is : (hit : ℕ → ℕ → Bool) (n : ℕ) (x : Option Pair) → First hit 0 n x → x ≡ first_from hit 0 n
 first-is hit n x f = first_unique hit n x (first_from hit 0 n) f (first_from_lem hit 0 n)
 
-abbrev pub is_pair : Pair → Bool
+abbrev pub is_pair : Option Pair → Bool
 is_pair None = false
-is_pair (At i j) = true
+is_pair (Some x) = true
 
 -- there is a first pair exactly where some pair is hit
 pub first_verdict : (hit : ℕ → ℕ → Bool) (n : ℕ) → is_pair (first_from hit 0 n) ≡ any_pair hit n
 unfolding First
 first_verdict hit n = go (first_from hit 0 n) (first_from_lem hit 0 n)
   where
-    go : (x : Pair) → First hit 0 n x → is_pair x ≡ any_pair hit n
+    go : (x : Option Pair) → First hit 0 n x → is_pair x ≡ any_pair hit n
     go None f = sym (pair_none hit n (λ i j ij jn. f i zero-le j ij (omega arith)))
-    go (At i j) f = sym (pair_here hit n i j f.1 (omega (arith, f.2)) f.3)
+    go (Some x) f = sym (pair_here hit n x.lower x.higher f.1 (omega (arith, f.2)) f.3)
 
 -- ---- the scan: where it stops
 

@@ -19,10 +19,8 @@ use Rattle.tile.specs.Internal.{coord_at}
 use Rattle.tile.specs.Ring.{same}
 use Rattle.tile.proofs.Rings.{front_at, length_front}
 use Rattle.box_pairs.specs.declared.Issue.TheVariants.{Sound, Short}
-use Rattle.box_pairs.specs.declared.Repeat.{Repeat}
-use Rattle.box_pairs.specs.declared.Repeat.TheVariants as Repeats
 use Rattle.box_pairs.specs.declared.pairs.Pair.{Pair}
-use Rattle.box_pairs.specs.declared.pairs.Pair.TheVariants.{None, At}
+use Rattle.std.specs.Prelude.{Option, Some, None}
 use Rattle.box_pairs.specs.Cross.{degenerate}
 use Rattle.box_pairs.specs.Internal.{front, PairBelow, IssueBelow}
 use Rattle.box_pairs.specs.Internal.{repeated, self_intersecting}
@@ -70,7 +68,7 @@ one_more l k z h = rw (
 )
 
 -- the same of the place
-few-place : (j : ℕ) (l : List Coord) → length l ≤ 2 → repeated_from j l ≡ Repeats.None
+few-place : (j : ℕ) (l : List Coord) → length l ≤ 2 → repeated_from j l ≡ None
 unfolding repeated_from
 few-place j [] h = refl
 few-place j (p ∷ []) h = refl
@@ -78,7 +76,7 @@ few-place j (p ∷ q ∷ []) h = refl
 few-place j (p ∷ q ∷ s ∷ l) h = absurd (omega arith)
 
 one_more_place : (j : ℕ) (l : List Coord) (k : ℕ) (z : Coord) → k + 2 < length l
-    → repeated_from j (drop k l) ≡ cond (degenerate (get_or l k z) (get_or l (k + 1) z)) (Repeats.At j) (repeated_from (j + 1) (drop (k + 1) l))
+    → repeated_from j (drop k l) ≡ cond (degenerate (get_or l k z) (get_or l (k + 1) z)) (Some j) (repeated_from (j + 1) (drop (k + 1) l))
 unfolding repeated_from
 one_more_place j l k z h = rw (
   add-one j,
@@ -89,9 +87,9 @@ one_more_place j l k z h = rw (
       (suc (suc k)) z (omega arith),
 )
 
-abbrev pub is_repeat : Repeat → Bool
-is_repeat Repeats.None = false
-is_repeat (Repeats.At k) = true
+abbrev pub is_repeat : Option ℕ → Bool
+is_repeat None = false
+is_repeat (Some k) = true
 
 -- there is a first place exactly where neighbours repeat
 place_verdict : (j : ℕ) (l : List Coord) → is_repeat (repeated_from j l) ≡ repeated l
@@ -102,30 +100,30 @@ place_verdict j (p ∷ q ∷ []) = refl
 place_verdict j (p ∷ q ∷ s ∷ l) = go (degenerate p q) (place_verdict (suc j) (q ∷ s ∷ l))
   where
     go : (b : Bool) → is_repeat (repeated_from (suc j) (q ∷ s ∷ l)) ≡ repeated (q ∷ s ∷ l) → is_repeat
-        (cond b (Repeats.At j) (repeated_from (suc j) (q ∷ s ∷ l))) ≡ b || repeated (q ∷ s ∷ l)
+        (cond b (Some j) (repeated_from (suc j) (q ∷ s ∷ l))) ≡ b || repeated (q ∷ s ∷ l)
     go true h = refl
     go false h = h
 
 pub repeated_first : (l : List Coord) → is_repeat (first_repeated l) ≡ repeated l
 repeated_first l = place_verdict 0 l
 
-no_place : (x : Repeat) → is_repeat x ≡ false → x ≡ Repeats.None
-no_place Repeats.None e = refl
-no_place (Repeats.At k) e = absurd (true≢false e)
+no_place : (x : Option ℕ) → is_repeat x ≡ false → x ≡ None
+no_place None e = refl
+no_place (Some k) e = absurd (true≢false e)
 
-pub first-none : (l : List Coord) → repeated l ≡ false → first_repeated l ≡ Repeats.None
+pub first-none : (l : List Coord) → repeated l ≡ false → first_repeated l ≡ None
 first-none l e = no_place (first_repeated l) (repeated_first l ∙ e)
 
 module _ (s : List Float) (n : ℕ) (room : 2 * n ≤ length s) where
   pub repeated-next : (k : ℕ) → k + 2 < n
-      → repeated_from k (drop k (front s n)) ≡ cond (degenerate (coord_at s k) (coord_at s (k + 1))) (Repeats.At k)
+      → repeated_from k (drop k (front s n)) ≡ cond (degenerate (coord_at s k) (coord_at s (k + 1))) (Some k)
       (repeated_from (k + 1) (drop (k + 1) (front s n)))
   repeated-next k l =
       let z : Coord = record { x = nan; y = nan } in
       one_more_place k (front s n) k z (omega (arith, length_front s n room)) ∙
       rw (front_at s n k z room (omega arith), front_at s n (k + 1) z room (omega arith))
 
-  pub repeated_end : (k : ℕ) → n ≤ k + 2 → repeated_from k (drop k (front s n)) ≡ Repeats.None
+  pub repeated_end : (k : ℕ) → n ≤ k + 2 → repeated_from k (drop k (front s n)) ≡ None
   repeated_end k l = few-place k (drop k (front s n)) (omega (arith, length-drop k (front s n), length_front s n room))
 
   -- ---- the cases
@@ -144,29 +142,29 @@ pub issue_verdict : (b : Bool) (r : List Coord) → has_issue (issue_of b r) ≡
 unfolding issue_of has_issue
 issue_verdict b r = rw (← repeated_first r, ← crossing_first r) (go (ltb (length r) 4) (first_repeated r) b (first_pair r))
   where
-    go : (t : Bool) (x : Repeat) (c : Bool) (y : Pair)
+    go : (t : Bool) (x : Option ℕ) (c : Bool) (y : Option Pair)
         → has_issue (cond t Short (repeated_or x (cond c Sound (crossing_at y)))) ≡ t || (is_repeat x || (not c && is_pair y))
     go true x c y = refl
-    go false (Repeats.At k) c y = refl
-    go false Repeats.None true y = refl
-    go false Repeats.None false None = refl
-    go false Repeats.None false (At i j) = refl
+    go false (Some k) c y = refl
+    go false None true y = refl
+    go false None false None = refl
+    go false None false (Some p) = refl
 
 -- ---- the positions that are told
 
-abbrev position-of : ℕ → Repeat → ℕ
-position-of z Repeats.None = z
-position-of z (Repeats.At k) = k
+abbrev position-of : ℕ → Option ℕ → ℕ
+position-of z None = z
+position-of z (Some k) = k
 
-position-below : (j : ℕ) (l : List Coord) (k : ℕ) → repeated_from j l ≡ Repeats.At k → k < j + length l
+position-below : (j : ℕ) (l : List Coord) (k : ℕ) → repeated_from j l ≡ Some k → k < j + length l
 unfolding repeated_from
 position-below j [] k e = absurd (never_both refl (sym (ap is_repeat e)))
 position-below j (p ∷ []) k e = absurd (never_both refl (sym (ap is_repeat e)))
 position-below j (p ∷ q ∷ []) k e = absurd (never_both refl (sym (ap is_repeat e)))
 position-below j (p ∷ q ∷ s ∷ l) k e = go (degenerate p q) (λ h. position-below (suc j) (q ∷ s ∷ l) k h) e
   where
-    go : (b : Bool) → (repeated_from (suc j) (q ∷ s ∷ l) ≡ Repeats.At k → k < suc j + length (q ∷ s ∷ l))
-        → cond b (Repeats.At j) (repeated_from (suc j) (q ∷ s ∷ l)) ≡ Repeats.At k → k < j + length (p ∷ q ∷ s ∷ l)
+    go : (b : Bool) → (repeated_from (suc j) (q ∷ s ∷ l) ≡ Some k → k < suc j + length (q ∷ s ∷ l))
+        → cond b (Some j) (repeated_from (suc j) (q ∷ s ∷ l)) ≡ Some k → k < j + length (p ∷ q ∷ s ∷ l)
     go true later h = let z : j ≡ k = ap (position-of j) h in omega arith
     go false later h = omega (arith, later h)
 
@@ -174,10 +172,10 @@ pub issue_below : (n : ℕ) (b : Bool) (r : List Coord) → length r ≤ n → I
 unfolding issue_of
 issue_below n b r l = go (ltb (length r) 4) (first_repeated r) refl b (first_pair r) (pair_below n r l)
   where
-    go : (t : Bool) (x : Repeat) → first_repeated r ≡ x → (c : Bool) (y : Pair) → PairBelow n y
+    go : (t : Bool) (x : Option ℕ) → first_repeated r ≡ x → (c : Bool) (y : Option Pair) → PairBelow n y
         → IssueBelow n (cond t Short (repeated_or x (cond c Sound (crossing_at y))))
     go true x e c y h = tt
-    go false (Repeats.At k) e c y h = omega (arith, position-below 0 r k e)
-    go false Repeats.None e true y h = tt
-    go false Repeats.None e false None h = tt
-    go false Repeats.None e false (At i j) h = h
+    go false (Some k) e c y h = omega (arith, position-below 0 r k e)
+    go false None e true y h = tt
+    go false None e false None h = tt
+    go false None e false (Some p) h = h

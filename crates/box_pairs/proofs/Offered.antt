@@ -9,7 +9,7 @@ use borrow.Author.Tests.{lt-ltb, le-ltb}
 use Rattle.tile.specs.declared.Coord.{Coord}
 use Rattle.tile.specs.Ring.{same}
 use Rattle.box_pairs.specs.declared.Issue.TheVariants.{Sound}
-use Rattle.box_pairs.specs.declared.Repeat.TheVariants as Repeats
+use Rattle.std.specs.Prelude.{None}
 use Rattle.box_pairs.specs.Internal.{PairBelow, IssueBelow}
 use Rattle.box_pairs.specs.Cross.{degenerate}
 use Rattle.box_pairs.specs.Pairs.{first_pair}
@@ -30,7 +30,7 @@ pub repeated-from : (l : List Coord) (k : ℕ) (z : Coord) → k + 2 < length l
 repeated-from = issues.one_more
 
 -- where none repeat, no position is told
-pub repeated-none : (l : List Coord) → repeated l ≡ false → first_repeated l ≡ Repeats.None
+pub repeated-none : (l : List Coord) → repeated l ≡ false → first_repeated l ≡ None
 repeated-none = issues.first-none
 
 -- a coordinate that differs from itself, since it holds a NaN, is near none

@@ -6,7 +6,6 @@ ghost use Rattle.std.specs.Prelude.{◌≡◌, ◌*◌, ◌-◌, ◌<◌, ◌≤
 ghost use Rattle.box_pairs.specs.Internal.{front, KeptIfScanned, IssueRoom, Unused};
 ghost use Rattle.box_pairs.specs.Issue.{first_repeated, crossing_of, issue_of, has_issue};
 
-use pairs::Pair;
 use tile::ring::coord_at;
 
 pub mod cross;
@@ -16,6 +15,7 @@ pub mod pairs;
 // What is wrong with an exterior: nothing, fewer than 4 coordinates, two neighbours less than 1e-10 apart in x and in y
 // (the last segment excepted), two edges that cross. Neighbours are told by the position of the first, edges by their numbers, the lower
 // first: edge k runs from coordinate k to the next.
+// Stays an enum, where an Option of the other three would do: `clip::polygon::reason_detail` takes `Sound` too.
 #[derive(Clone, Copy)]
 pub enum Issue {
     Sound,
@@ -24,41 +24,27 @@ pub enum Issue {
     Crossing(u32, u32),
 }
 
-// The first of two neighbours that repeat, by its position, or none.
-#[derive(Clone, Copy)]
-pub enum Repeat {
-    None,
-    At(u32),
-}
-
 // Whether an exterior whose issue is this one has an issue.
 #[tactic(auto, unfolding(crate::specs::Issue::has_issue))]
 pub fn has_issue(issue: Issue) -> bool
     ensures { result ≡ has_issue issue }
 {
-    match issue {
-        Issue::Sound => false,
-        Issue::Short => true,
-        Issue::Repeated(_) => true,
-        Issue::Crossing(_, _) => true,
-    }
+    !matches!(issue, Issue::Sound)
 }
 
-// The first of the n coordinates that is near the next, the last segment excepted.
-fn first_repeated(ring: &[f64], n: usize) -> Repeat
+// The position of the first of the n coordinates that is near the next, the last segment excepted.
+fn first_repeated(ring: &[f64], n: usize) -> Option<u32>
     requires { (2 * n ≤ length ring.now) × (n < 2 ^ 32) }
     ensures { result ≡ first_repeated (front ring.now n) }
 {
-    let mut k = 0usize;
-    while k + 2 < n {
+    for k in 0..n.saturating_sub(2) {
         let p = coord_at(ring, k);
         let q = coord_at(ring, k + 1);
         if cross::is_degenerate(p, q) {
-            return Repeat::At(k as u32);
+            return Some(k as u32);
         }
-        k += 1;
     }
-    Repeat::None
+    None
 }
 
 // The crossing in the ring of n coordinates; it is not looked for where the ring is assumed to be simple.
@@ -78,8 +64,8 @@ fn find_crossing(
         return Issue::Sound;
     }
     match pairs::first_pair(ring, n, work, order) {
-        Pair::None => Issue::Sound,
-        Pair::At(i, j) => Issue::Crossing(i, j),
+        None => Issue::Sound,
+        Some(pair) => Issue::Crossing(pair.lower, pair.higher),
     }
 }
 
@@ -101,7 +87,7 @@ pub fn find_issue(
         return Issue::Short;
     }
     match first_repeated(ring, n) {
-        Repeat::At(k) => Issue::Repeated(k),
-        Repeat::None => find_crossing(ring, n, assume_simple, work, order),
+        Some(k) => Issue::Repeated(k),
+        None => find_crossing(ring, n, assume_simple, work, order),
     }
 }

@@ -8,9 +8,11 @@ use borrow.Author.Tests.{lt-ltb}
 use lib.Ieee.{Float}
 use lib.ListN.{length, take, drop}
 use lib.Seq.{take_at, length-take-le}
+use Rattle.std.specs.Prelude.{Option, None, Some}
 use Rattle.binary64.specs.Lists.{Every}
 use Rattle.tile.specs.declared.Coord.{Coord}
 use Rattle.tile.specs.declared.TileBounds.{TileBounds}
+use Rattle.tile.specs.declared.Edge.{Edge}
 use Rattle.tile.specs.Ring.{coords, close}
 use Rattle.tile.specs.Internal.{Stands, Written}
 use Rattle.tile.proofs.Rings.{length_front, stands-front, length-close, close-most}
@@ -20,9 +22,7 @@ use Rattle.sutherland_hodgman.specs.Growth.{B, most_coordinates}
 use Rattle.sutherland_hodgman.specs.Clip.{clip_ring}
 use Rattle.sutherland_hodgman.specs.Origins.{clip_origins, close_origins}
 use Rattle.sutherland_hodgman.specs.Internal.{Fits16, CutterRoom, OriginRoom, RingCut}
-use Rattle.sutherland_hodgman.proofs.Offered.{B-mono, clip_fits, clip_close, as_many, close_many, origins-close, origins_fit, close-fits}
-use Rattle.rings.specs.declared.bridge.Bridge.{Bridge}
-use Rattle.rings.specs.declared.bridge.Bridge.TheVariants.{None, Along}
+use Rattle.sutherland_hodgman.proofs.Offered.{B-mono, le-B, clip_fits, clip_close, as_many, close_many, origins-close, origins_fit, close-fits}
 use Rattle.clip.specs.declared.polygon.Flags.{Flags}
 use Rattle.clip.specs.declared.polygon.Reason.TheVariants as Reasons
 use Rattle.clip.specs.declared.polygon.Route.{Route}
@@ -81,14 +81,18 @@ module _ (b : TileBounds) (r : List Coord) (few : length r ≤ most_coordinates)
 
 -- ---- what a slice holds
 
-pub copied_front : (k : ℕ) (from to to' : List Float) → k ≤ length from → to' ≡ take k from ++ drop k to → take k to' ≡ take k from
-copied_front k from to to' h e = rw e (take_at (take k from) (drop k to) k (length-take-le k from h))
+pub copied_front : (k : ℕ) (from front rest : List Float) → k ≤ length from → front ≡ take k from → take k (front ++ rest) ≡ take k from
+copied_front k from front rest h e = rw e (take_at (take k from) rest k (length-take-le k from h))
 
 -- ---- a lent ring, closed and cut
 
 module _ (n : ℕ) (s : List Float) (a b : ℕ) (room : RingRoom n s a b) where
   pub lent-count : n ≤ length (close (coords (take (2 * n) s)))
   lent-count = omega (arith, length_front s n room.lent, length-close (coords (take (2 * n) s)))
+
+  pub output-lent : 2 * n ≤ b
+  output-lent =
+      let g = le-B (length (close (coords (take (2 * n) s)))) in omega (arith, lent-count, room.output-room)
 
   pub cutter_room : CutterRoom n (length s) a b
   cutter_room =
@@ -149,19 +153,19 @@ module _ (flags : Flags) (b : TileBounds) (r ring : List Coord) (issue : Issue) 
   pub judged_stands : (after : List Float) → Stands (cut_exterior b r) n after → 0 < n → CutStands b r to after
   judged_stands after stands some = rw is (go (has_issue issue) (bridge_unless_skipped flags b ring))
     where
-      go : (t : Bool) (bridge : Bridge) → CutStands b r
+      go : (t : Bool) (bridge : Option Edge) → CutStands b r
           (cond t (Routes.Overlay (Reasons.Cut issue)) (overlay_if_bridge bridge (Routes.Cut n))) after
       go true bridge = tt
-      go false (Along edge) = tt
+      go false (Some edge) = tt
       go false None = (stands, some)
 
   pub judged_origins : (after : List ℕ) → take n after ≡ exterior_origins b r → OriginsStand b r to after
   judged_origins after stands = rw is (go (has_issue issue) (bridge_unless_skipped flags b ring))
     where
-      go : (t : Bool) (bridge : Bridge) → OriginsStand b r
+      go : (t : Bool) (bridge : Option Edge) → OriginsStand b r
           (cond t (Routes.Overlay (Reasons.Cut issue)) (overlay_if_bridge bridge (Routes.Cut n))) after
       go true bridge = tt
-      go false (Along edge) = tt
+      go false (Some edge) = tt
       go false None = stands
 
 -- ---- all rings of a cut

@@ -7,9 +7,11 @@ use Prim.Native.Nat.{ℕ, ◌≤◌, zero-le}
 use native.Mathlib.Omega.{arith}
 use lib.Dec.{ltb}
 use lib.ListN.{length}
+use Rattle.std.specs.Prelude.{Option, None, Some}
 use Rattle.binary64.proofs.Booleans.{never_both}
 use Rattle.tile.specs.declared.Coord.{Coord}
 use Rattle.tile.specs.declared.TileBounds.{TileBounds}
+use Rattle.tile.specs.declared.Edge.{Edge}
 use Rattle.tile.specs.declared.Edge.TheVariants.{Left, Right, Bottom, Top}
 use Rattle.box_pairs.specs.declared.Issue.{Issue}
 use Rattle.box_pairs.specs.declared.Issue.TheVariants.{Sound, Short, Repeated, Crossing}
@@ -19,8 +21,6 @@ use Rattle.box_pairs.proofs.Offered.{sound_none, issue_below}
 use Rattle.sutherland_hodgman.specs.Clip.{clip_ring}
 use Rattle.sutherland_hodgman.specs.Growth.{B}
 use Rattle.sutherland_hodgman.proofs.Offered.{le-B}
-use Rattle.rings.specs.declared.bridge.Bridge.{Bridge}
-use Rattle.rings.specs.declared.bridge.Bridge.TheVariants.{None, Along}
 use Rattle.rings.specs.declared.rectangle.Rect.{Rect}
 use Rattle.rings.specs.Rectangle.{intersects_bounds, is_fully_inside}
 use Rattle.clip.specs.declared.polygon.Flags.{Flags}
@@ -65,8 +65,8 @@ cut-within flags b r = some (ltb 0 (length (clip_ring b r)))
     issue : Issue
     issue = issue_of flags.assume_simple (cut_exterior b r)
 
-    bridged : (bridge : Bridge) → RouteWithin (B (length r)) (overlay_if_bridge bridge (Routes.Cut (length (cut_exterior b r))))
-    bridged (Along edge) = (zero-le, zero-le)
+    bridged : (bridge : Option Edge) → RouteWithin (B (length r)) (overlay_if_bridge bridge (Routes.Cut (length (cut_exterior b r))))
+    bridged (Some edge) = (zero-le, zero-le)
     bridged None = tt
 
     some : (t : Bool) → RouteWithin (B (length r)) (cond t (cond (has_issue issue) (Routes.Overlay (Reasons.Cut issue))

@@ -1,6 +1,6 @@
 -- What becomes of one polygon at a tile, in document 01's order ("Nothing, or dropped", "Unchanged", "Cut rings", "Overlay wanted"), and
 -- the numbers of its answers ("Frames", and document 02, Point 1). Definitions only.
-use Rattle.std.specs.Prelude.{Bool, ◌&&◌, ◌||◌, cond, List, [], ◌∷◌, ℕ, ltb, eqb, length}
+use Rattle.std.specs.Prelude.{Bool, ◌&&◌, ◌||◌, cond, List, [], ◌∷◌, ℕ, ltb, eqb, length, Option, None, Some}
 use Rattle.tile.specs.declared.Coord.{Coord}
 use Rattle.tile.specs.declared.TileBounds.{TileBounds}
 use Rattle.tile.specs.declared.Edge.{Edge}
@@ -10,8 +10,6 @@ use Rattle.box_pairs.specs.declared.Issue.{Issue}
 use Rattle.box_pairs.specs.declared.Issue.TheVariants.{Sound, Short, Repeated, Crossing}
 use Rattle.box_pairs.specs.Issue.{issue_of, has_issue}
 use Rattle.sutherland_hodgman.specs.Clip.{clip_ring}
-use Rattle.rings.specs.declared.bridge.Bridge.{Bridge}
-use Rattle.rings.specs.declared.bridge.Bridge.TheVariants.{None, Along}
 use Rattle.rings.specs.declared.rectangle.Rect.{Rect}
 use Rattle.rings.specs.declared.rectangle.Rect.TheVariants as Rects
 use Rattle.rings.specs.Bridge.{first_bridge}
@@ -34,12 +32,12 @@ abbrev pub overlay_if_issue : Issue → Reason → Route → Route
 overlay_if_issue issue reason route = cond (has_issue issue) (Routes.Overlay reason) route
 
 -- "This last test is skipped only if both flags are set."
-unfoldable pub bridge_unless_skipped : Flags → TileBounds → List Coord → Bridge
+unfoldable pub bridge_unless_skipped : Flags → TileBounds → List Coord → Option Edge
 bridge_unless_skipped flags b r = cond (flags.assume_simple && flags.skip_boundary_fallback) None (first_bridge b r)
 
 -- "Reasons 3 to 6: no issue, but an edge of the cut exterior .."
-abbrev pub overlay_if_bridge : Bridge → Route → Route
-overlay_if_bridge (Along edge) route = Routes.Overlay (Reasons.Bridge edge)
+abbrev pub overlay_if_bridge : Option Edge → Route → Route
+overlay_if_bridge (Some edge) route = Routes.Overlay (Reasons.Bridge edge)
 overlay_if_bridge None route = route
 
 -- the cut exterior as the polygon holds it: "This also applies to cut rings"

@@ -9,9 +9,8 @@ ghost use Rattle.clip.specs.Origins as Origins;
 ghost use Rattle.clip.specs.Internal as Internal;
 ghost use Rattle.clip.specs.Polygon.{told};
 
-use binary64::slices::copy;
 use box_pairs::{Issue, find_issue, has_issue};
-use rings::bridge::{Bridge, first_bridge};
+use rings::bridge::first_bridge;
 use rings::rectangle::{Rect, intersects_bounds, is_fully_inside};
 use sutherland_hodgman::clip_ring;
 use sutherland_hodgman::origins::close_with_origins;
@@ -76,13 +75,7 @@ pub enum PolygonAnswer {
 pub fn guard_count(answer: PolygonAnswer) -> usize
     ensures { result ≡ (told answer).guards }
 {
-    match answer {
-        PolygonAnswer::Nothing => 0,
-        PolygonAnswer::Dropped => 1,
-        PolygonAnswer::Unchanged => 0,
-        PolygonAnswer::Cut(rings) => 0,
-        PolygonAnswer::Overlay(reason) => 0,
-    }
+    usize::from(matches!(answer, PolygonAnswer::Dropped))
 }
 
 fn detail(number: u8, first: u32, second: u32) -> ReasonDetail
@@ -96,6 +89,7 @@ fn detail(number: u8, first: u32, second: u32) -> ReasonDetail
 }
 
 // The number of the edge that a bridge runs along, as a reason.
+// Stays a function: a From needs a type of this crate, and neither an edge nor its number is one.
 fn edge_number(edge: Edge) -> u8
     ensures { result ≡ Polygon.edge_number edge }
 {
@@ -120,14 +114,22 @@ fn issue_detail(short: u8, repeated: u8, crossing: u8, issue: Issue) -> ReasonDe
 }
 
 // The papers' number of a reason, and its positions.
+impl From<Reason> for ReasonDetail {
+    ghost from_gives = { λ reason result. result ≡ Polygon.reason_detail reason };
+
+    fn from(reason: Reason) -> ReasonDetail {
+        match reason {
+            Reason::Input(issue) => issue_detail(1, 7, 8, issue),
+            Reason::Cut(issue) => issue_detail(2, 9, 10, issue),
+            Reason::Bridge(edge) => detail(edge_number(edge), 0, 0),
+        }
+    }
+}
+
 pub fn reason_detail(reason: Reason) -> ReasonDetail
     ensures { result ≡ Polygon.reason_detail reason }
 {
-    match reason {
-        Reason::Input(issue) => issue_detail(1, 7, 8, issue),
-        Reason::Cut(issue) => issue_detail(2, 9, 10, issue),
-        Reason::Bridge(edge) => detail(edge_number(edge), 0, 0),
-    }
+    ReasonDetail::from(reason)
 }
 
 // The issue of the ring of n coordinates at the front of a slice, closed. A ring that is not lent closed is closed in the output.
@@ -145,7 +147,7 @@ fn closed_issue(
     if is_closed(ring, n) {
         return find_issue(ring, n, assume_simple, scratch, order);
     }
-    copy(ring, out, 2 * n);
+    out[..2 * n].copy_from_slice(&ring[..2 * n]);
     let m = close(out, n);
     find_issue(out, m, assume_simple, scratch, order)
 }
@@ -157,12 +159,13 @@ fn skips_bridges(flags: Flags) -> bool
     flags.assume_simple && flags.skip_boundary_fallback
 }
 
-fn bridge_unless_skipped(ring: &[f64], n: usize, flags: Flags, bounds: TileBounds) -> Bridge
+#[tactic(auto, unfolding(crate::specs::Polygon::bridge_unless_skipped))]
+fn bridge_unless_skipped(ring: &[f64], n: usize, flags: Flags, bounds: TileBounds) -> Option<Edge>
     requires { 2 * n ≤ length ring.now }
     ensures { result ≡ Polygon.bridge_unless_skipped flags bounds (Ring.coords (take (2 * n) ring.now)) }
 {
     if skips_bridges(flags) {
-        return Bridge::None;
+        return None;
     }
     first_bridge(ring, n, bounds)
 }
@@ -177,11 +180,10 @@ fn judge_cut(ring: &[f64], n: usize, issue: Issue, flags: Flags, bounds: TileBou
     if has_issue(issue) {
         return Route::Overlay(Reason::Cut(issue));
     }
-    let bridge = bridge_unless_skipped(ring, n, flags, bounds);
-    if let Bridge::Along(edge) = bridge {
-        return Route::Overlay(Reason::Bridge(edge));
+    match bridge_unless_skipped(ring, n, flags, bounds) {
+        Some(edge) => Route::Overlay(Reason::Bridge(edge)),
+        None => Route::Cut(n),
     }
-    Route::Cut(n)
 }
 
 // Cuts the exterior; a cut that stays stands at the front of the output, and its origins at the front of theirs.
@@ -214,6 +216,7 @@ fn route_cut(
 
 // What the exterior of n coordinates decides, rect being the rectangle of all rings; a cut exterior stands at the front of the output, and
 // its origins at the front of theirs.
+#[tactic(auto, unfolding(crate::specs::Polygon::route_exterior))]
 pub fn route_exterior(
     ring: &[f64],
     n: usize,

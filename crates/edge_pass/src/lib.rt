@@ -78,10 +78,9 @@ fn copy_inside(
     ensures origins { (result.len + at.i ≡ at.len + result.i)
         × Internal.CopiedOrigins edge bounds (coords (take (2 * m) ring.now)) at.i result.i }
 {
-    let mut i = at.i;
     let mut len = at.len;
     let mut verdicts = at.verdicts;
-    while i < m {
+    for i in at.i..m {
         let e = coord_at(ring, i);
         let verdict = judge(e, edge, bounds, verdicts);
         verdicts = verdict.verdicts;
@@ -90,9 +89,12 @@ fn copy_inside(
         }
         put(out, len, e);
         len += 1;
-        i += 1;
     }
-    Walk { i, len, verdicts }
+    Walk {
+        i: m,
+        len,
+        verdicts,
+    }
 }
 
 // From a vertex that is out: passes over the vertices that follow it as long as they are out, up to the first that is in, which is judged
@@ -106,9 +108,8 @@ fn skip_outside(ring: &[f64], m: usize, edge: Edge, bounds: TileBounds, at: Walk
     ensures verdicts { Internal.RunVerdicts m result.i result.verdicts }
     ensures origins { Internal.SkippedOrigins edge bounds (coords (take (2 * m) ring.now)) at.i result.i }
 {
-    let mut i = at.i;
     let mut verdicts = at.verdicts;
-    while i < m {
+    for i in at.i..m {
         let e = coord_at(ring, i);
         let verdict = judge(e, edge, bounds, verdicts);
         verdicts = verdict.verdicts;
@@ -119,10 +120,9 @@ fn skip_outside(ring: &[f64], m: usize, edge: Edge, bounds: TileBounds, at: Walk
                 verdicts,
             };
         }
-        i += 1;
     }
     Walk {
-        i,
+        i: m,
         len: at.len,
         verdicts,
     }

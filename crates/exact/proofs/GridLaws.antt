@@ -17,7 +17,8 @@ use borrow.Author.Tests.{lt-leb}
 use Rattle.binary64.proofs.Value.{mag-whole}
 use Rattle.binary64.proofs.Booleans.{both, never_both}
 use Rattle.binary64.specs.Scaled.{mag, sign, above_zero, below_zero}
-use Rattle.exact.specs.declared.grid.GridNumber.TheVariants.{Off, On}
+use Rattle.std.specs.Prelude.{Some, None}
+use Rattle.std.proofs.lemmas.Option.{cond_some, none-some}
 use Rattle.exact.specs.Grid.{on_grid, grid_steps, from_lowest}
 use Rattle.exact.specs.Internal.{steps_of, grid_number_of}
 
@@ -180,7 +181,7 @@ within_256 (inf false) p h = absurd (subst T (sym h) tt)
 within_256 (fin true m e) p h = absurd p
 within_256 (fin false m e) p h = within m e (leb-true (m * up e) (256 * down e) (sym (le_256 m e) ∙ h))
 
-pub beyond_256 : (x : Float) → T (lt (fin false 0 (pos 0)) x) → le x (fin false 1 (pos 8)) ≡ false → Off ≡ steps_of x
+pub beyond_256 : (x : Float) → T (lt (fin false 0 (pos 0)) x) → le x (fin false 1 (pos 8)) ≡ false → None ≡ steps_of x
 unfolding lt on_grid steps_of
 beyond_256 nan p h = absurd p
 beyond_256 (inf s) p h = refl
@@ -256,7 +257,7 @@ steps_back _ t (within m e l) = rw (back_is m e t l, le-leb (m * up e) (256 * do
 
 pub steps-answer : (x : Float) → T (fits binary64 x) → T (lt (fin false 0 (pos 0)) x) → le x (fin false 1 (pos 8)) ≡ true
     → (n : ℕ) → n ≡ to_unsigned 64 (times x) → (back : Float) → back ≡ of_int binary64 (pos n)
-    → cond (eq back (times x)) (On n) Off ≡ steps_of x
+    → cond (eq back (times x)) (Some n) None ≡ steps_of x
 unfolding steps_of
 steps-answer x t p h n r back b =
     let w = within_256 x p h in
@@ -264,13 +265,9 @@ steps-answer x t p h n r back b =
 
 -- ---- what an answer tells
 
-pub on-told : (b : Bool) (v n : ℕ) → cond b (On v) Off ≡ On n → (b ≡ true) × (v ≡ n)
-on-told true v n e = (refl, cc)
-on-told false v n e = absurd (let z : ◌≡◌ {A = ℕ} 0 1 = cc in omega arith)
-
-pub off_told : (b : Bool) (v : ℕ) → cond b (On v) Off ≡ Off → b ≡ false
-off_told true v e = absurd (let z : ◌≡◌ {A = ℕ} 0 1 = cc in omega arith)
-off_told false v e = refl
+pub none_told : {A : Type 0} (b : Bool) (v : A) → cond b (Some v) None ≡ None → b ≡ false
+none_told true v e = absurd (none-some v (sym e))
+none_told false v e = refl
 
 pub steps-small : (x : Float) → on_grid x ≡ true → grid_steps x ≤ 2 ^ 56
 unfolding on_grid grid_steps
@@ -281,9 +278,9 @@ steps-small (fin s m e) h =
     let a = div-add-mod' (m * up e * 2 ^ 48) (down e) in
     le_of_mul-le-mul_right {m = m * up e * 2 ^ 48 / down e} {n = 2 ^ 56} {k = down e} (omega (arith, a, l)) (down_pos e)
 
-pub told-small : (x : Float) (n : ℕ) → steps_of x ≡ On n → n ≤ 2 ^ 56
+pub told-small : (x : Float) (n : ℕ) → steps_of x ≡ Some n → n ≤ 2 ^ 56
 unfolding steps_of
-told-small x n e = let k = on-told (on_grid x) (grid_steps x) n e in omega (arith, steps-small x k.0, k.1)
+told-small x n e = let k = cond_some (on_grid x) (grid_steps x) n e in omega (arith, steps-small x k.0, k.1)
 
 -- ---- the ways out of `grid_number_of`
 
@@ -296,21 +293,21 @@ sign_above (fin true m e) p = absurd p
 sign_above (fin false m e) p = refl
 
 -- y is x, or x on the other side of 0: the steps are the same
-steps_off : (x y : Float) → on_grid y ≡ on_grid x → steps_of y ≡ Off → Off ≡ grid_number_of x
+steps_off : (x y : Float) → on_grid y ≡ on_grid x → steps_of y ≡ None → None ≡ grid_number_of x
 unfolding steps_of grid_number_of
-steps_off x y o e = rw (← o, off_told (on_grid y) (grid_steps y) e)
+steps_off x y o e = rw (← o, none_told (on_grid y) (grid_steps y) e)
 
-steps_on : (x y : Float) (n : ℕ) → on_grid y ≡ on_grid x → grid_steps y ≡ grid_steps x → steps_of y ≡ On n
-    → On (cond (sign x) (2 ^ 56 - n) (2 ^ 56 + n)) ≡ grid_number_of x
+steps_on : (x y : Float) (n : ℕ) → on_grid y ≡ on_grid x → grid_steps y ≡ grid_steps x → steps_of y ≡ Some n
+    → Some (cond (sign x) (2 ^ 56 - n) (2 ^ 56 + n)) ≡ grid_number_of x
 unfolding steps_of grid_number_of from_lowest
 steps_on x y n o s e =
-    let k = on-told (on_grid y) (grid_steps y) n e in
+    let k = cond_some (on_grid y) (grid_steps y) n e in
     rw (← o, ← s, k.0, k.1)
 
-pub above_off : (x : Float) → steps_of x ≡ Off → Off ≡ grid_number_of x
+pub above_off : (x : Float) → steps_of x ≡ None → None ≡ grid_number_of x
 above_off x e = steps_off x x refl e
 
-pub above_on : (x : Float) (n : ℕ) → T (lt (fin false 0 (pos 0)) x) → steps_of x ≡ On n → On (2 ^ 56 + n) ≡ grid_number_of x
+pub above_on : (x : Float) (n : ℕ) → T (lt (fin false 0 (pos 0)) x) → steps_of x ≡ Some n → Some (2 ^ 56 + n) ≡ grid_number_of x
 above_on x n p e = rw (sign_above x p) at (steps_on x x n refl refl e)
 
 -- the other side of 0
@@ -336,14 +333,14 @@ neg_grid nan = (refl, refl)
 neg_grid (inf s) = (refl, refl)
 neg_grid (fin s m e) = (refl, refl)
 
-pub below_off : (x : Float) → steps_of (neg x) ≡ Off → Off ≡ grid_number_of x
+pub below_off : (x : Float) → steps_of (neg x) ≡ None → None ≡ grid_number_of x
 below_off x e = steps_off x (neg x) (neg_grid x).0 e
 
-pub below_on : (x : Float) (n : ℕ) → lt x (fin false 0 (pos 0)) ≡ true → steps_of (neg x) ≡ On n → On (2 ^ 56 - n) ≡ grid_number_of x
+pub below_on : (x : Float) (n : ℕ) → lt x (fin false 0 (pos 0)) ≡ true → steps_of (neg x) ≡ Some n → Some (2 ^ 56 - n) ≡ grid_number_of x
 below_on x n p e = rw (sign_below x p) at (steps_on x (neg x) n (neg_grid x).0 (neg_grid x).1 e)
 
 -- both zeros
-pub zero-on : (x : Float) → eq x (fin false 0 (pos 0)) ≡ true → On (2 ^ 56) ≡ grid_number_of x
+pub zero-on : (x : Float) → eq x (fin false 0 (pos 0)) ≡ true → Some (2 ^ 56) ≡ grid_number_of x
 unfolding eq grid_number_of on_grid grid_steps from_lowest
 zero-on nan h = absurd (true≢false (sym h))
 zero-on (inf s) h = absurd (true≢false (sym h))
@@ -355,14 +352,14 @@ zero-on (fin s m e) h =
     ) in
     rw z (sides s (down e) (down_pos e))
   where
-    sides : (s : Bool) (d : ℕ) → 0 < d → On (2 ^ 56) ≡ cond (eqb (0 * 2 ^ 48 % d) 0 && leb 0 (256 * d))
-        (On (cond s (2 ^ 56 - 0 * 2 ^ 48 / d) (2 ^ 56 + 0 * 2 ^ 48 / d))) Off
+    sides : (s : Bool) (d : ℕ) → 0 < d → Some (2 ^ 56) ≡ cond (eqb (0 * 2 ^ 48 % d) 0 && leb 0 (256 * d))
+        (Some (cond s (2 ^ 56 - 0 * 2 ^ 48 / d) (2 ^ 56 + 0 * 2 ^ 48 / d))) None
     sides true d p = rw (zero-mod d, zero-div d, le-leb 0 (256 * d) (omega arith))
     sides false d p = rw (zero-mod d, zero-div d, le-leb 0 (256 * d) (omega arith))
 
 -- what is neither above nor below nor 0 is a NaN
 pub nan_off : (x : Float) → lt (fin false 0 (pos 0)) x ≡ false → lt x (fin false 0 (pos 0)) ≡ false → eq x (fin false 0 (pos 0)) ≡ false
-    → Off ≡ grid_number_of x
+    → None ≡ grid_number_of x
 unfolding lt eq grid_number_of on_grid
 nan_off nan p q h = refl
 nan_off (inf s) p q h = refl

@@ -5,50 +5,42 @@ use lib.Ieee.{Float}
 use Rattle.binary64.specs.Scaled.{sign}
 use Rattle.binary64.proofs.Booleans.{both}
 use Rattle.tile.specs.declared.Coord.{Coord}
-use Rattle.exact.specs.declared.grid.GridNumber.TheVariants.{Off, On}
-use Rattle.exact.specs.declared.grid.GridPoint.TheVariants as GridPoints
+use Rattle.std.specs.Prelude.{Some, None}
+use Rattle.std.proofs.lemmas.Option.{cond_some}
 use Rattle.exact.specs.declared.segments.Point.{Point}
 use Rattle.exact.specs.Segments.{Decides, shares_point}
 use Rattle.exact.specs.Grid.{on_grid, grid_steps, from_lowest, point_of, coord_on_grid, all_on_grid, MaySharePoint, may_share_point}
 use Rattle.exact.specs.Internal.{Bounded, grid_number_of, grid_point_of}
-use Rattle.exact.proofs.GridLaws.{on-told, off_told, steps-small}
+use Rattle.exact.proofs.GridLaws.{none_told, steps-small}
 use Rattle.exact.proofs.SegmentLaws.{shares_decided, shares_other_first, shares_other_way}
 
 -- ---- the ways out of `grid_point_of`
 
-pub x_off : (p : Coord) → grid_number_of p.x ≡ Off → GridPoints.Off ≡ grid_point_of p
+pub x_off : (p : Coord) → grid_number_of p.x ≡ None → None ≡ grid_point_of p
 unfolding grid_number_of grid_point_of coord_on_grid
-x_off p e = rw (off_told (on_grid p.x) (from_lowest p.x) e)
+x_off p e = rw (none_told (on_grid p.x) (from_lowest p.x) e)
 
-pub y_off : (p : Coord) → grid_number_of p.y ≡ Off → GridPoints.Off ≡ grid_point_of p
+pub y_off : (p : Coord) → grid_number_of p.y ≡ None → None ≡ grid_point_of p
 unfolding grid_number_of grid_point_of coord_on_grid
-y_off p e = rw (off_told (on_grid p.y) (from_lowest p.y) e, and-false (on_grid p.x))
+y_off p e = rw (none_told (on_grid p.y) (from_lowest p.y) e, and-false (on_grid p.x))
 
-pub both-on : (p : Coord) (a b : ℕ) → grid_number_of p.x ≡ On a → grid_number_of p.y ≡ On b
-    → GridPoints.At (record { x = a; y = b }) ≡ grid_point_of p
+pub both-on : (p : Coord) (a b : ℕ) → grid_number_of p.x ≡ Some a → grid_number_of p.y ≡ Some b
+    → Some (record { x = a; y = b }) ≡ grid_point_of p
 unfolding grid_number_of grid_point_of coord_on_grid point_of
 both-on p a b e f =
-    let j = on-told (on_grid p.x) (from_lowest p.x) a e in
-    let k = on-told (on_grid p.y) (from_lowest p.y) b f in
+    let j = cond_some (on_grid p.x) (from_lowest p.x) a e in
+    let k = cond_some (on_grid p.y) (from_lowest p.y) b f in
     rw (j.0, k.0, j.1, k.1)
 
 -- ---- what an answer tells
 
-at_told : (p : Coord) (q : Point) → grid_point_of p ≡ GridPoints.At q → (coord_on_grid p ≡ true) × (point_of p ≡ q)
+at_told : (p : Coord) (q : Point) → grid_point_of p ≡ Some q → (coord_on_grid p ≡ true) × (point_of p ≡ q)
 unfolding grid_point_of
-at_told p q e = go (coord_on_grid p) (point_of p) e
-  where
-    go : (b : Bool) (v : Point) → cond b (GridPoints.At v) GridPoints.Off ≡ GridPoints.At q → (b ≡ true) × (v ≡ q)
-    go true v e = (refl, cc)
-    go false v e = absurd (let z : ◌≡◌ {A = ℕ} 0 1 = cc in omega arith)
+at_told p q e = cond_some (coord_on_grid p) (point_of p) q e
 
-grid_point_off : (p : Coord) → grid_point_of p ≡ GridPoints.Off → coord_on_grid p ≡ false
+grid_point_off : (p : Coord) → grid_point_of p ≡ None → coord_on_grid p ≡ false
 unfolding grid_point_of
-grid_point_off p e = go (coord_on_grid p) (point_of p) e
-  where
-    go : (b : Bool) (v : Point) → cond b (GridPoints.At v) GridPoints.Off ≡ GridPoints.Off → b ≡ false
-    go true v e = absurd (let z : ◌≡◌ {A = ℕ} 0 1 = cc in omega arith)
-    go false v e = refl
+grid_point_off p e = none_told (coord_on_grid p) (point_of p) e
 
 whole-small : (x : Float) → on_grid x ≡ true → from_lowest x ≤ 2 ^ 57
 unfolding from_lowest
@@ -58,7 +50,7 @@ whole-small x h = go (sign x) (grid_steps x) (steps-small x h)
     go true n l = omega arith
     go false n l = omega arith
 
-pub at_bounded : (p : Coord) (q : Point) → grid_point_of p ≡ GridPoints.At q → Bounded q
+pub at_bounded : (p : Coord) (q : Point) → grid_point_of p ≡ Some q → Bounded q
 unfolding coord_on_grid point_of
 at_bounded p q e =
     let k = at_told p q e in
@@ -86,21 +78,21 @@ off_grid : (a b c d : Coord) → all_on_grid a b c d ≡ false → true ≡ may_
 unfolding may_share_point
 off_grid a b c d h = rw h
 
-pub first_off : (a b c d : Coord) → grid_point_of a ≡ GridPoints.Off → true ≡ may_share_point a b c d
+pub first_off : (a b c d : Coord) → grid_point_of a ≡ None → true ≡ may_share_point a b c d
 unfolding all_on_grid
 first_off a b c d e = off_grid a b c d (rw (grid_point_off a e))
 
-pub second_off : (a b c d : Coord) → grid_point_of b ≡ GridPoints.Off → true ≡ may_share_point a b c d
+pub second_off : (a b c d : Coord) → grid_point_of b ≡ None → true ≡ may_share_point a b c d
 second_off a b c d e = first_off b a c d e ∙ may_other_way b a c d
 
-pub third_off : (a b c d : Coord) → grid_point_of c ≡ GridPoints.Off → true ≡ may_share_point a b c d
+pub third_off : (a b c d : Coord) → grid_point_of c ≡ None → true ≡ may_share_point a b c d
 third_off a b c d e = first_off c d a b e ∙ may_other_first c d a b
 
-pub fourth_off : (a b c d : Coord) → grid_point_of d ≡ GridPoints.Off → true ≡ may_share_point a b c d
+pub fourth_off : (a b c d : Coord) → grid_point_of d ≡ None → true ≡ may_share_point a b c d
 fourth_off a b c d e = second_off c d a b e ∙ may_other_first c d a b
 
-pub all-on : (a b c d : Coord) (p q r s : Point) (v : Bool) → v ≡ shares_point p q r s → grid_point_of a ≡ GridPoints.At p
-    → grid_point_of b ≡ GridPoints.At q → grid_point_of c ≡ GridPoints.At r → grid_point_of d ≡ GridPoints.At s → v ≡ may_share_point a b c d
+pub all-on : (a b c d : Coord) (p q r s : Point) (v : Bool) → v ≡ shares_point p q r s → grid_point_of a ≡ Some p
+    → grid_point_of b ≡ Some q → grid_point_of c ≡ Some r → grid_point_of d ≡ Some s → v ≡ may_share_point a b c d
 unfolding may_share_point all_on_grid
 all-on a b c d p q r s v w e f g h =
     let i = at_told a p e in

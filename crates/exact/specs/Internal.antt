@@ -1,10 +1,6 @@
 -- What the functions of this crate say to each other. No contract of an entry point reaches it. Definitions only.
-use Rattle.std.specs.Prelude.{ℕ, ◌+◌, ◌*◌, ◌^◌, ◌<◌, ◌≤◌, cond, Float}
+use Rattle.std.specs.Prelude.{ℕ, ◌+◌, ◌*◌, ◌^◌, ◌<◌, ◌≤◌, cond, Float, Option, Some, None}
 use Rattle.tile.specs.declared.Coord.{Coord}
-use Rattle.exact.specs.declared.grid.GridNumber.{GridNumber}
-use Rattle.exact.specs.declared.grid.GridNumber.TheVariants.{Off, On}
-use Rattle.exact.specs.declared.grid.GridPoint.{GridPoint}
-use Rattle.exact.specs.declared.grid.GridPoint.TheVariants as GridPoints
 use Rattle.exact.specs.declared.segments.Point.{Point}
 use Rattle.exact.specs.declared.segments.Side.{Side}
 use Rattle.exact.specs.declared.segments.Side.TheVariants as Sides
@@ -41,13 +37,13 @@ side_of a b c = cond (is_left a b c) Sides.Left (cond (is_left b a c) Sides.Righ
 
 -- ---- numbers and coordinates, looked at one by one
 
--- the steps from 0
-unfoldable pub steps_of : Float → GridNumber
-steps_of x = cond (on_grid x) (On (grid_steps x)) Off
+-- the steps from 0, of a number on the grid
+unfoldable pub steps_of : Float → Option ℕ
+steps_of x = cond (on_grid x) (Some (grid_steps x)) None
 
--- the steps from -256
-unfoldable pub grid_number_of : Float → GridNumber
-grid_number_of x = cond (on_grid x) (On (from_lowest x)) Off
+-- the steps from -256, likewise
+unfoldable pub grid_number_of : Float → Option ℕ
+grid_number_of x = cond (on_grid x) (Some (from_lowest x)) None
 
-unfoldable pub grid_point_of : Coord → GridPoint
-grid_point_of p = cond (coord_on_grid p) (GridPoints.At (point_of p)) GridPoints.Off
+unfoldable pub grid_point_of : Coord → Option Point
+grid_point_of p = cond (coord_on_grid p) (Some (point_of p)) None

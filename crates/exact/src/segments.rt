@@ -1,5 +1,5 @@
 // Whether two closed segments between points of whole numbers share a point, exactly.
-ghost use Rattle.std.specs.Prelude.{◌≡◌, min, max};
+ghost use Rattle.std.specs.Prelude.{◌≡◌};
 ghost use Rattle.exact.specs.Segments as Segments;
 ghost use Rattle.exact.specs.Internal.{value, Carried, Bounded, side_of};
 
@@ -66,29 +66,11 @@ fn are_one_side(a: Point, b: Point, c: Point, d: Point) -> bool
     }
 }
 
-fn smaller(a: u64, b: u64) -> u64
-    ensures { result ≡ min a b }
-{
-    if b < a {
-        return b;
-    }
-    a
-}
-
-fn larger(a: u64, b: u64) -> u64
-    ensures { result ≡ max a b }
-{
-    if a < b {
-        return b;
-    }
-    a
-}
-
 // Whether the numbers from a to b and those from c to d are apart.
 fn are_ranges_apart(a: u64, b: u64, c: u64, d: u64) -> bool
     ensures { result ≡ Segments.ranges_apart a b c d }
 {
-    larger(a, b) < smaller(c, d) || larger(c, d) < smaller(a, b)
+    a.max(b) < c.min(d) || c.max(d) < a.min(b)
 }
 
 // Whether the boxes of the two segments are apart.

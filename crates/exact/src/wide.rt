@@ -4,8 +4,8 @@ ghost use Rattle.exact.specs.Internal as Internal;
 
 const BASE: u64 = 1_073_741_824;
 
-// high * 2^60 + middle * 2^30 + low
-#[derive(Clone, Copy)]
+// high * 2^60 + middle * 2^30 + low. Where carried, the order of the fields is that of the numbers.
+#[derive(Clone, Copy, PartialEq, Eq, PartialOrd, Ord)]
 pub struct Wide {
     pub high: u64,
     pub middle: u64,
@@ -50,11 +50,5 @@ pub fn is_less(v: Wide, w: Wide) -> bool
     requires { Internal.Carried v × Internal.Carried w }
     ensures { result ≡ nat_lt (Internal.value v) (Internal.value w) }
 {
-    if v.high != w.high {
-        return v.high < w.high;
-    }
-    if v.middle != w.middle {
-        return v.middle < w.middle;
-    }
-    v.low < w.low
+    v < w
 }

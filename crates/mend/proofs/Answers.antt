@@ -9,13 +9,12 @@ use lib.Dec.{ltb}
 use lib.Ieee.{Float}
 use lib.ListN.{length, take}
 use lib.Seq.{take_all}
+use Rattle.std.specs.Prelude.{Result, Ok, Err}
 use Rattle.tile.specs.declared.Coord.{Coord}
 use Rattle.tile.specs.Ring.{coords, flat, close}
 use Rattle.tile.specs.Internal.{Written}
 use Rattle.tile.proofs.Rings.{length-flat, length_front, close-most, written-front}
 use Rattle.sutherland_hodgman.specs.Growth.{most_coordinates}
-use Rattle.mend.specs.declared.MendAnswer.{MendAnswer}
-use Rattle.mend.specs.declared.MendAnswer.TheVariants.{Refused, Mended}
 use Rattle.mend.specs.declared.MendRefusal.{MendRefusal}
 use Rattle.mend.specs.declared.MendRefusal.TheVariants.{Lengths, Coordinates, Output, Short}
 use Rattle.mend.specs.Mend.{mend}
@@ -25,15 +24,15 @@ use Rattle.mend.proofs.Laws.{none_told, none_more, mend_again}
 use Rattle.mend.proofs.Walks.{closes}
 
 -- what the contract says of an answer and of the output afterwards
-abbrev pub Outcome : List Float → List Float → MendAnswer → List Float → Type 0
+abbrev pub Outcome : List Float → List Float → Result ℕ MendRefusal → List Float → Type 0
 Outcome s out answer out' = (answer ≡ mend_call_answer s out) × ((out' ≡ mend_call_output s out) × MendPromise answer out')
 
 module _ (s out : List Float) where
-  refused : (refusal : MendRefusal) → Refused refusal ≡ mend_call_answer s out → Outcome s out (Refused refusal) out
+  refused : (refusal : MendRefusal) → Err refusal ≡ mend_call_answer s out → Outcome s out (Err refusal) out
   unfolding mend_call_output
   refused refusal e = (e, (rw (← e), tt))
 
-  pub refused-lengths : length s % 2 ≡ 1 → Outcome s out (Refused Lengths) out
+  pub refused-lengths : length s % 2 ≡ 1 → Outcome s out (Err Lengths) out
   unfolding mend_call_answer
   refused-lengths e = refused Lengths (rw (eq-eqb _ _ e))
 
@@ -51,22 +50,22 @@ module _ (s out : List Float) where
     closed-most =
         omega (arith, count, close-most (coords (take (2 * (length s / 2)) s)), length_front s (length s / 2) (omega (arith, even)))
 
-    pub refused-coordinates : most_coordinates < m → Outcome s out (Refused Coordinates) out
+    pub refused-coordinates : most_coordinates < m → Outcome s out (Err Coordinates) out
     unfolding mend_call_answer
     refused-coordinates h = refused Coordinates (rw (ne_eqb _ _ even, closed-count, lt-ltb _ _ h))
 
     module _ (most : m ≤ most_coordinates) where
-      pub refused-output : length out < 2 * m → Outcome s out (Refused Output) out
+      pub refused-output : length out < 2 * m → Outcome s out (Err Output) out
       unfolding mend_call_answer
       refused-output h = refused Output (rw (ne_eqb _ _ even, closed-count, le-ltb _ _ most, lt-ltb _ _ h))
 
       module _ (room : 2 * m ≤ length out) where
         pub remaining : (t : Bool) → ltb (length (mended_ring s)) 4 ≡ t
-            → refused_if t Short (Mended (length (mended_ring s))) ≡ mend_call_answer s out
+            → refused_if t Short (Ok (length (mended_ring s))) ≡ mend_call_answer s out
         unfolding mend_call_answer
         remaining t e = rw (ne_eqb _ _ even, closed-count, le-ltb _ _ most, le-ltb _ _ room, e)
 
-        pub refused-few : m < 4 → Outcome s out (Refused Short) out
+        pub refused-few : m < 4 → Outcome s out (Err Short) out
         unfolding mended_ring
         refused-few h =
             refused Short (remaining true (lt-ltb (length (mended_ring s)) 4 (omega (arith, none_more (closed_ring s), closed-count))))
@@ -80,16 +79,16 @@ module _ (s out : List Float) where
           few_remain t few = rw (← same) (sym (few closing))
 
           pub is_mended : FewKept s (m - 1) false → (k : ℕ) (out' : List Float) → Written (mend (closed_by s (m - 1) closing)) out k out'
-              → Outcome s out (Mended k) out'
+              → Outcome s out (Ok k) out'
           unfolding mended_ring closed_ring mend_call_output
           is_mended few k out' w =
               let n : k ≡ length (mended_ring s) = w.count ∙ ap length same in
-              let a : Mended k ≡ mend_call_answer s out = rw n (remaining false (few_remain false few)) in
+              let a : Ok k ≡ mend_call_answer s out = rw n (remaining false (few_remain false few)) in
               let l : length (flat (mended_ring s)) ≡ 2 * k = length-flat (mended_ring s) ∙ rw n in
               let r : coords (take (2 * k) out') ≡ mended_ring s = written-front w ∙ same in
               (a, (w.numbers ∙ rw (same, ← a, l), rw r (none_told (closed_ring s), mend_again (coords s))))
 
-        pub refused_short : 4 ≤ m → FewKept s (m - 1) true → Outcome s out (Refused Short) out
+        pub refused_short : 4 ≤ m → FewKept s (m - 1) true → Outcome s out (Err Short) out
         refused_short four few =
             let c = closes s (length s / 2) m (omega (arith, even)) (omega (arith, four, closed-most)) count in
             refused Short (remaining true (few_remain c.0 c.1 true few))

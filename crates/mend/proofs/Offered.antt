@@ -8,17 +8,17 @@ use borrow.Author.Tests.{ltb-true, ltb-false, eqb-true, eqb-false}
 use lib.Dec.{ltb, eqb}
 use lib.Ieee.{Float}
 use lib.ListN.{length, take}
+use Rattle.std.specs.Prelude.{Ok, Err}
 use Rattle.tile.specs.Ring.{coords, close}
 use Rattle.sutherland_hodgman.specs.Growth.{most_coordinates}
-use Rattle.mend.specs.declared.MendAnswer.TheVariants.{Refused, Mended}
 use Rattle.mend.specs.declared.MendRefusal.{MendRefusal}
 use Rattle.mend.specs.declared.MendRefusal.TheVariants.{Lengths, Coordinates, Output, Short}
 use Rattle.mend.specs.MendCall.{closed_ring, mended_ring, mend_call_answer}
 use Rattle.mend.proofs.Answers.{closed-count, refused-lengths, refused-coordinates, refused-output, remaining}
 use Rattle.mend.proofs.Laws.{none_more}
 
-module _ (s out : List Float) (n : ℕ) (e : mend_call_answer s out ≡ Mended n) where
-  not-refused : (refusal : MendRefusal) → Refused refusal ≡ mend_call_answer s out → (4 ≤ n) × (n ≤ most_coordinates)
+module _ (s out : List Float) (n : ℕ) (e : mend_call_answer s out ≡ Ok n) where
+  not-refused : (refusal : MendRefusal) → Err refusal ≡ mend_call_answer s out → (4 ≤ n) × (n ≤ most_coordinates)
   not-refused refusal r = absurd (let h = r ∙ e in let z : ◌≡◌ {A = ℕ} 0 1 = cc in omega arith)
 
   -- a mended ring has at least 4 coordinates and at most 65,532

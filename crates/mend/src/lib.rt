@@ -23,25 +23,16 @@ pub enum MendRefusal {
     Short,
 }
 
-// The answer of a mending call: a refusal, or how many coordinates the mended ring has.
-#[derive(Clone, Copy)]
-pub enum MendAnswer {
-    Refused(MendRefusal),
-    Mended(usize),
-}
-
 // The position of the next coordinate kept behind the k-th, which is kept: the first that is not near it, or the closing one's, `end`.
 fn next_kept(ring: &[f64], k: usize, end: usize) -> usize
     requires { (2 * end ≤ length ring.now) × (k < end) }
     ensures { NextKept ring.now end k result }
 {
     let last = coord_at(ring, k);
-    let mut i = k + 1;
-    while i < end {
+    for i in k + 1..end {
         if !is_degenerate(last, coord_at(ring, i)) {
             return i;
         }
-        i += 1;
     }
     end
 }
@@ -85,31 +76,31 @@ fn write_kept(ring: &[f64], end: usize, closing: Coord, out: &mut [f64]) -> usiz
     kept + 1
 }
 
-// Mends a ring into the output. Whether four coordinates are kept is found before the first is written, so that a refusal changes nothing;
+// Mends a ring into the output, and answers how many coordinates it has then, or why it is refused. Whether four coordinates are kept is found before the first is written, so that a refusal changes nothing;
 // past the answer the output is unchanged. The logic has one NaN: a NaN stands exactly where the definition has one, and its bits are free,
 // also where the output is left unchanged.
-pub fn mend_ring(ring: &[f64], out: &mut [f64]) -> MendAnswer
+pub fn mend_ring(ring: &[f64], out: &mut [f64]) -> Result<usize, MendRefusal>
     ensures answer { result ≡ mend_call_answer ring.now out.old }
     ensures lent { out.new ≡ mend_call_output ring.now out.old }
     ensures promise { MendPromise result out.new }
 {
     if ring.len() % 2 == 1 {
-        return MendAnswer::Refused(MendRefusal::Lengths);
+        return Err(MendRefusal::Lengths);
     }
     let n = ring.len() / 2;
     let m = closed_count(ring, n);
     if MOST_COORDINATES < m {
-        return MendAnswer::Refused(MendRefusal::Coordinates);
+        return Err(MendRefusal::Coordinates);
     }
     if out.len() < 2 * m {
-        return MendAnswer::Refused(MendRefusal::Output);
+        return Err(MendRefusal::Output);
     }
     if m < 4 {
-        return MendAnswer::Refused(MendRefusal::Short);
+        return Err(MendRefusal::Short);
     }
     if few_kept(ring, m - 1) {
-        return MendAnswer::Refused(MendRefusal::Short);
+        return Err(MendRefusal::Short);
     }
     let closing = closing_coord(ring, n, m);
-    MendAnswer::Mended(write_kept(ring, m - 1, closing, out))
+    Ok(write_kept(ring, m - 1, closing, out))
 }

@@ -105,9 +105,8 @@ fn put_holes(
 {
     let mut placed = exterior;
     let mut at = 0usize;
-    let mut k = 0usize;
-    while k < lengths.len() {
-        let n = lengths[k] as usize;
+    for length in lengths {
+        let n = *length as usize;
         placed = put_hole(
             &coords[at..],
             n,
@@ -120,7 +119,6 @@ fn put_holes(
             placed,
         );
         at += 2 * n;
-        k += 1;
     }
     placed
 }
@@ -169,6 +167,7 @@ fn put_cut(
 }
 
 // An overlay is wanted, unless a coordinate is too large for it.
+#[tactic(auto, unfolding(clip::specs::Polygon::overlay_or_dropped))]
 fn overlay_or_dropped(coords: &[f64], lengths: &[u32], reason: Reason) -> PolygonAnswer
     requires { Lent lengths.now coords.now }
     ensures { result ≡ Polygon.answer_of (Polygon.overlay_or_dropped (closed_rings lengths.now coords.now) reason) }

@@ -7,8 +7,9 @@ use native.Mathlib.Omega.{arith}
 use lib.Dec.{ltb, eqb}
 use lib.Ieee.{Float}
 use lib.ListN.{length, take, drop, replicate, length-append, length-drop, drop_of_length-le}
-use lib.Seq.{take_at, take-append-le, take-length}
+use lib.Seq.{take_at, take-append-le, take-length, length-take-le}
 use borrow.Author.Tests.{ltb-false, eqb-false}
+use Rattle.std.specs.Prelude.{Result, Ok, Err}
 use Rattle.binary64.specs.Slices.{zeros, plus_zero}
 use Rattle.binary64.proofs.Booleans.{neither}
 use Rattle.binary64.proofs.Fill.{tail_part}
@@ -24,9 +25,6 @@ use Rattle.sutherland_hodgman.specs.Origins.{clip_origins}
 use Rattle.sutherland_hodgman.proofs.Offered.{B-le, clip_room, as_many}
 use Rattle.ring_calls.specs.declared.Refusal.{Refusal}
 use Rattle.ring_calls.specs.declared.Refusal.TheVariants.{Lengths, Coordinates, Scratch, Output}
-use Rattle.ring_calls.specs.declared.Check.{Check}
-use Rattle.ring_calls.specs.declared.Check.TheVariants.{Fails, Passes}
-use Rattle.ring_calls.specs.declared.RingAnswer.TheVariants.{Clipped}
 use Rattle.ring_calls.specs.Internal.{PaddedCut, PaddedOrigins}
 use Rattle.ring_calls.specs.RingCall.{fails_if, ring_call_room, ring_call_origin_room, check_ring, RingSlices, ring_slices}
 use Rattle.ring_calls.specs.RingCall.{ring_call_check, ring_answered, ring_call_answer, ring_call_slices}
@@ -42,11 +40,11 @@ pub record Cuttable (numbers scratch origin_scratch out out_origins : ℕ) : Typ
   pub output-room : 2 * B (numbers / 2) ≤ out
   pub origin-output-room : B (numbers / 2) ≤ out_origins
 
-pub not-refused : (t : Bool) (r : Refusal) (c : Check) → fails_if t r c ≡ Passes → (t ≡ false) × (c ≡ Passes)
+pub not-refused : (t : Bool) (r : Refusal) (c : Result (Unit {0}) Refusal) → fails_if t r c ≡ Ok tt → (t ≡ false) × (c ≡ Ok tt)
 not-refused true r c e = absurd (let z : ◌≡◌ {A = ℕ} 0 1 = cc in omega arith)
 not-refused false r c e = (refl, e)
 
-pub passes_cuttable : (numbers scratch origin_scratch out out_origins : ℕ) → check_ring numbers scratch origin_scratch out out_origins ≡ Passes
+pub passes_cuttable : (numbers scratch origin_scratch out out_origins : ℕ) → check_ring numbers scratch origin_scratch out out_origins ≡ Ok tt
     → Cuttable numbers scratch origin_scratch out out_origins
 unfolding check_ring ring_call_room ring_call_origin_room
 passes_cuttable numbers scratch origin_scratch out out_origins e =
@@ -70,21 +68,8 @@ passes_cuttable numbers scratch origin_scratch out out_origins e =
 
 -- ---- cut, and the rest cleared
 
-module _ (ring : List Float) (numbers : 2 * (length ring / 2) ≡ length ring) where
-  pub whole-ring : coords (take (2 * (length ring / 2)) ring) ≡ coords ring
-  whole-ring = rw (numbers, take-length ring)
-
-  -- the cut of the ring as lent, in a part of the output as long as 22 asks
-  pub lent-padded : (bounds : TileBounds) (room r : ℕ) (part : List Float) → room ≡ ring_call_room (length ring)
-      → PaddedCut bounds (coords (take (2 * (length ring / 2)) ring)) room r part
-      → PaddedCut bounds (coords ring) (ring_call_room (length ring)) r part
-  lent-padded bounds room r part e c = rw (whole-ring, e) at c
-
-  -- its origins, likewise
-  pub lent-origins : (bounds : TileBounds) (room r : ℕ) (part : List ℕ) → room ≡ ring_call_origin_room (length ring)
-      → PaddedOrigins bounds (coords (take (2 * (length ring / 2)) ring)) room r part
-      → PaddedOrigins bounds (coords ring) (ring_call_origin_room (length ring)) r part
-  lent-origins bounds room r part e c = rw (whole-ring, e) at c
+pub whole-ring : (ring : List Float) → 2 * (length ring / 2) ≡ length ring → coords (take (2 * (length ring / 2)) ring) ≡ coords ring
+whole-ring ring numbers = rw (numbers, take-length ring)
 
 -- a slice at whose front so many elements are the answer, and whose rest is cleared
 pub rest_cleared : {A : Type 0} (zero : A) (new part fill : List A) (used : ℕ) → take used part ≡ new
@@ -134,33 +119,58 @@ cleared zero m n l h e = h ∙ rw e
 -- ---- the call
 
 module _ (ring : List Float) (bounds : TileBounds) (lent : RingSlices) where
-  pub refused-slices : (r : Refusal) → ring_call_check ring lent ≡ Fails r → lent ≡ ring_call_slices ring bounds lent
+  pub refused-slices : (r : Refusal) → ring_call_check ring lent ≡ Err r → lent ≡ ring_call_slices ring bounds lent
   unfolding ring_call_slices
   refused-slices r e = rw e
 
-  pub clipped_slices : (scratch part : List Float) (origin_scratch origins : List ℕ) (r : ℕ) → ring_call_check ring lent ≡ Passes
-      → scratch ≡ zeros (length lent.scratch) → origin_scratch ≡ replicate (length lent.origin_scratch) 0
-      → PaddedCut bounds (coords ring) (ring_call_room (length ring)) r part
-      → PaddedOrigins bounds (coords ring) (ring_call_origin_room (length ring)) r origins
-      → ring_slices scratch origin_scratch (part ++ drop (ring_call_room (length ring)) lent.output)
-      (origins ++ drop (ring_call_origin_room (length ring)) lent.out_origins) ≡ ring_call_slices ring bounds lent
-  unfolding ring_call_slices
-  clipped_slices scratch part origin_scratch origins r e h ho c o =
-      let cut = clip_ring bounds (coords ring) in
-      let n : length (flat cut) ≡ 2 * r = length-flat cut ∙ rw c.count in
-      let m : length (clip_origins bounds (coords ring)) ≡ r = as_many bounds (coords ring) ∙ sym c.count in
-      rw (e, h, ho, c.numbers, o, n, m, append_assoc, append_assoc)
+  -- where no check fails, and the ring is cut in the parts of the outputs that 22 asks for
+  module _ (passes : ring_call_check ring lent ≡ Ok tt) (room : ℕ) (is : room ≡ B (length ring / 2)) (r : ℕ) (part : List Float)
+      (origins : List ℕ)
+      (cut : PaddedCut bounds (coords (take (2 * (length ring / 2)) ring)) (length (take (2 * room) lent.output)) r part)
+      (traced : PaddedOrigins bounds (coords (take (2 * (length ring / 2)) ring)) (length (take room lent.out_origins)) r origins) where
+    whole : coords (take (2 * (length ring / 2)) ring) ≡ coords ring
+    whole = whole-ring ring (passes_cuttable (length ring) _ _ _ _ passes).even
+
+    cut-whole : PaddedCut bounds (coords ring) (2 * room) r part
+    cut-whole =
+        let p = passes_cuttable (length ring) _ _ _ _ passes in
+        let l = length-take-le (2 * room) lent.output (omega (arith, is, p.output-room)) in
+        rw (whole, l) at cut
+
+    traced-whole : PaddedOrigins bounds (coords ring) room r origins
+    traced-whole =
+        let p = passes_cuttable (length ring) _ _ _ _ passes in
+        let l = length-take-le room lent.out_origins (omega (arith, is, p.origin-output-room)) in
+        rw (whole, l) at traced
+
+    pub clipped-answer : Ok r ≡ ring_call_answer ring bounds lent
+    unfolding ring_call_answer
+    clipped-answer = rw passes (ap Ok cut-whole.count)
+
+    pub clipped_slices : (scratch : List Float) (origin_scratch : List ℕ) → scratch ≡ zeros (length lent.scratch)
+        → origin_scratch ≡ replicate (length lent.origin_scratch) 0
+        → ring_slices scratch origin_scratch (part ++ drop (2 * room) lent.output) (origins ++ drop room lent.out_origins)
+        ≡ ring_call_slices ring bounds lent
+    unfolding ring_call_slices ring_call_room ring_call_origin_room
+    clipped_slices scratch origin_scratch h ho =
+        let k = cut-whole.count in
+        let n : length (flat (clip_ring bounds (coords ring))) ≡ 2 * r = length-flat (clip_ring bounds (coords ring)) ∙ rw k in
+        let m : length (clip_origins bounds (coords ring)) ≡ r = as_many bounds (coords ring) ∙ sym k in
+        rw (passes, h, ho, cut-whole.numbers, traced-whole, n, m, is, append_assoc, append_assoc)
+
+    pub clipped-promise : Promise bounds (coords ring) (coords (take (2 * r) (part ++ drop (2 * room) lent.output)))
+    clipped-promise = padded-front _ cut-whole
 
   -- a ring call answers few coordinates
-  pub answer-few : (n : ℕ) → ring_call_answer ring bounds lent ≡ Clipped n → n ≤ 8 * most_coordinates
+  pub answer-few : (n : ℕ) → ring_call_answer ring bounds lent ≡ Ok n → n ≤ 8 * most_coordinates
   unfolding ring_call_answer
   answer-few n e = go (ring_call_check ring lent) (passes_cuttable (length ring) _ _ _ _) e
     where
-      go : (c : Check) → (c ≡ Passes → Cuttable (length ring) (length lent.scratch) (length lent.origin_scratch)
+      go : (c : Result (Unit {0}) Refusal) → (c ≡ Ok tt → Cuttable (length ring) (length lent.scratch) (length lent.origin_scratch)
           (length lent.output) (length lent.out_origins))
-          → ring_answered c (length (clip_ring bounds (coords ring))) ≡ Clipped n → n ≤ 8 * most_coordinates
-      go (Fails r) h q = absurd (let z : ◌≡◌ {A = ℕ} 0 1 = cc in omega arith)
-      go Passes h q =
+          → ring_answered c (length (clip_ring bounds (coords ring))) ≡ Ok n → n ≤ 8 * most_coordinates
+      go (Err r) h q = absurd (let z : ◌≡◌ {A = ℕ} 0 1 = cc in omega arith)
+      go (Ok tt) h q =
           let k = h refl in
           let m : length (clip_ring bounds (coords ring)) ≡ n = cc in
           let l : length (coords ring) ≡ length ring / 2 = length-coords (length ring / 2) ring (sym k.even) in

@@ -8,9 +8,7 @@ ghost use Rattle.sutherland_hodgman.specs.Internal.{CutterRoom, OriginRoom};
 ghost use Rattle.ring_calls.specs.RingCall.{check_ring, ring_slices, ring_call_answer, ring_call_slices, RingCallPromise};
 ghost use Rattle.ring_calls.specs.Internal.{PaddedCut, PaddedOrigins};
 
-use binary64::slices::clear;
 use sutherland_hodgman::growth::{MOST_COORDINATES, room_for};
-use sutherland_hodgman::origins::clear_origins;
 use sutherland_hodgman::{clip_three_edges, clip_top};
 use tile::TileBounds;
 
@@ -23,20 +21,6 @@ pub enum Refusal {
     Output,
 }
 
-// The answer of a ring call: a refusal, or how many coordinates the cut ring has.
-#[derive(Clone, Copy)]
-pub enum RingAnswer {
-    Refused(Refusal),
-    Clipped(usize),
-}
-
-// Whether there is a refusal.
-#[derive(Clone, Copy)]
-pub enum Check {
-    Fails(Refusal),
-    Passes,
-}
-
 // The refusals of a ring call, in their order, by the count of numbers and the lengths of the other slices.
 pub fn check_ring(
     numbers: usize,
@@ -44,30 +28,30 @@ pub fn check_ring(
     origin_scratch: usize,
     out: usize,
     out_origins: usize,
-) -> Check
+) -> Result<(), Refusal>
     ensures { result ≡ check_ring numbers scratch origin_scratch out out_origins }
 {
     if numbers % 2 == 1 {
-        return Check::Fails(Refusal::Lengths);
+        return Err(Refusal::Lengths);
     }
     let n = numbers / 2;
     if MOST_COORDINATES < n {
-        return Check::Fails(Refusal::Coordinates);
+        return Err(Refusal::Coordinates);
     }
     let room = room_for(n);
     if scratch < 2 * room {
-        return Check::Fails(Refusal::Scratch);
+        return Err(Refusal::Scratch);
     }
     if origin_scratch < room {
-        return Check::Fails(Refusal::Scratch);
+        return Err(Refusal::Scratch);
     }
     if out < 2 * room {
-        return Check::Fails(Refusal::Output);
+        return Err(Refusal::Output);
     }
     if out_origins < room {
-        return Check::Fails(Refusal::Output);
+        return Err(Refusal::Output);
     }
-    Check::Passes
+    Ok(())
 }
 
 // Cuts the ring of n vertices at the front of a slice as `clip_ring` does, and fills the output past the cut with zeros, and the slice of
@@ -90,12 +74,12 @@ fn clip_padded(
     let bottom = clip_three_edges(ring, n, bounds, scratch, origin_scratch, out, out_origins);
     let len = clip_top(scratch, origin_scratch, bottom, bounds, out, out_origins);
     let used = 2 * len;
-    clear(&mut out[used..]);
-    clear_origins(&mut out_origins[len..]);
+    out[used..].fill(0.0);
+    out_origins[len..].fill(0);
     len
 }
 
-// `clip_ring` on the ring as lent, not closed beforehand. A refusal changes nothing lent; a success fills the scratch slices with zeros,
+// `clip_ring` on the ring as lent, not closed beforehand: how many coordinates the cut ring has, or why it is refused. A refusal changes nothing lent; a success fills the scratch slices with zeros,
 // whole, and the output past the answer up to what 22 asks, and leaves the output beyond that unchanged; so it does with the output of the
 // origins. The logic has one NaN: a NaN stands exactly where the definition has one, and its bits are free, also in a slice that is left
 // unchanged.
@@ -106,7 +90,7 @@ pub fn ring(
     origin_scratch: &mut [u16],
     out: &mut [f64],
     out_origins: &mut [u16],
-) -> RingAnswer
+) -> Result<usize, Refusal>
     ensures answer { result ≡ ring_call_answer ring.now bounds
         (ring_slices scratch.old origin_scratch.old out.old out_origins.old) }
     ensures lent { ring_slices scratch.new origin_scratch.new out.new out_origins.new
@@ -114,30 +98,26 @@ pub fn ring(
         (ring_slices scratch.old origin_scratch.old out.old out_origins.old) }
     ensures promise { RingCallPromise ring.now bounds result out.new }
 {
-    match check_ring(
+    check_ring(
         ring.len(),
         scratch.len(),
         origin_scratch.len(),
         out.len(),
         out_origins.len(),
-    ) {
-        Check::Fails(refusal) => RingAnswer::Refused(refusal),
-        Check::Passes => {
-            let n = ring.len() / 2;
-            let origin_room = room_for(n);
-            let room = 2 * origin_room;
-            let len = clip_padded(
-                ring,
-                n,
-                bounds,
-                scratch,
-                origin_scratch,
-                &mut out[..room],
-                &mut out_origins[..origin_room],
-            );
-            clear(scratch);
-            clear_origins(origin_scratch);
-            RingAnswer::Clipped(len)
-        }
-    }
+    )?;
+    let n = ring.len() / 2;
+    let origin_room = room_for(n);
+    let room = 2 * origin_room;
+    let len = clip_padded(
+        ring,
+        n,
+        bounds,
+        scratch,
+        origin_scratch,
+        &mut out[..room],
+        &mut out_origins[..origin_room],
+    );
+    scratch.fill(0.0);
+    origin_scratch.fill(0);
+    Ok(len)
 }

@@ -1,16 +1,16 @@
 -- The rings of a lent polygon from the k-th on, whose numbers start at a place of the slice: one ring further, and past the last. Assumes
 -- nothing.
 use mathlib.Core.Path.{◌≡◌, refl, ap}
-use mathlib.Core.Bool.{Bool, true, false, cond, ◌||◌}
+use mathlib.Core.Bool.{false, ◌||◌}
 use mathlib.Core.List.{List, [], ◌∷◌}
-use Prim.Native.Nat.{ℕ, suc, ◌+◌, ◌*◌, ◌-◌, ◌^◌, ◌<◌, ◌≤◌}
+use Prim.Native.Nat.{ℕ, suc, ◌+◌, ◌*◌, ◌^◌, ◌<◌, ◌≤◌, max}
 use native.Mathlib.Numerals.{add-one}
 use native.Mathlib.Omega.{arith}
-use borrow.Author.Tests.{ltb-true, ltb-false}
-use lib.Dec.{ltb}
 use lib.Ieee.{Float}
 use lib.ListN.{length, get_or, take, drop, drop_of_length-le}
 use lib.Seq.{drop-cons, drop-drop}
+use Rattle.std.specs.List.{sum_by}
+use Rattle.std.proofs.lemmas.List.Recursion.{is_sum_by}
 use Rattle.tile.specs.declared.Coord.{Coord}
 use Rattle.tile.specs.Ring.{coords, close}
 use Rattle.sutherland_hodgman.specs.Growth.{most_coordinates}
@@ -18,7 +18,7 @@ use Rattle.sutherland_hodgman.proofs.Offered.{B-le}
 use Rattle.rings.specs.declared.rectangle.Rect.{Rect}
 use Rattle.rings.specs.Rectangle.{with_ring, with_rings}
 use Rattle.rings.specs.Representable.{any_huge, any_huge_ring}
-use Rattle.rings.specs.LentRings.{sum, closed_rings, total, larger, largest, ring_room}
+use Rattle.rings.specs.LentRings.{sum, closed_rings, total, largest, ring_room}
 use Rattle.rings.specs.Internal.{Lent}
 use Rattle.rings.proofs.Closing.{rect_close, huge-close}
 
@@ -50,6 +50,11 @@ module _ (lengths : List ℕ) (s : List Float) (k at : ℕ) (h : k < length leng
   pub left_next : Left lengths s k at → Left lengths s (k + 1) (at + 2 * get_or lengths k 0)
   left_next l = record { rings = omega arith; numbers = omega (arith, l.numbers, sum_step lengths k h) }
 
+-- the sum is std's
+pub sum_std : (ns : List ℕ) → sum ns ≡ sum_by (λ n. n) ns
+unfolding sum
+sum_std = is_sum_by sum (λ n. n) refl (λ _ _. refl)
+
 pub rings_end : (lengths : List ℕ) (s : List Float) (k : ℕ) → length lengths ≤ k → closed_rings (drop k lengths) s ≡ []
 unfolding closed_rings
 rings_end lengths s k h = rw (drop_of_length-le lengths h)
@@ -68,30 +73,14 @@ module _ (f : List Coord → ℕ) (lengths : List ℕ) (s : List Float) (k : ℕ
   total_end at h = rw (rings_end lengths (drop at s) k h)
 
 -- and the largest
-larger-sum : (a b : ℕ) → larger a b ≡ a + (b - a)
-larger-sum a b = go (ltb a b) refl
-  where
-    go : (t : Bool) → ltb a b ≡ t → cond t b a ≡ a + (b - a)
-    go true e = omega (arith, ltb-true a b e)
-    go false e = omega (arith, ltb-false a b e)
+pub larger_least : (a b : ℕ) → (a ≤ max a b) × (b ≤ max a b)
+larger_least a b = (omega arith, omega arith)
 
-pub larger_assoc : (a b c : ℕ) → larger a (larger b c) ≡ larger (larger a b) c
-larger_assoc a b c = omega (arith, larger-sum a (larger b c), larger-sum b c, larger-sum (larger a b) c, larger-sum a b)
-
-pub larger_least : (a b : ℕ) → (a ≤ larger a b) × (b ≤ larger a b)
-larger_least a b = let e = larger-sum a b in (omega arith, omega arith)
-
-pub larger-most : (m a b : ℕ) → a ≤ m → b ≤ m → larger a b ≤ m
-larger-most m a b ha hb = omega (arith, larger-sum a b)
-
-pub larger-none : (a : ℕ) → larger 0 a ≡ a
-larger-none a = omega (arith, larger-sum 0 a)
-
-pub larger-zero : (a : ℕ) → larger a 0 ≡ a
-larger-zero a = omega (arith, larger-sum a 0)
+pub larger-most : (m a b : ℕ) → a ≤ m → b ≤ m → max a b ≤ m
+larger-most m a b ha hb = omega arith
 
 module _ (f : List Coord → ℕ) (lengths : List ℕ) (s : List Float) (k : ℕ) where
-  pub largest_step : (at : ℕ) → k < length lengths → largest f (closed_rings (drop k lengths) (drop at s)) ≡ larger
+  pub largest_step : (at : ℕ) → k < length lengths → largest f (closed_rings (drop k lengths) (drop at s)) ≡ max
       (f (close (coords (take (2 * get_or lengths k 0) (drop at s)))))
       (largest f (closed_rings (drop (k + 1) lengths) (drop (at + 2 * get_or lengths k 0) s)))
   unfolding largest
@@ -143,7 +132,7 @@ sum_below (n ∷ ns) h = let e = sum_below ns (λ i. h (suc i)) in let m = h 0 i
 pub largest-total : (f : List Coord → ℕ) (rings : List (List Coord)) → largest f rings ≤ total f rings
 unfolding largest total
 largest-total f [] = omega arith
-largest-total f (r ∷ rings) = let e = largest-total f rings in let l = larger-sum (f r) (largest f rings) in omega arith
+largest-total f (r ∷ rings) = let e = largest-total f rings in omega arith
 
 pub rooms_below : (rings : List (List Coord)) → total length rings ≤ most_coordinates → total ring_room rings ≤ length rings
     * (8 * most_coordinates)

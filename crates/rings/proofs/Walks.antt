@@ -10,7 +10,7 @@ use lib.Seq.{drop-cons}
 use Rattle.tile.specs.declared.Coord.{Coord}
 use Rattle.tile.specs.declared.TileBounds.{TileBounds}
 use Rattle.tile.specs.declared.Edge.{Edge}
-use Rattle.rings.specs.declared.bridge.Bridge.TheVariants.{None, Along}
+use Rattle.std.specs.Prelude.{None, Some}
 use Rattle.rings.specs.Bridge.{bridge_of, first_bridge}
 use Rattle.rings.specs.Representable.{huge_coord, any_huge}
 
@@ -31,17 +31,17 @@ huge-none r i h = rw (drop_of_length-le r h)
 
 -- ---- bridges
 
-module _ (b : TileBounds) (r : List Coord) (i : ℕ) (z : Coord) (h : suc i < length r) where
-  two : drop i r ≡ get_or r i z ∷ get_or r (suc i) z ∷ drop (suc (suc i)) r
-  two = rw (drop-cons r i z (omega arith), drop-cons r (suc i) z h)
+module _ (b : TileBounds) (r : List Coord) (i k : ℕ) (z : Coord) (e : k ≡ i + 1) (h : k < length r) where
+  two : drop i r ≡ get_or r i z ∷ get_or r k z ∷ drop (suc k) r
+  two = rw (e, add-one, drop-cons r i z (omega arith), drop-cons r (suc i) z (omega arith))
 
-  pub bridge_here : (l : Edge) → bridge_of b (get_or r i z) (get_or r (i + 1) z) ≡ Along l → first_bridge b (drop i r) ≡ Along l
+  pub bridge_here : (l : Edge) → bridge_of b (get_or r i z) (get_or r k z) ≡ Some l → first_bridge b (drop i r) ≡ Some l
   unfolding first_bridge
-  bridge_here l e = let f = rw add-one at e in rw (two, f)
+  bridge_here l f = rw (two, f)
 
-  pub bridge_later : bridge_of b (get_or r i z) (get_or r (i + 1) z) ≡ None → first_bridge b (drop i r) ≡ first_bridge b (drop (i + 1) r)
+  pub bridge_later : bridge_of b (get_or r i z) (get_or r k z) ≡ None → first_bridge b (drop i r) ≡ first_bridge b (drop k r)
   unfolding first_bridge
-  bridge_later e = let f = rw add-one at e in rw (two, f, add-one) (rw (drop-cons r (suc i) z h))
+  bridge_later f = rw (two, f) (rw (drop-cons r k z h))
 
 pub bridge_none : (b : TileBounds) (r : List Coord) (i : ℕ) → length r ≤ suc i → first_bridge b (drop i r) ≡ None
 unfolding first_bridge

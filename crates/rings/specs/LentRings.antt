@@ -1,6 +1,6 @@
 -- The rings of a polygon that is lent as x, y numbers, ring behind ring, and their lengths; what the refusals measure of them (document 01,
 -- "Frames"). Definitions only.
-use Rattle.std.specs.Prelude.{cond, List, [], ◌∷◌, ℕ, ◌+◌, ◌*◌, ltb, Float, length, get_or, take, drop}
+use Rattle.std.specs.Prelude.{List, [], ◌∷◌, ℕ, ◌+◌, ◌*◌, max, Float, length, get_or, take, drop}
 use Rattle.tile.specs.declared.Coord.{Coord}
 use Rattle.tile.specs.Ring.{coords, close}
 use Rattle.sutherland_hodgman.specs.Growth.{B}
@@ -27,12 +27,9 @@ total f [] = 0
 total f (a ∷ others) = f a + total f others
 
 -- and the largest
-abbrev pub larger : ℕ → ℕ → ℕ
-larger m n = cond (ltb m n) n m
-
 unfoldable pub largest : (List Coord → ℕ) → List (List Coord) → ℕ
 largest f [] = 0
-largest f (r ∷ rs) = larger (f r) (largest f rs)
+largest f (r ∷ rs) = max (f r) (largest f rs)
 
 -- the room of a ring, in coordinates: "Ring lengths are taken after closing in B"
 abbrev pub ring_room : List Coord → ℕ

@@ -9,13 +9,6 @@ use box_pairs::cross::is_degenerate;
 use tile::ring::coord_at;
 use tile::{Coord, Edge, TileBounds};
 
-// No edge along a bound, or one, and the bound.
-#[derive(Clone, Copy)]
-pub enum Bridge {
-    None,
-    Along(Edge),
-}
-
 fn both_near(a: f64, b: f64, bound: f64) -> bool
     ensures { result ≡ (near a bound && near b bound) }
 {
@@ -23,6 +16,7 @@ fn both_near(a: f64, b: f64, bound: f64) -> bool
 }
 
 // Whether both ends of the edge from p to q are near one bound.
+#[tactic(auto, unfolding(crate::specs::Bridge::runs_along))]
 fn runs_along(p: Coord, q: Coord, edge: Edge, bounds: TileBounds) -> bool
     ensures { result ≡ Bridges.runs_along edge bounds p q }
 {
@@ -34,42 +28,30 @@ fn runs_along(p: Coord, q: Coord, edge: Edge, bounds: TileBounds) -> bool
     }
 }
 
-// The bound that the edge from p to q runs along, if any.
-fn bridge_of(p: Coord, q: Coord, bounds: TileBounds) -> Bridge
+// The bound that the edge from p to q runs along, if any: the first of the four.
+fn bridge_of(p: Coord, q: Coord, bounds: TileBounds) -> Option<Edge>
     ensures { result ≡ Bridges.bridge_of bounds p q }
 {
     if is_degenerate(p, q) {
-        return Bridge::None;
+        return None;
     }
-    if runs_along(p, q, Edge::Left, bounds) {
-        return Bridge::Along(Edge::Left);
+    for edge in [Edge::Left, Edge::Right, Edge::Bottom, Edge::Top] {
+        if runs_along(p, q, edge, bounds) {
+            return Some(edge);
+        }
     }
-    if runs_along(p, q, Edge::Right, bounds) {
-        return Bridge::Along(Edge::Right);
-    }
-    if runs_along(p, q, Edge::Bottom, bounds) {
-        return Bridge::Along(Edge::Bottom);
-    }
-    if runs_along(p, q, Edge::Top, bounds) {
-        return Bridge::Along(Edge::Top);
-    }
-    Bridge::None
+    None
 }
 
-// The first bridge of the ring of n coordinates at the front of a slice.
-pub fn first_bridge(ring: &[f64], n: usize, bounds: TileBounds) -> Bridge
+// The first bridge of the ring of n coordinates at the front of a slice, and the bound that it runs along.
+pub fn first_bridge(ring: &[f64], n: usize, bounds: TileBounds) -> Option<Edge>
     requires { 2 * n ≤ length ring.now }
     ensures { result ≡ Bridges.first_bridge bounds (coords (take (2 * n) ring.now)) }
 {
-    let mut k = 0usize;
-    while k + 1 < n {
-        let p = coord_at(ring, k);
-        let q = coord_at(ring, k + 1);
-        let found = bridge_of(p, q, bounds);
-        if let Bridge::Along(edge) = found {
-            return Bridge::Along(edge);
+    for k in 1..n {
+        if let Some(edge) = bridge_of(coord_at(ring, k - 1), coord_at(ring, k), bounds) {
+            return Some(edge);
         }
-        k += 1;
     }
-    Bridge::None
+    None
 }

@@ -26,13 +26,7 @@ pub fn lent_count(lengths: &[u32]) -> usize
     requires { length lengths.now ≤ LentRings.most_rings }
     ensures { result ≡ LentRings.sum lengths.now }
 {
-    let mut count = 0usize;
-    let mut k = 0usize;
-    while k < lengths.len() {
-        count += lengths[k] as usize;
-        k += 1;
-    }
-    count
+    lengths.iter().map(|n| *n as usize).sum()
 }
 
 // How many coordinates the rings have, closed.
@@ -42,23 +36,12 @@ pub fn closed_sum(coords: &[f64], lengths: &[u32]) -> usize
 {
     let mut count = 0usize;
     let mut at = 0usize;
-    let mut k = 0usize;
-    while k < lengths.len() {
-        let n = lengths[k] as usize;
+    for length in lengths {
+        let n = *length as usize;
         count += closed_count(&coords[at..], n);
         at += 2 * n;
-        k += 1;
     }
     count
-}
-
-fn larger(m: usize, n: usize) -> usize
-    ensures { result ≡ LentRings.larger m n }
-{
-    if m < n {
-        return n;
-    }
-    m
 }
 
 // The room for cutting the rings, closed.
@@ -69,14 +52,12 @@ pub fn room_of(coords: &[f64], lengths: &[u32]) -> RoomNeeded
     let mut largest = 0usize;
     let mut all = 0usize;
     let mut at = 0usize;
-    let mut k = 0usize;
-    while k < lengths.len() {
-        let n = lengths[k] as usize;
+    for length in lengths {
+        let n = *length as usize;
         let room = room_for(closed_count(&coords[at..], n));
-        largest = larger(largest, room);
+        largest = largest.max(room);
         all += room;
         at += 2 * n;
-        k += 1;
     }
     RoomNeeded { largest, all }
 }
@@ -88,12 +69,10 @@ pub fn polygon_rect_all_rings(coords: &[f64], lengths: &[u32]) -> Rect
 {
     let mut rect = Rect::Nothing;
     let mut at = 0usize;
-    let mut k = 0usize;
-    while k < lengths.len() {
-        let n = lengths[k] as usize;
+    for length in lengths {
+        let n = *length as usize;
         rect = with_ring(rect, &coords[at..], n);
         at += 2 * n;
-        k += 1;
     }
     rect
 }
@@ -104,14 +83,12 @@ pub fn has_huge_ring(coords: &[f64], lengths: &[u32]) -> bool
     ensures { result ≡ any_huge_ring (LentRings.closed_rings lengths.now coords.now) }
 {
     let mut at = 0usize;
-    let mut k = 0usize;
-    while k < lengths.len() {
-        let n = lengths[k] as usize;
+    for length in lengths {
+        let n = *length as usize;
         if has_huge(&coords[at..], n) {
             return true;
         }
         at += 2 * n;
-        k += 1;
     }
     false
 }

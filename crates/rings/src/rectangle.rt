@@ -24,6 +24,7 @@ pub fn is_finite_coord(p: Coord) -> bool
 }
 
 // The rectangle with one more coordinate.
+#[tactic(auto, unfolding(crate::specs::Rectangle::with_coord))]
 pub fn with_coord(r: Rect, p: Coord) -> Rect
     ensures { result ≡ Rectangle.with_coord r p }
 {
@@ -59,8 +60,7 @@ fn box_with_rest(w: f64, s: f64, e: f64, n: f64, ring: &[f64], count: usize) -> 
     let mut south = s;
     let mut east = e;
     let mut north = n;
-    let mut i = 1usize;
-    while i < count {
+    for i in 1..count {
         let p = coord_at(ring, i);
         if !is_finite_coord(p) {
             return Rect::NotFinite;
@@ -69,7 +69,6 @@ fn box_with_rest(w: f64, s: f64, e: f64, n: f64, ring: &[f64], count: usize) -> 
         south = lower(south, p.y);
         east = higher(east, p.x);
         north = higher(north, p.y);
-        i += 1;
     }
     Rect::Box(west, south, east, north)
 }
@@ -90,6 +89,7 @@ pub fn with_ring(r: Rect, ring: &[f64], n: usize) -> Rect
 }
 
 // Whether the numbers from low to high and those from one bound to the other are not apart.
+#[tactic(auto, unfolding(crate::specs::Rectangle::reaches))]
 fn reaches(low: f64, high: f64, from: f64, to: f64) -> bool
     ensures { result ≡ Rectangle.reaches low high from to }
 {
@@ -97,6 +97,7 @@ fn reaches(low: f64, high: f64, from: f64, to: f64) -> bool
 }
 
 // Whether the numbers from low to high lie between the bounds.
+#[tactic(auto, unfolding(crate::specs::Rectangle::lies_between))]
 fn lies_between(low: f64, high: f64, from: f64, to: f64) -> bool
     ensures { result ≡ Rectangle.lies_between low high from to }
 {
@@ -104,6 +105,7 @@ fn lies_between(low: f64, high: f64, from: f64, to: f64) -> bool
 }
 
 // Whether the rectangle and the bounds are not apart.
+#[tactic(auto, unfolding(crate::specs::Rectangle::intersects_bounds))]
 pub fn intersects_bounds(r: Rect, bounds: TileBounds) -> bool
     ensures { result ≡ Rectangle.intersects_bounds r bounds }
 {
@@ -118,6 +120,7 @@ pub fn intersects_bounds(r: Rect, bounds: TileBounds) -> bool
 }
 
 // Whether the rectangle lies in the bounds, edges included.
+#[tactic(auto, unfolding(crate::specs::Rectangle::is_fully_inside))]
 pub fn is_fully_inside(r: Rect, bounds: TileBounds) -> bool
     ensures { result ≡ Rectangle.is_fully_inside r bounds }
 {

@@ -7,6 +7,7 @@ use binary64::compare::is_huge;
 use tile::Coord;
 use tile::ring::coord_at;
 
+#[tactic(auto, unfolding(crate::specs::Representable::huge_coord))]
 pub fn is_huge_coord(p: Coord) -> bool
     ensures { result ≡ Representable.huge_coord p }
 {
@@ -18,12 +19,10 @@ pub fn has_huge(ring: &[f64], n: usize) -> bool
     requires { 2 * n ≤ length ring.now }
     ensures { result ≡ Representable.any_huge (coords (take (2 * n) ring.now)) }
 {
-    let mut i = 0usize;
-    while i < n {
+    for i in 0..n {
         if is_huge_coord(coord_at(ring, i)) {
             return true;
         }
-        i += 1;
     }
     false
 }

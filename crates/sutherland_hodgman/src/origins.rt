@@ -13,10 +13,8 @@ pub fn put_positions(origins: &mut [u16], n: usize)
     requires { (n ≤ length origins.old) × (n ≤ most_coordinates) }
     ensures { origins.new ≡ Origins.positions_from 0 n ++ drop n origins.old }
 {
-    let mut i = 0usize;
-    while i < n {
+    for i in 0..n {
         origins[i] = i as u16;
-        i += 1;
     }
 }
 
@@ -40,9 +38,5 @@ pub fn close_with_origins(ring: &mut [f64], origins: &mut [u16], n: usize) -> us
 pub fn clear_origins(origins: &mut [u16])
     ensures { origins.new ≡ replicate (length origins.old) 0 }
 {
-    let mut i = 0usize;
-    while i < origins.len() {
-        origins[i] = 0;
-        i += 1;
-    }
+    origins.fill(0);
 }

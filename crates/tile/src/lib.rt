@@ -10,7 +10,7 @@ use binary64::compare::{maximum, minimum};
 pub mod ring;
 
 // A vertex: longitude and latitude.
-#[derive(Clone, Copy)]
+#[derive(Clone, Copy, PartialEq)]
 pub struct Coord {
     pub x: f64,
     pub y: f64,
@@ -39,7 +39,7 @@ impl Coord {
     pub fn equals(self, other: Coord) -> bool
         ensures { result ≡ same self other }
     {
-        self.x == other.x && self.y == other.y
+        self == other
     }
 }
 

@@ -33,7 +33,7 @@ pub fn is_closed(ring: &[f64], n: usize) -> bool
         return true;
     }
     let first = coord_at(ring, 0);
-    first.equals(coord_at(ring, n - 1))
+    first == coord_at(ring, n - 1)
 }
 
 // How many coordinates a ring of n has when closed.

@@ -8,6 +8,3 @@ use Rattle.box_pairs.proofs.first_repeated.Given as goal
 
 abbrev pub invariant-loop-k : goal.invariant-loop-k
 invariant-loop-k l = (l.k ≤ l.n) × (repeated_from 0 (front l.ring l.n) ≡ repeated_from l.k (drop l.k (front l.ring l.n)))
-
-abbrev pub decreases-loop-k : goal.decreases-loop-k
-decreases-loop-k l = l.n - l.k

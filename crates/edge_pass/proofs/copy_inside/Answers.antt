@@ -16,8 +16,8 @@ pub put-requires : goal.put-requires
 put-requires c = let l = c.loop-i in
     let s = c.args.ring.now in
     let m = c.args.m in
-    let o = c.loop-i.invariant.3.count in
-    let u : length l.out ≡ length c.args.out.now = l.invariant.2 in
+    let o = c.loop-i.invariant.1.count in
+    let u : length l.out ≡ length c.args.out.now = l.invariant.0 in
     let r : 2 * (l.len + length (steps_left c.args.edge c.args.bounds (coords (take (2 * m) s)) true l.i)) ≤ length l.out
     = omega (arith, c.requires.2) in
     let f = judged c.args.edge c.args.bounds _ _ _ true c.coord_at-e.ensures
@@ -36,12 +36,10 @@ loop-i-preserved c = let l = c.loop-i in
     let f = judged c.args.edge c.args.bounds _ _ _ true e.ensures
     c.judge-verdict.ensures.0 (not-false _ c.if-not-verdict.false) in
     let p = c.put.ensures in (
-      search rules,
-      search rules,
-      wrote l.out _ l.len _ e.result p l.invariant.2,
-      rest_then c.args.edge c.args.bounds (coords (take (2 * m) s)) l.invariant.3
+      wrote l.out _ l.len _ e.result p l.invariant.0,
+      rest_then c.args.edge c.args.bounds (coords (take (2 * m) s)) l.invariant.1
           (in-in c.args.edge c.args.bounds s m c.requires.0 l.i h f _ l.len l.out _ e.ensures p),
       search rules,
       search rules,
-      in-in-origin c.args.edge c.args.bounds s m c.requires.0 l.i h f c.args.at.i l.invariant.0 l.invariant.6,
+      in-in-origin c.args.edge c.args.bounds s m c.requires.0 l.i h f c.args.at.i (search rules) l.invariant.4,
     )

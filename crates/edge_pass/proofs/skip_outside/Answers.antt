@@ -11,9 +11,7 @@ loop-i-preserved c = let l = c.loop-i in
     let j = c.judge-verdict.ensures in
     let h = c.loop-i-test.true in
     let f = judged c.args.edge c.args.bounds _ _ _ false c.coord_at-e.ensures j.0 c.if-verdict.false in (
+      l.invariant.0 ∙ out_out c.args.edge c.args.bounds c.args.ring.now c.args.m c.requires.0 l.i h f,
       search rules,
-      search rules,
-      l.invariant.2 ∙ out_out c.args.edge c.args.bounds c.args.ring.now c.args.m c.requires.0 l.i h f,
-      search rules,
-      λ os. l.invariant.4 os ∙ out_out_origin c.args.edge c.args.bounds c.args.ring.now c.args.m c.requires.0 l.i h f os,
+      λ os. l.invariant.2 os ∙ out_out_origin c.args.edge c.args.bounds c.args.ring.now c.args.m c.requires.0 l.i h f os,
     )

@@ -1,10 +1,6 @@
 -- `next_kept` meets its contract: the loop goes past what is near the coordinate that is kept. Assumes nothing.
-use Prim.Native.Nat.{◌-◌}
 use Rattle.mend.proofs.Walks.{Dropped}
 use Rattle.mend.proofs.next_kept.Given as goal
 
 abbrev pub invariant-loop-i : goal.invariant-loop-i
 invariant-loop-i l = Dropped l.ring l.end l.k l.i
-
-abbrev pub decreases-loop-i : goal.decreases-loop-i
-decreases-loop-i l = l.end - l.i

@@ -2,8 +2,9 @@
 -- that was to be written, of the rings and of their origins. Assumes nothing.
 use mathlib.Core.Path.{◌≡◌, ◌∙◌}
 use mathlib.Core.List.{◌++◌}
-use Prim.Native.Nat.{◌+◌, ◌*◌}
-use lib.ListN.{get_or, take, drop}
+use native.Mathlib.Omega.{arith}
+use Prim.Native.Nat.{◌<◌, ◌+◌, ◌*◌}
+use lib.ListN.{length, get_or, take, drop}
 use Rattle.binary64.proofs.Fill.{tail_part}
 use Rattle.tile.specs.Ring.{coords as coordinates, close}
 use Rattle.rings.specs.LentRings.{closed_rings}
@@ -18,39 +19,39 @@ use Rattle.polygon_rings.proofs.put_holes.Goals as goal
 pub put_hole-placed-requires-clause-hole_room : goal.put_hole-placed-requires-clause-hole_room
 put_hole-placed-requires-clause-hole_room c = let s = c.args.coords.now in
     let ns = c.args.lengths.now in
-    let l = c.loop-k in
-    let h = c.loop-k-test.true in rw (tail_part s l.at) (((hole_room _ _ _ _ _ _ _ _ _ (room-here ns s l.k l.at h _ _ _ _ _ _ l.invariant.1))).0)
+    let l = c.loop-length in
+    let h : l.length-index < length ns = omega arith in rw (tail_part s l.at) (((hole_room _ _ _ _ _ _ _ _ _ (room-here ns s l.length-index l.at h _ _ _ _ _ _ l.invariant.1))).0)
 
 pub put_hole-placed-requires-clause-hole_origin_room : goal.put_hole-placed-requires-clause-hole_origin_room
 put_hole-placed-requires-clause-hole_origin_room c = let s = c.args.coords.now in
     let ns = c.args.lengths.now in
-    let l = c.loop-k in
-    let h = c.loop-k-test.true in rw (tail_part s l.at) (((hole_room _ _ _ _ _ _ _ _ _ (room-here ns s l.k l.at h _ _ _ _ _ _ l.invariant.1))).1)
+    let l = c.loop-length in
+    let h : l.length-index < length ns = omega arith in rw (tail_part s l.at) (((hole_room _ _ _ _ _ _ _ _ _ (room-here ns s l.length-index l.at h _ _ _ _ _ _ l.invariant.1))).1)
 
-pub loop-k-preserved : goal.loop-k-preserved
+pub loop-length-preserved : goal.loop-length-preserved
 unfolding cut_holes holes_origins
-loop-k-preserved c = let s = c.args.coords.now in
+loop-length-preserved c = let s = c.args.coords.now in
     let ns = c.args.lengths.now in
     let bounds = c.args.bounds in
-    let l = c.loop-k in
-    let h = c.loop-k-test.true in
+    let l = c.loop-length in
+    let h : l.length-index < length ns = omega arith in
     let kept = c.put_hole-placed.auto.scratch in
-    let ring = close (coordinates (take (2 * get_or ns l.k 0) (drop l.at s))) in
-    let rest = closed_rings (drop (l.k + 1) ns) (drop (l.at + 2 * get_or ns l.k 0) s) in
+    let ring = close (coordinates (take (2 * get_or ns l.length-index 0) (drop l.at s))) in
+    let rest = closed_rings (drop (l.length-index + 1) ns) (drop (l.at + 2 * get_or ns l.length-index 0) s) in
     let put : Put (cut_hole bounds ring) l.placed l.out l.out_lengths c.put_hole-placed.result _ _ =
     rw (tail_part s l.at) at c.put_hole-placed.ensures.ring in
     let after = c.put_hole-placed.new.out_origins in
     let os : take c.put_hole-placed.result.coordinates after ≡
     take l.placed.coordinates l.out_origins ++ hole_origins bounds ring =
     rw (tail_part s l.at) at c.put_hole-placed.ensures.origins in
-    let n = next_room _ _ _ _ _ _ _ _ _ (room-here ns s l.k l.at h _ _ _ _ _ _ l.invariant.1) (cut_hole bounds ring)
+    let n = next_room _ _ _ _ _ _ _ _ _ (room-here ns s l.length-index l.at h _ _ _ _ _ _ l.invariant.1) (cut_hole bounds ring)
     (hole_fits-room bounds ring) _ put.counted.coordinates-after put.counted.rings-after in
     let f = ahead_ring (cut_hole bounds ring) (cut_holes bounds rest) _ _ _ _ _ _ put in (
-      left_next ns s l.k l.at h l.invariant.0,
+      left_next ns s l.length-index l.at h l.invariant.0,
       same-room kept c.put_hole-placed.auto.origin_scratch c.put_hole-placed.auto.out c.put_hole-placed.auto.out_lengths c.put_hole-placed.auto.out_origins
-          (room_there ns s l.k l.at h _ _ _ _ _ _ n),
-      ahead_then (rw (rings-step ns s l.k l.at h) at l.invariant.2) f,
-      rw (rings-step ns s l.k l.at h) at l.invariant.3 ∙ ahead_origins (hole_origins bounds ring) (holes_origins bounds rest)
+          (room_there ns s l.length-index l.at h _ _ _ _ _ _ n),
+      ahead_then (rw (rings-step ns s l.length-index l.at h) at l.invariant.2) f,
+      rw (rings-step ns s l.length-index l.at h) at l.invariant.3 ∙ ahead_origins (hole_origins bounds ring) (holes_origins bounds rest)
           l.placed.coordinates c.put_hole-placed.result.coordinates l.out_origins after os,
       kept ∙ l.invariant.4,
       c.put_hole-placed.auto.origin_scratch ∙ l.invariant.5,
@@ -61,9 +62,9 @@ loop-k-preserved c = let s = c.args.coords.now in
 
 pub returns-clause-rings : goal.returns-clause-rings
 returns-clause-rings c = let a = c.args in
-    let l = c.loop-k in ahead_end a.bounds a.lengths.now a.coords.now l.k l.at c.loop-k-test.false _ _ _ _ _ _ _ l.invariant.2
+    let l = c.loop-length in ahead_end a.bounds a.lengths.now a.coords.now l.length-index l.at (omega arith) _ _ _ _ _ _ _ l.invariant.2
 
 pub returns-clause-origins : goal.returns-clause-origins
 returns-clause-origins c = let a = c.args in
-    let l = c.loop-k in origins_end a.bounds a.lengths.now a.coords.now l.k l.at c.loop-k-test.false _ l.placed.coordinates
+    let l = c.loop-length in origins_end a.bounds a.lengths.now a.coords.now l.length-index l.at (omega arith) _ l.placed.coordinates
     l.out_origins l.invariant.3

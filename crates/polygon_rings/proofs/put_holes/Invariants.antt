@@ -2,7 +2,6 @@
 -- that was to be written, of the rings and of their origins. Assumes nothing.
 use mathlib.Core.Path.{◌≡◌}
 use mathlib.Core.List.{◌++◌}
-use Prim.Native.Nat.{◌-◌}
 use lib.ListN.{length, take, drop}
 use Rattle.rings.specs.LentRings.{closed_rings}
 use Rattle.rings.proofs.LentRings.{Left}
@@ -12,16 +11,13 @@ use Rattle.polygon_rings.specs.WrittenRings.{origins_of}
 use Rattle.polygon_rings.proofs.Holes.{Ahead, Rooms}
 use Rattle.polygon_rings.proofs.put_holes.Given as goal
 
-abbrev pub invariant-loop-k : goal.invariant-loop-k
-invariant-loop-k l = Left l.lengths l.coords l.k l.at
-    × Rooms (drop l.k l.lengths) (drop l.at l.coords) (length l.scratch) (length l.origin_scratch) (length l.out) (length l.out_lengths)
+abbrev pub invariant-loop-length : goal.invariant-loop-length
+invariant-loop-length l = Left l.lengths l.coords l.length-index l.at
+    × Rooms (drop l.length-index l.lengths) (drop l.at l.coords) (length l.scratch) (length l.origin_scratch) (length l.out) (length l.out_lengths)
     (length l.out_origins) l.placed
-    × Ahead (cut_holes l.bounds (closed_rings l.lengths l.coords)) l.initial.placed l.initial.out l.initial.out_lengths (cut_holes l.bounds (closed_rings (drop l.k l.lengths) (drop
+    × Ahead (cut_holes l.bounds (closed_rings l.lengths l.coords)) l.initial.placed l.initial.out l.initial.out_lengths (cut_holes l.bounds (closed_rings (drop l.length-index l.lengths) (drop
     l.at l.coords))) l.placed l.out l.out_lengths
     × (take l.initial.placed.coordinates l.initial.out_origins ++ origins_of (holes_origins l.bounds (closed_rings l.lengths l.coords))
-    ≡ take l.placed.coordinates l.out_origins ++ origins_of (holes_origins l.bounds (closed_rings (drop l.k l.lengths) (drop l.at l.coords))))
+    ≡ take l.placed.coordinates l.out_origins ++ origins_of (holes_origins l.bounds (closed_rings (drop l.length-index l.lengths) (drop l.at l.coords))))
     × (length l.scratch ≡ length l.initial.scratch) × (length l.origin_scratch ≡ length l.initial.origin_scratch) × (length l.out ≡ length l.initial.out)
     × (length l.out_lengths ≡ length l.initial.out_lengths) × (length l.out_origins ≡ length l.initial.out_origins)
-
-abbrev pub decreases-loop-k : goal.decreases-loop-k
-decreases-loop-k l = length l.lengths - l.k

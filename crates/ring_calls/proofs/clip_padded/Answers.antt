@@ -2,6 +2,7 @@
 use mathlib.Core.Path.{◌≡◌, ◌∙◌}
 use Prim.Native.Nat.{◌*◌, ◌≤◌}
 use native.Mathlib.Omega.{arith}
+use lib.Ieee.{of_bits}
 use lib.ListN.{length, take}
 use borrow.Author.Rules.{rules}
 use Rattle.tile.specs.Ring.{coords}
@@ -12,10 +13,10 @@ use Rattle.sutherland_hodgman.specs.Origins.{clip_origins}
 use Rattle.sutherland_hodgman.proofs.Offered.{B-le, last-room, last-origin-room, last-cut, last-origins}
 use Rattle.ring_calls.proofs.Calls.{cut-room, cut-padded, rest_cleared}
 use Rattle.ring_calls.proofs.clip_padded.Goals as goal
-use Rattle.ring_calls.proofs.clip_padded.Goals.{After-slice_known-10-1}
+use Rattle.ring_calls.proofs.clip_padded.Goals.{After-clip_top-len}
 
 -- what the two leave in the outputs is the cut with its origins, and the outputs are as long as they were
-record Done (c : After-slice_known-10-1) : Type 0 where
+record Done (c : After-clip_top-len) : Type 0 where
   cut : RingCut c.args.bounds (coords (take
       (2 * c.args.n) c.args.ring.now))
       c.clip_top-len.result c.clip_top-len.new.out
@@ -27,7 +28,7 @@ record Done (c : After-slice_known-10-1) : Type 0 where
   within : c.clip_top-len.result ≤ B c.args.n
   few : B c.args.n ≤ 8 * most_coordinates
 
-done : (c : After-slice_known-10-1) → Done c
+done : (c : After-clip_top-len) → Done c
 done c =
     let s = c.args.ring.now in
     let e = c.clip_three_edges-bottom.ensures in
@@ -65,21 +66,21 @@ clip_top-len-requires-clause-origins_room c = let p = c.requires.cutter_room in
     })
 
 pub overflow_mul-used : goal.overflow_mul-used
-overflow_mul-used c = let d = done (goal.at.overflow_mul-used c).After-slice_known-10-1 in omega (arith, d.within, d.few)
+overflow_mul-used c = let d = done (goal.at.overflow_mul-used c).After-clip_top-len in omega (arith, d.within, d.few)
 
 pub offset_bounds-out-used : goal.offset_bounds-out-used
-offset_bounds-out-used c = let d = done (goal.at.offset_bounds-out-used c).After-slice_known-10-1 in omega (arith, d.within, d.few)
+offset_bounds-out-used c = let d = done (goal.at.offset_bounds-out-used c).After-clip_top-len in omega (arith, d.within, d.few)
 
-pub slice_bounds-clear-count : goal.slice_bounds-clear-count
-slice_bounds-clear-count c = let d = done (goal.at.slice_bounds-clear-count c).After-slice_known-10-1 in omega (
+pub slice_bounds-fill-count : goal.slice_bounds-fill-count
+slice_bounds-fill-count c = let d = done (goal.at.slice_bounds-fill-count c).After-clip_top-len in omega (
   arith,
   d.within,
   d.same,
   c.requires.cutter_room.output-room,
 )
 
-pub slice_bounds-clear-start : goal.slice_bounds-clear-start
-slice_bounds-clear-start c = let d = done (goal.at.slice_bounds-clear-start c).After-slice_known-10-1 in omega (
+pub slice_bounds-fill-start : goal.slice_bounds-fill-start
+slice_bounds-fill-start c = let d = done (goal.at.slice_bounds-fill-start c).After-clip_top-len in omega (
   arith,
   d.within,
   d.same,
@@ -87,18 +88,18 @@ slice_bounds-clear-start c = let d = done (goal.at.slice_bounds-clear-start c).A
 )
 
 pub offset_bounds-out_origins-len : goal.offset_bounds-out_origins-len
-offset_bounds-out_origins-len c = let d = done (goal.at.offset_bounds-out_origins-len c).After-slice_known-10-1 in omega (arith, d.within, d.few)
+offset_bounds-out_origins-len c = let d = done (goal.at.offset_bounds-out_origins-len c).After-clip_top-len in omega (arith, d.within, d.few)
 
-pub slice_bounds-clear_origins-count : goal.slice_bounds-clear_origins-count
-slice_bounds-clear_origins-count c = let d = done (goal.at.slice_bounds-clear_origins-count c).After-slice_known-10-1 in omega (
+pub slice_bounds-fill-count-2 : goal.slice_bounds-fill-count-2
+slice_bounds-fill-count-2 c = let d = done (goal.at.slice_bounds-fill-count-2 c).After-clip_top-len in omega (
   arith,
   d.within,
   d.origins-same,
   c.requires.origin_room.output-room,
 )
 
-pub slice_bounds-clear_origins-start : goal.slice_bounds-clear_origins-start
-slice_bounds-clear_origins-start c = let d = done (goal.at.slice_bounds-clear_origins-start c).After-slice_known-10-1 in omega (
+pub slice_bounds-fill-start-2 : goal.slice_bounds-fill-start-2
+slice_bounds-fill-start-2 c = let d = done (goal.at.slice_bounds-fill-start-2 c).After-clip_top-len in omega (
   arith,
   d.within,
   d.origins-same,
@@ -106,11 +107,12 @@ slice_bounds-clear_origins-start c = let d = done (goal.at.slice_bounds-clear_or
 )
 
 pub returns-clause-ring : goal.returns-clause-ring
+unfolding of_bits
 returns-clause-ring c = let s = c.args.ring.now in
-    let d = done (goal.at.returns-clause-ring c).After-slice_known-10-1 in rw (← d.same) (cut-padded c.args.bounds (coords (take (2 * c.args.n) s)) c.args.n
+    let d = done (goal.at.returns-clause-ring c).After-clip_top-len in rw (← d.same) (cut-padded c.args.bounds (coords (take (2 * c.args.n) s)) c.args.n
     (length_front s c.args.n c.requires.cutter_room.vertices) _ _ d.cut _
-    c.clear.ensures)
+    (c.fill.ensures.after (λ y e. e)))
 
 pub returns-clause-origins : goal.returns-clause-origins
 returns-clause-origins c = let s = c.args.ring.now in
-    let d = done (goal.at.returns-clause-origins c).After-slice_known-10-1 in rw (← d.origins-same) (rest_cleared 0 _ c.clip_top-len.new.out_origins _ c.clip_top-len.result d.origins c.clear_origins.ensures)
+    let d = done (goal.at.returns-clause-origins c).After-clip_top-len in rw (← d.origins-same) (rest_cleared 0 _ c.clip_top-len.new.out_origins _ c.clip_top-len.result d.origins (c.fill-2.ensures.after (λ y e. e)))

@@ -8,6 +8,3 @@ use Rattle.box_pairs.proofs.pairs.least_at_slot.Given as goal
 
 abbrev pub invariant-loop-q : goal.invariant-loop-q
 invariant-loop-q l = Row (edges_cross (front l.ring (l.edges + 1))) l.order l.edges l.p l.q l.least
-
-abbrev pub decreases-loop-q : goal.decreases-loop-q
-decreases-loop-q l = l.edges - l.q

@@ -7,6 +7,3 @@ use Rattle.box_pairs.proofs.pairs.least_pair.Given as goal
 
 abbrev pub invariant-loop-p : goal.invariant-loop-p
 invariant-loop-p l = LeastBefore (edges_cross (front l.ring (l.edges + 1))) l.order l.edges l.p l.best
-
-abbrev pub decreases-loop-p : goal.decreases-loop-p
-decreases-loop-p l = l.edges - l.p

@@ -6,6 +6,3 @@ use Rattle.box_pairs.proofs.pairs.note_lows.Given as goal
 
 abbrev pub invariant-loop-i : goal.invariant-loop-i
 invariant-loop-i l = Noting l.edges l.i (front l.ring (l.edges + 1)) l.initial.work l.work
-
-abbrev pub decreases-loop-i : goal.decreases-loop-i
-decreases-loop-i l = l.edges - l.i

@@ -1,19 +1,13 @@
 -- `pairs::scan_pairs` meets its contract. Each loop says that no pair passed is a crossing one; so the one it stops at is the first.
 -- Assumes nothing.
-use Prim.Native.Nat.{◌+◌, ◌-◌}
+use Rattle.std.proofs.Common.{◌≡◌, ◌+◌, None}
 use Rattle.box_pairs.specs.Internal.{front, Passed}
 use Rattle.box_pairs.specs.Pairs.{edges_cross}
 use Rattle.box_pairs.proofs.Sweep.{Inner}
 use Rattle.box_pairs.proofs.pairs.scan_pairs.Given as goal
 
 abbrev pub invariant-loop-j : goal.invariant-loop-j
-invariant-loop-j l = Inner (edges_cross (front l.ring (l.edges + 1))) l.edges l.i l.j
-
-abbrev pub decreases-loop-j : goal.decreases-loop-j
-decreases-loop-j l = l.edges - l.j
+invariant-loop-j l = (l.first ≡ None) × Inner (edges_cross (front l.ring (l.edges + 1))) l.edges l.i l.j
 
 abbrev pub invariant-pairs : goal.invariant-pairs
-invariant-pairs l = Passed (edges_cross (front l.ring (l.edges + 1))) l.edges l.i
-
-abbrev pub decreases-pairs : goal.decreases-pairs
-decreases-pairs l = l.edges - l.i
+invariant-pairs l = (l.first ≡ None) × Passed (edges_cross (front l.ring (l.edges + 1))) l.edges l.i

@@ -71,35 +71,46 @@ loop-q-preserved c = let l = c.loop-q in
       | then-may_meet_in_y+else-edges_cross w ↦ sym is ∙ (sym w.edges_cross.ensures ∙ w.if-edges_cross.false)
       | else-may_meet_in_y w ↦ sym is ∙ never_meet _ _ _ (sym c.may_meet_in_y.ensures ∙ w.if-may_meet_in_y.false)
     ] in
-    inner_next (at_slots (edges_cross (ring_of c.args.ring.now c.args.edges)) c.args.order.now) c.args.edges c.pairs.p l.q
-    c.loop-q-test.true
-    l.invariant miss
+    (
+      l.invariant.0,
+      inner_next (at_slots (edges_cross (ring_of c.args.ring.now c.args.edges)) c.args.order.now) c.args.edges c.pairs.p l.q
+          c.loop-q-test.true l.invariant.1 miss,
+    )
 
 pub pairs-preserved : goal.pairs-preserved
 pairs-preserved c = let l = c.loop-q in
     let rest : Clear (at_slots (edges_cross (ring_of c.args.ring.now c.args.edges)) c.args.order.now) c.pairs.p c.args.edges =
     elim c.loop-q-test.branch [
-      | else-loop-q-test w ↦ λ q a b. l.invariant.clear q a (omega (arith, w.loop-q-test.false))
+      | else-loop-q-test w ↦ λ q a b. l.invariant.1.clear q a (omega (arith, w.loop-q-test.false))
       | then-loop-q-test+then-lows-j w ↦ sweep_stop (λ i. key (low_x (ring_of c.args.ring.now c.args.edges) i)) c.args.edges (stops (ring_of c.args.ring.now c.args.edges)) (edges_cross (ring_of c.args.ring.now c.args.edges)) (sweeps (goal.at.pairs-preserved c).At-pairs)
           c.args.order.now c.requires.swept.positions c.requires.swept.sorted
-          c.pairs.p l.q l.invariant.after w.loop-q-test.true l.invariant.clear
+          c.pairs.p l.q l.invariant.1.after w.loop-q-test.true l.invariant.1.clear
           (sym (stop-test (goal.at.pairs-preserved c).At-loop-q l.q w.loop-q-test.true) ∙ w.if-lows-j.true)
     ] in
-    outer_next (at_slots (edges_cross (ring_of c.args.ring.now c.args.edges)) c.args.order.now) c.args.edges c.pairs.p
-    c.pairs-test.true c.pairs.invariant rest
+    (
+      l.invariant.0,
+      outer_next (at_slots (edges_cross (ring_of c.args.ring.now c.args.edges)) c.args.order.now) c.args.edges c.pairs.p
+          c.pairs-test.true c.pairs.invariant.1 rest,
+    )
 
 pub returns-after-pairs-clause-verdict : goal.returns-after-pairs-clause-verdict
 returns-after-pairs-clause-verdict c = let none = sweep_done (λ i. key (low_x (ring_of c.args.ring.now c.args.edges) i)) c.args.edges (stops (ring_of c.args.ring.now c.args.edges)) (edges_cross (ring_of c.args.ring.now c.args.edges)) (sweeps (goal.at.returns-after-pairs-clause-verdict c).At-pairs)
-    c.args.order.now c.requires.swept.positions c.requires.swept.sorted c.pairs.p c.pairs-test.false c.pairs.invariant in le-ltb c.pairs.p c.args.edges c.pairs-test.false
-    ∙ sym (crossing-front c.args.ring.now c.args.edges c.requires.has_edges.0 ∙ none)
+    c.args.order.now c.requires.swept.positions c.requires.swept.sorted c.pairs.p c.pairs-test.false c.pairs.invariant.1 in
+    rw c.pairs.invariant.0 (sym (crossing-front c.args.ring.now c.args.edges c.requires.has_edges.0 ∙ none))
+
+pub returns-after-pairs-clause-inside : goal.returns-after-pairs-clause-inside
+returns-after-pairs-clause-inside c = rw c.pairs.invariant.0 tt
+
+pub returns-after-pairs-clause-passed : goal.returns-after-pairs-clause-passed
+returns-after-pairs-clause-passed c = let e : c.pairs.p ≡ c.args.edges = omega (arith, c.pairs-test.false) in
+    rw c.pairs.invariant.0 (rw e at c.pairs.invariant.1)
 
 pub returns-then-edges_cross-clause-verdict : goal.returns-then-edges_cross-clause-verdict
 returns-then-edges_cross-clause-verdict c = let l = c.loop-q in
     let hit = sweep_hit (λ i. key (low_x (ring_of c.args.ring.now c.args.edges) i)) c.args.edges (stops (ring_of c.args.ring.now c.args.edges)) (edges_cross (ring_of c.args.ring.now c.args.edges)) (sweeps (goal.at.returns-then-edges_cross-clause-verdict c).At-pairs)
     c.args.order.now c.requires.swept.positions c.requires.swept.sorted
-    c.pairs.p l.q l.invariant.after c.loop-q-test.true
+    c.pairs.p l.q l.invariant.1.after c.loop-q-test.true
     (sym (verdict (goal.at.returns-then-edges_cross-clause-verdict c).At-loop-q l.q
     c.loop-q-test.true) ∙
-    (sym c.edges_cross.ensures ∙ c.if-edges_cross.true)) in lt-ltb c.pairs.p c.args.edges
-    c.pairs-test.true
-    ∙ sym (crossing-front c.args.ring.now c.args.edges c.requires.has_edges.0 ∙ hit)
+    (sym c.edges_cross.ensures ∙ c.if-edges_cross.true)) in
+    sym (crossing-front c.args.ring.now c.args.edges c.requires.has_edges.0 ∙ hit)

@@ -4,40 +4,29 @@ use lib.Ieee.{of_bits, neg}
 use Rattle.exact.proofs.GridLaws.{told-small, above_off, above_on, below-above, below_off, below_on, zero-on, nan_off}
 use Rattle.exact.proofs.grid.grid_number_of.Goals as goal
 
-pub returns-in_default : goal.returns-in_default
-returns-in_default c = above_off c.args.x (sym c.steps_of.ensures ∙ c.in_default.is)
+pub returns-in_err-steps_of : goal.returns-in_err-steps_of
+returns-in_err-steps_of c = c.from_residual.ensures ∙ above_off c.args.x (sym (c.in_err-steps_of.ensures))
 
 pub overflow_add-result : goal.overflow_add-result
-overflow_add-result c = record {
-  fits = omega (
-    arith,
-    told-small c.args.x _
-        (sym c.steps_of.ensures ∙ c.in-On.is),
-  );
-}
+overflow_add-result c = record { fits = omega (arith, told-small c.args.x _ (sym (c.in_ok-steps_of.ensures))) }
 
 pub returns-then-x : goal.returns-then-x
 unfolding of_bits
-returns-then-x c = above_on c.args.x _
-    (subst T (sym c.if-x.true) tt) (sym c.steps_of.ensures
-    ∙ c.in-On.is)
+returns-then-x c = above_on c.args.x _ (subst T (sym c.if-x.true) tt) (sym (c.in_ok-steps_of.ensures))
 
 pub steps_of-requires-then-x-2 : goal.steps_of-requires-then-x-2
 unfolding of_bits
 steps_of-requires-then-x-2 c = below-above c.args.x c.if-x-2.true
 
-pub returns-in_default-steps_of : goal.returns-in_default-steps_of
-returns-in_default-steps_of c = below_off c.args.x (sym c.steps_of-then-x-2.ensures
-    ∙ c.in_default-steps_of.is)
+pub returns-in_err-steps_of-2 : goal.returns-in_err-steps_of-2
+returns-in_err-steps_of-2 c = c.from_residual-in_err-steps_of-2.ensures ∙ below_off c.args.x (sym (c.in_err-steps_of-2.ensures))
 
 pub overflow_sub-result : goal.overflow_sub-result
-overflow_sub-result c = told-small (neg c.args.x) _
-    (sym c.steps_of-then-x-2.ensures ∙ c.in-On-steps_of.is)
+overflow_sub-result c = told-small (neg c.args.x) _ (sym (c.in_ok-steps_of-2.ensures))
 
 pub returns-then-x-2 : goal.returns-then-x-2
 unfolding of_bits
-returns-then-x-2 c = below_on c.args.x _ c.if-x-2.true
-    (sym c.steps_of-then-x-2.ensures ∙ c.in-On-steps_of.is)
+returns-then-x-2 c = below_on c.args.x _ c.if-x-2.true (sym (c.in_ok-steps_of-2.ensures))
 
 pub returns-then-x-3 : goal.returns-then-x-3
 unfolding of_bits

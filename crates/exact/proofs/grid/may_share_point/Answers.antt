@@ -39,24 +39,24 @@ returns-in_default-grid_point_of-3-clause-meaning c = let a = c.args in let all 
 
 pub shares_point-requires : goal.shares_point-requires
 shares_point-requires c = let a = c.args in (
-  at_bounded a.a1 _ (sym c.grid_point_of.ensures ∙ c.in-At.is),
-  at_bounded a.a2 _ (sym c.grid_point_of-2.ensures ∙ c.in-At-grid_point_of.is),
-  at_bounded a.b1 _ (sym c.grid_point_of-3.ensures ∙ c.in-At-grid_point_of-2.is),
-  at_bounded a.b2 _ (sym c.grid_point_of-4.ensures ∙ c.in-At-grid_point_of-3.is),
+  at_bounded a.a1 _ (sym c.grid_point_of.ensures ∙ c.in-Some.is),
+  at_bounded a.a2 _ (sym c.grid_point_of-2.ensures ∙ c.in-Some-grid_point_of.is),
+  at_bounded a.b1 _ (sym c.grid_point_of-3.ensures ∙ c.in-Some-grid_point_of-2.is),
+  at_bounded a.b2 _ (sym c.grid_point_of-4.ensures ∙ c.in-Some-grid_point_of-3.is),
 )
 
 pub returns-clause-test : goal.returns-clause-test
 returns-clause-test c = let a = c.args in let all = answered a.a1 a.a2 a.b1 a.b2 _
     (all-on a.a1 a.a2 a.b1 a.b2 _ _ _ _ _ c.shares_point.ensures
-    (sym c.grid_point_of.ensures ∙ c.in-At.is)
-    (sym c.grid_point_of-2.ensures ∙ c.in-At-grid_point_of.is)
-    (sym c.grid_point_of-3.ensures ∙ c.in-At-grid_point_of-2.is)
-    (sym c.grid_point_of-4.ensures ∙ c.in-At-grid_point_of-3.is)) in all.0
+    (sym c.grid_point_of.ensures ∙ c.in-Some.is)
+    (sym c.grid_point_of-2.ensures ∙ c.in-Some-grid_point_of.is)
+    (sym c.grid_point_of-3.ensures ∙ c.in-Some-grid_point_of-2.is)
+    (sym c.grid_point_of-4.ensures ∙ c.in-Some-grid_point_of-3.is)) in all.0
 
 pub returns-clause-meaning : goal.returns-clause-meaning
 returns-clause-meaning c = let a = c.args in let all = answered a.a1 a.a2 a.b1 a.b2 _
     (all-on a.a1 a.a2 a.b1 a.b2 _ _ _ _ _ c.shares_point.ensures
-    (sym c.grid_point_of.ensures ∙ c.in-At.is)
-    (sym c.grid_point_of-2.ensures ∙ c.in-At-grid_point_of.is)
-    (sym c.grid_point_of-3.ensures ∙ c.in-At-grid_point_of-2.is)
-    (sym c.grid_point_of-4.ensures ∙ c.in-At-grid_point_of-3.is)) in all.1
+    (sym c.grid_point_of.ensures ∙ c.in-Some.is)
+    (sym c.grid_point_of-2.ensures ∙ c.in-Some-grid_point_of.is)
+    (sym c.grid_point_of-3.ensures ∙ c.in-Some-grid_point_of-2.is)
+    (sym c.grid_point_of-4.ensures ∙ c.in-Some-grid_point_of-3.is)) in all.1

@@ -10,15 +10,15 @@ returns-then-nearest_u64_to_f64-scaled c = let x = c.args.x in
     let t : T (fits binary64 x) = search rules in rw c.if-nearest_u64_to_f64-scaled.true at (steps-answer x t c.requires c.if-x.true _
     c.truncating_f64_to_u64-n.ensures _ c.nearest_u64_to_f64.ensures)
 
-pub returns-then-x : goal.returns-then-x
+pub returns-else-nearest_u64_to_f64-scaled : goal.returns-else-nearest_u64_to_f64-scaled
 unfolding of_bits
-returns-then-x c = let x = c.args.x in
+returns-else-nearest_u64_to_f64-scaled c = let x = c.args.x in
     let t : T (fits binary64 x) = search rules in rw c.if-nearest_u64_to_f64-scaled.false at (steps-answer x t c.requires c.if-x.true _
     c.truncating_f64_to_u64-n.ensures _ c.nearest_u64_to_f64.ensures)
 
-pub returns : goal.returns
+pub returns-else-x : goal.returns-else-x
 unfolding of_bits
-returns c = beyond_256 c.args.x c.requires c.if-x.false
+returns-else-x c = beyond_256 c.args.x c.requires c.if-x.false
 
 pub truncating_f64_to_u64-n-requires-clause-lower_bound : goal.truncating_f64_to_u64-n-requires-clause-lower_bound
 unfolding of_bits

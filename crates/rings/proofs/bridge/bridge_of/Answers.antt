@@ -1,5 +1,12 @@
--- `bridge_of` meets its contract: each return rewrites the definition by the tests that led there. Assumes nothing.
-use Rattle.rings.specs.Bridge.{bridge_of}
+-- `bridge_of` meets its contract. The invariant: the edge runs along none of the bounds so far. Assumes nothing.
+use mathlib.Core.Path.{refl, sym, ◌∙◌}
+use native.Mathlib.Omega.{arith}
+use Rattle.std.specs.Prelude.{Some, None, find}
+use Rattle.std.proofs.Common.{below_more}
+use Rattle.std.proofs.lemmas.List.Recursion.{found_at, found_nowhere}
+use Rattle.tile.specs.declared.Edge.{Edge}
+use Rattle.tile.specs.declared.Edge.TheVariants.{Left}
+use Rattle.rings.specs.Bridge.{runs_along, edges, bridge_of}
 use Rattle.rings.proofs.bridge.bridge_of.Goals as goal
 
 pub returns-then-is_degenerate : goal.returns-then-is_degenerate
@@ -8,64 +15,15 @@ returns-then-is_degenerate c = rw (← c.is_degenerate.ensures, c.if-is_degenera
 
 pub returns-then-runs_along : goal.returns-then-runs_along
 unfolding bridge_of
-returns-then-runs_along c = rw (← c.is_degenerate.ensures, c.if-is_degenerate.false, ← c.runs_along.ensures, c.if-runs_along.true)
+returns-then-runs_along c = let test = λ (l : Edge). runs_along l c.args.bounds c.args.p c.args.q in
+    rw (← c.is_degenerate.ensures, c.if-is_degenerate.false) (sym (found_at (find test) test Some None refl (λ _ _. refl) edges
+    c.loop-edge.edge-index Left c.loop-edge-test.true c.loop-edge.invariant (sym c.runs_along.ensures ∙ c.if-runs_along.true)))
 
-pub returns-then-runs_along-2 : goal.returns-then-runs_along-2
-unfolding bridge_of
-returns-then-runs_along-2 c = rw (
-  ← c.is_degenerate.ensures,
-  c.if-is_degenerate.false,
-  ←
-      c.runs_along.ensures,
-  c.if-runs_along.false,
-  ← c.runs_along-2.ensures,
-  c.if-runs_along-2.true,
-)
-
-pub returns-then-runs_along-3 : goal.returns-then-runs_along-3
-unfolding bridge_of
-returns-then-runs_along-3 c = rw (
-  ← c.is_degenerate.ensures,
-  c.if-is_degenerate.false,
-  ← c.runs_along.ensures,
-  c.if-runs_along.false,
-  ← c.runs_along-2.ensures,
-  c.if-runs_along-2.false,
-  ←
-      c.runs_along-3.ensures,
-  c.if-runs_along-3.true,
-)
-
-pub returns-then-runs_along-4 : goal.returns-then-runs_along-4
-unfolding bridge_of
-returns-then-runs_along-4 c = rw (
-  ← c.is_degenerate.ensures,
-  c.if-is_degenerate.false,
-  ←
-      c.runs_along.ensures,
-  c.if-runs_along.false,
-  ← c.runs_along-2.ensures,
-  c.if-runs_along-2.false,
-  ← c.runs_along-3.ensures,
-  c.if-runs_along-3.false,
-  ←
-      c.runs_along-4.ensures,
-  c.if-runs_along-4.true,
-)
+pub loop-edge-preserved : goal.loop-edge-preserved
+loop-edge-preserved c = below_more _ _ c.loop-edge.invariant (sym c.runs_along.ensures ∙ c.if-runs_along.false)
 
 pub returns : goal.returns
 unfolding bridge_of
-returns c = rw (
-  ← c.is_degenerate.ensures,
-  c.if-is_degenerate.false,
-  ←
-      c.runs_along.ensures,
-  c.if-runs_along.false,
-  ← c.runs_along-2.ensures,
-  c.if-runs_along-2.false,
-  ← c.runs_along-3.ensures,
-  c.if-runs_along-3.false,
-  ←
-      c.runs_along-4.ensures,
-  c.if-runs_along-4.false,
-)
+returns c = let test = λ (l : Edge). runs_along l c.args.bounds c.args.p c.args.q in
+    rw (← c.is_degenerate.ensures, c.if-is_degenerate.false) (sym (found_nowhere (find test) test Some None refl (λ _ _. refl) edges Left
+    (λ k h. c.loop-edge.invariant k (omega arith))))

@@ -1,13 +1,10 @@
 -- `first_bridge` meets its contract. The invariant: the first bridge of all is that of the edges that are left. Assumes nothing.
 use mathlib.Core.Path.{◌≡◌}
-use Prim.Native.Nat.{◌*◌, ◌-◌, ◌≤◌}
+use Prim.Native.Nat.{◌*◌, ◌-◌}
 use lib.ListN.{take, drop}
 use Rattle.tile.specs.Ring.{coords}
 use Rattle.rings.specs.Bridge.{first_bridge}
 use Rattle.rings.proofs.bridge.first_bridge.Given as goal
 
 abbrev pub invariant-loop-k : goal.invariant-loop-k
-invariant-loop-k l = (l.k ≤ l.n) × (first_bridge l.bounds (coords (take (2 * l.n) l.ring)) ≡ first_bridge l.bounds (drop l.k (coords (take (2 * l.n) l.ring))))
-
-abbrev pub decreases-loop-k : goal.decreases-loop-k
-decreases-loop-k l = l.n - l.k
+invariant-loop-k l = first_bridge l.bounds (coords (take (2 * l.n) l.ring)) ≡ first_bridge l.bounds (drop (l.k - 1) (coords (take (2 * l.n) l.ring)))

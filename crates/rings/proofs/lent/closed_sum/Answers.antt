@@ -1,6 +1,6 @@
 -- `closed_sum` meets its contract. The invariant: the count so far, with that of the rings that are left, is that of all. Assumes nothing.
 use mathlib.Core.Path.{◌≡◌, ◌∙◌}
-use Prim.Native.Nat.{◌*◌}
+use Prim.Native.Nat.{◌<◌, ◌*◌}
 use native.Mathlib.Omega.{arith}
 use lib.ListN.{length, get_or, take, drop, length-drop}
 use Rattle.binary64.proofs.Fill.{tail_part}
@@ -11,43 +11,42 @@ use Rattle.rings.proofs.lent.closed_sum.Goals as goal
 
 pub closed_count-count-requires : goal.closed_count-count-requires
 closed_count-count-requires c = let a = c.args in
-    let l = c.loop-k in omega (
+    let l = c.loop-length in omega (
       arith,
-      c.closed_count-arg-1.given.1,
-      left-ring a.lengths.now a.coords.now l.k l.at
-          c.loop-k-test.true l.invariant.0,
+      left-ring a.lengths.now a.coords.now l.length-index l.at
+          (omega arith) l.invariant.0,
     )
 
 pub overflow_add-count : goal.overflow_add-count
 overflow_add-count c = let s = c.args.coords.now in
     let ns = c.args.lengths.now in
-    let l = c.loop-k in
-    let n = get_or ns l.k 0 in
-    let h = c.loop-k-test.true in
-    let f = left-ring ns s l.k l.at h l.invariant.0 in
+    let l = c.loop-length in
+    let n = get_or ns l.length-index 0 in
+    let h : l.length-index < length ns = omega arith in
+    let f = left-ring ns s l.length-index l.at h l.invariant.0 in
     let ring = coordinates (take (2 * n) (drop l.at s)) in
     let e : c.closed_count-count.result ≡ length (close ring) = c.closed_count-count.ensures ∙ rw (tail_part s l.at) in
     let m = length_front (drop l.at s) n (omega (arith, length-drop l.at s)) in omega (arith, close-most ring, l.invariant.2, c.requires.few)
 
-pub loop-k-preserved : goal.loop-k-preserved
-loop-k-preserved c = let s = c.args.coords.now in
+pub loop-length-preserved : goal.loop-length-preserved
+loop-length-preserved c = let s = c.args.coords.now in
     let ns = c.args.lengths.now in
-    let l = c.loop-k in
-    let n = get_or ns l.k 0 in
-    let h = c.loop-k-test.true in
-    let f = left-ring ns s l.k l.at h l.invariant.0 in
+    let l = c.loop-length in
+    let n = get_or ns l.length-index 0 in
+    let h : l.length-index < length ns = omega arith in
+    let f = left-ring ns s l.length-index l.at h l.invariant.0 in
     let ring = coordinates (take (2 * n) (drop l.at s)) in
     let e : c.closed_count-count.result ≡ length (close ring) = c.closed_count-count.ensures ∙ rw (tail_part s l.at) in
     let m = length_front (drop l.at s) n (omega (arith, length-drop l.at s)) in (
-      left_next ns s l.k l.at h l.invariant.0,
-      omega (arith, l.invariant.1, total-step length ns s l.k l.at h),
+      left_next ns s l.length-index l.at h l.invariant.0,
+      omega (arith, l.invariant.1, total-step length ns s l.length-index l.at h),
       omega (arith, close-most ring, l.invariant.2),
     )
 
 pub returns : goal.returns
-returns c = let l = c.loop-k in omega (
+returns c = let l = c.loop-length in omega (
   arith,
   l.invariant.1,
   total_end length c.args.lengths.now
-      c.args.coords.now l.k l.at c.loop-k-test.false,
+      c.args.coords.now l.length-index l.at (omega arith),
 )

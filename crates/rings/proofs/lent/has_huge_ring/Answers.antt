@@ -1,9 +1,9 @@
 -- `has_huge_ring` meets its contract. The invariant: a ring that is left is huge if one of all is. Assumes nothing.
 use mathlib.Core.Path.{◌≡◌, ◌∙◌, sym}
 use mathlib.Core.Bool.{true, false}
-use Prim.Native.Nat.{◌*◌}
+use Prim.Native.Nat.{◌<◌, ◌*◌}
 use native.Mathlib.Omega.{arith}
-use lib.ListN.{get_or, take, drop}
+use lib.ListN.{length, get_or, take, drop}
 use Rattle.binary64.proofs.Fill.{tail_part}
 use Rattle.tile.specs.Ring.{coords as coordinates}
 use Rattle.rings.specs.Representable.{any_huge}
@@ -12,28 +12,27 @@ use Rattle.rings.proofs.lent.has_huge_ring.Goals as goal
 
 pub has_huge-requires : goal.has_huge-requires
 has_huge-requires c = let a = c.args in
-    let l = c.loop-k in omega (
+    let l = c.loop-length in omega (
       arith,
-      c.has_huge-arg-1.given.1,
-      left-ring a.lengths.now a.coords.now l.k l.at
-          c.loop-k-test.true l.invariant.0,
+      left-ring a.lengths.now a.coords.now l.length-index l.at
+          (omega arith) l.invariant.0,
     )
 
 pub returns-then-has_huge : goal.returns-then-has_huge
 returns-then-has_huge c = let s = c.args.coords.now in
     let ns = c.args.lengths.now in
-    let l = c.loop-k in
-    let e : any_huge (coordinates (take (2 * get_or ns l.k 0) (drop l.at s))) ≡ true =
-    sym (c.has_huge.ensures ∙ rw (tail_part s l.at)) ∙ c.if-has_huge.true in sym (l.invariant.1 ∙ huge-step ns s l.k l.at c.loop-k-test.true ∙ rw e)
+    let l = c.loop-length in
+    let e : any_huge (coordinates (take (2 * get_or ns l.length-index 0) (drop l.at s))) ≡ true =
+    sym (c.has_huge.ensures ∙ rw (tail_part s l.at)) ∙ c.if-has_huge.true in sym (l.invariant.1 ∙ huge-step ns s l.length-index l.at (omega arith) ∙ rw e)
 
-pub loop-k-preserved : goal.loop-k-preserved
-loop-k-preserved c = let s = c.args.coords.now in
+pub loop-length-preserved : goal.loop-length-preserved
+loop-length-preserved c = let s = c.args.coords.now in
     let ns = c.args.lengths.now in
-    let l = c.loop-k in
-    let h = c.loop-k-test.true in
-    let e : any_huge (coordinates (take (2 * get_or ns l.k 0) (drop l.at s))) ≡ false =
-    sym (c.has_huge.ensures ∙ rw (tail_part s l.at)) ∙ c.if-has_huge.false in (left_next ns s l.k l.at h l.invariant.0, l.invariant.1 ∙ huge-step ns s l.k l.at h ∙ rw e)
+    let l = c.loop-length in
+    let h : l.length-index < length ns = omega arith in
+    let e : any_huge (coordinates (take (2 * get_or ns l.length-index 0) (drop l.at s))) ≡ false =
+    sym (c.has_huge.ensures ∙ rw (tail_part s l.at)) ∙ c.if-has_huge.false in (left_next ns s l.length-index l.at h l.invariant.0, l.invariant.1 ∙ huge-step ns s l.length-index l.at h ∙ rw e)
 
 pub returns : goal.returns
-returns c = let l = c.loop-k in sym (l.invariant.1 ∙ huge_end c.args.lengths.now
-    c.args.coords.now l.k l.at c.loop-k-test.false)
+returns c = let l = c.loop-length in sym (l.invariant.1 ∙ huge_end c.args.lengths.now
+    c.args.coords.now l.length-index l.at (omega arith))

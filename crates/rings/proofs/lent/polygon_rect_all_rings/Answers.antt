@@ -1,9 +1,9 @@
 -- `polygon_rect_all_rings` meets its contract. The invariant: the rectangle so far, with the rings that are left, is that of all. Assumes
 -- nothing.
 use mathlib.Core.Path.{◌≡◌, ◌∙◌, sym}
-use Prim.Native.Nat.{◌*◌}
+use Prim.Native.Nat.{◌<◌, ◌*◌}
 use native.Mathlib.Omega.{arith}
-use lib.ListN.{get_or, take, drop}
+use lib.ListN.{length, get_or, take, drop}
 use Rattle.binary64.proofs.Fill.{tail_part}
 use Rattle.tile.specs.Ring.{coords as coordinates}
 use Rattle.rings.specs.declared.rectangle.Rect.{Rect}
@@ -13,21 +13,20 @@ use Rattle.rings.proofs.lent.polygon_rect_all_rings.Goals as goal
 
 pub with_ring-rect-requires : goal.with_ring-rect-requires
 with_ring-rect-requires c = let a = c.args in
-    let l = c.loop-k in omega (
+    let l = c.loop-length in omega (
       arith,
-      c.with_ring-arg-1.given.1,
-      left-ring a.lengths.now a.coords.now l.k l.at
-          c.loop-k-test.true l.invariant.0,
+      left-ring a.lengths.now a.coords.now l.length-index l.at
+          (omega arith) l.invariant.0,
     )
 
-pub loop-k-preserved : goal.loop-k-preserved
-loop-k-preserved c = let s = c.args.coords.now in
+pub loop-length-preserved : goal.loop-length-preserved
+loop-length-preserved c = let s = c.args.coords.now in
     let ns = c.args.lengths.now in
-    let l = c.loop-k in
-    let h = c.loop-k-test.true in
-    let e : ◌≡◌ {A = Rect} c.with_ring-rect.result (with_ring l.rect (coordinates (take (2 * get_or ns l.k 0) (drop l.at s)))) =
-    c.with_ring-rect.ensures ∙ rw (tail_part s l.at) in (left_next ns s l.k l.at h l.invariant.0, l.invariant.1 ∙ rw e (rect_step ns s l.k l.at l.rect h))
+    let l = c.loop-length in
+    let h : l.length-index < length ns = omega arith in
+    let e : ◌≡◌ {A = Rect} c.with_ring-rect.result (with_ring l.rect (coordinates (take (2 * get_or ns l.length-index 0) (drop l.at s)))) =
+    c.with_ring-rect.ensures ∙ rw (tail_part s l.at) in (left_next ns s l.length-index l.at h l.invariant.0, l.invariant.1 ∙ rw e (rect_step ns s l.length-index l.at l.rect h))
 
 pub returns : goal.returns
-returns c = let l = c.loop-k in sym (l.invariant.1 ∙ rect_end c.args.lengths.now
-    c.args.coords.now l.k l.at l.rect c.loop-k-test.false)
+returns c = let l = c.loop-length in sym (l.invariant.1 ∙ rect_end c.args.lengths.now
+    c.args.coords.now l.length-index l.at l.rect (omega arith))

@@ -24,7 +24,7 @@ returns-then-not-is_finite_coord c = let s = c.args.ring.now in
     let n = c.args.count in
     let l = c.loop-i in
     let p = c.coord_at-p.result in
-    let t : l.i < n = c.loop-i-test.true in
+    let t : l.i < n = (omega arith) in
     let m = length_front s n c.requires.1 in
     let f : get_or (coords (take (2 * n) s)) l.i none ≡ p = front_at s n l.i none c.requires.1 t
     ∙ sym c.coord_at-p.ensures in
@@ -39,7 +39,7 @@ loop-i-preserved c = let s = c.args.ring.now in
     let n = c.args.count in
     let l = c.loop-i in
     let p = c.coord_at-p.result in
-    let t : l.i < n = c.loop-i-test.true in
+    let t : l.i < n = (omega arith) in
     let m = length_front s n c.requires.1 in
     let f : get_or (coords (take (2 * n) s)) l.i none ≡ p = front_at s n l.i none c.requires.1 t
     ∙ sym c.coord_at-p.ensures in
@@ -67,4 +67,4 @@ loop-i-preserved c = let s = c.args.ring.now in
 pub returns : goal.returns
 returns c = let l = c.loop-i in
     let m = length_front c.args.ring.now c.args.count c.requires.1 in sym (l.invariant.1 ∙ ring_end (Rects.Box l.west l.south l.east l.north)
-    (coords (take (2 * c.args.count) c.args.ring.now)) l.i (omega (arith, c.loop-i-test.false)))
+    (coords (take (2 * c.args.count) c.args.ring.now)) l.i (omega arith))

@@ -2,7 +2,6 @@
 use mathlib.Core.Path.{sym, ◌∙◌, ap}
 use Prim.Native.Nat.{◌*◌}
 use native.Mathlib.Omega.{arith}
-use borrow.Author.Rules.{rules}
 use lib.Ieee.{nan}
 use lib.ListN.{take}
 use Rattle.tile.specs.declared.Coord.{Coord}
@@ -22,7 +21,7 @@ returns-then-is_huge_coord c = let s = c.args.ring.now in
     let m = length_front s n c.requires in
     let e = sym (c.is_huge_coord.ensures
     ∙ ap huge_coord (c.coord_at.ensures
-    ∙ sym (front_at s n l.i none c.requires c.loop-i-test.true))) ∙ c.if-is_huge_coord.true in sym (l.invariant.1 ∙ huge-here (coords (take (2 * n) s)) l.i none (omega arith) e)
+    ∙ sym (front_at s n l.i none c.requires (omega arith)))) ∙ c.if-is_huge_coord.true in sym (l.invariant ∙ huge-here (coords (take (2 * n) s)) l.i none (omega arith) e)
 
 pub loop-i-preserved : goal.loop-i-preserved
 loop-i-preserved c = let s = c.args.ring.now in
@@ -31,7 +30,8 @@ loop-i-preserved c = let s = c.args.ring.now in
     let m = length_front s n c.requires in
     let e = sym (c.is_huge_coord.ensures
     ∙ ap huge_coord (c.coord_at.ensures
-    ∙ sym (front_at s n l.i none c.requires c.loop-i-test.true))) ∙ c.if-is_huge_coord.false in (search rules, l.invariant.1 ∙ huge-later (coords (take (2 * n) s)) l.i none (omega arith) e)
+    ∙ sym (front_at s n l.i none c.requires (omega arith)))) ∙ c.if-is_huge_coord.false in 
+    l.invariant ∙ huge-later (coords (take (2 * n) s)) l.i none (omega arith) e
 
 pub returns : goal.returns
-returns c = let m = length_front c.args.ring.now c.args.n c.requires in sym (c.loop-i.invariant.1 ∙ huge-none (coords (take (2 * c.args.n) c.args.ring.now)) c.loop-i.i (omega arith))
+returns c = let m = length_front c.args.ring.now c.args.n c.requires in sym (c.loop-i.invariant ∙ huge-none (coords (take (2 * c.args.n) c.args.ring.now)) c.loop-i.i (omega arith))

@@ -10,5 +10,6 @@ unfolding Ring.closed Ring.coords
 returns-then-n-eq0 c = rw c.if-n-eq0.true
 
 pub returns : goal.returns
+unfolding Ring.same
 returns c = rw (closed-front c.args.ring.now c.args.n c.requires (omega arith))
-    (c.equals.ensures ∙ ap₂ Ring.same c.coord_at-first.ensures c.coord_at.ensures)
+    (c.eq.ensures ∙ ap₂ Ring.same c.coord_at-first.ensures c.coord_at.ensures)
