@@ -6,10 +6,10 @@ use mathlib.Core.List.{List, [], ◌∷◌, ◌++◌}
 use Prim.Native.Nat.{suc, ◌-◌, ◌≤◌, ◌<◌}
 use native.Mathlib.Omega.{arith}
 use lib.ListN.{length, get_or}
+use Rattle.std.specs.Prelude.{None}
 use Rattle.tile.specs.declared.Coord.{Coord}
 use Rattle.tile.specs.Ring.{same, last, closed, close}
 use Rattle.tile.proofs.Rings.{close-closed, last-at, last-append}
-use Rattle.box_pairs.specs.declared.Repeat.TheVariants as Repeats
 use Rattle.box_pairs.specs.Cross.{degenerate}
 use Rattle.box_pairs.specs.Internal.{repeated}
 use Rattle.box_pairs.specs.Issue.{first_repeated}
@@ -96,7 +96,7 @@ unfolding mend
 none-repeated [] = repeated-few [] (omega arith)
 none-repeated (p ∷ r) = kept_new p r
 
-pub none_told : (ring : List Coord) → first_repeated (mend ring) ≡ Repeats.None
+pub none_told : (ring : List Coord) → first_repeated (mend ring) ≡ None
 none_told ring = repeated-none (mend ring) (none-repeated ring)
 
 -- "except the closing one"

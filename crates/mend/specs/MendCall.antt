@@ -1,10 +1,9 @@
 -- The mending call (document 02, "Point 7: mend repeated corners"): what it answers, and what the output holds afterwards. Definitions
 -- only.
-use Rattle.std.specs.Prelude.{◌≡◌, Bool, true, false, List, ℕ, Result, Ok, Err, ◌*◌, ◌%◌, ltb, eqb, Float, ℤ, pos, neg_ℤ, length, take}
+use Rattle.std.specs.Prelude.{◌≡◌, Bool, true, false, List, ℕ, None, Result, Ok, Err, ◌*◌, ◌%◌, ltb, eqb, Float, ℤ, pos, neg_ℤ, length, take}
 use Rattle.binary64.specs.Slices.{over}
 use Rattle.tile.specs.declared.Coord.{Coord}
 use Rattle.tile.specs.Ring.{coords, flat, close}
-use Rattle.box_pairs.specs.declared.Repeat.TheVariants as Repeats
 use Rattle.box_pairs.specs.Issue.{first_repeated}
 use Rattle.sutherland_hodgman.specs.Growth.{most_coordinates}
 use Rattle.mend.specs.declared.MendRefusal.{MendRefusal}
@@ -64,4 +63,4 @@ abbrev pub MendPromise : Result ℕ MendRefusal → List Float → Type 0
 MendPromise (Err refusal) out = Unit {0}
 MendPromise (Ok n) out =
     let mended = coords (take (2 * n) out) in
-    (first_repeated mended ≡ Repeats.None) × (mend (close mended) ≡ close mended)
+    (first_repeated mended ≡ None) × (mend (close mended) ≡ close mended)

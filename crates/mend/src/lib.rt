@@ -6,7 +6,7 @@ ghost use Rattle.std.specs.Prelude.{◌≡◌, ◌+◌, ◌*◌, ◌-◌, ◌≤
 ghost use Rattle.tile.specs.Ring.{coords, close};
 ghost use Rattle.tile.specs.Internal.{Written};
 ghost use Rattle.mend.specs.Mend.{mend};
-ghost use Rattle.mend.specs.MendCall.{mend_call_answer, mend_call_output, MendPromise};
+ghost use Rattle.mend.specs.MendCall.{mend_refusal_number, mend_call_answer, mend_call_output, MendPromise};
 ghost use Rattle.mend.specs.Internal.{closed_by, NextKept, FewKept};
 
 use box_pairs::cross::is_degenerate;
@@ -21,6 +21,19 @@ pub enum MendRefusal {
     Coordinates,
     Output,
     Short,
+}
+
+impl From<MendRefusal> for u8 {
+    ghost from_gives = { λ refusal number. number ≡ mend_refusal_number refusal };
+
+    fn from(refusal: MendRefusal) -> u8 {
+        match refusal {
+            MendRefusal::Lengths => 19,
+            MendRefusal::Coordinates => 20,
+            MendRefusal::Output => 22,
+            MendRefusal::Short => 26,
+        }
+    }
 }
 
 // The position of the next coordinate kept behind the k-th, which is kept: the first that is not near it, or the closing one's, `end`.

@@ -2,6 +2,7 @@
 use mathlib.Core.Path.{◌≡◌, subst, ◌∙◌}
 use mathlib.Core.Bool.{Bool, true, ◌&&◌}
 use mathlib.Core.List.{List}
+use Rattle.std.specs.Prelude.{Option}
 use Prim.Native.Nat.{ℕ, ◌+◌, ◌-◌, ◌*◌, ◌/◌, ◌<◌, ◌≤◌}
 use native.Mathlib.Omega.{arith}
 use lib.Dec.{leb, ltb}
@@ -49,7 +50,7 @@ pub issue_fits : (ring : List Float) (b : Bool) → length ring / 2 < most → I
 issue_fits ring b l =
     issue_below most b (front ring (length ring / 2)) (omega (arith, length_front ring (length ring / 2) (omega arith)))
 
-pub pair_fits : (ring : List Float) (n : ℕ) (x : Pair) → n < most → 2 * n ≤ length ring → (n ≡ 0 → ⊥) → x ≡ first_pair
+pub pair_fits : (ring : List Float) (n : ℕ) (x : Option Pair) → n < most → 2 * n ≤ length ring → (n ≡ 0 → ⊥) → x ≡ first_pair
     (front ring (n - 1 + 1))
     → PairBelow most x
 pair_fits ring n x l room some e =
@@ -60,7 +61,7 @@ pair_fits ring n x l room some e =
 pub one_edge_less : (P : ℕ → Type 0) (n : ℕ) → (n ≡ 0 → ⊥) → P n → P (n - 1 + 1)
 one_edge_less P n h p = let q : n ≡ n - 1 + 1 = omega arith in subst P q p
 
-pub same_pair : (ring : List Float) (n : ℕ) (x : Pair) → (n ≡ 0 → ⊥) → x ≡ first_pair (front ring (n - 1 + 1))
+pub same_pair : (ring : List Float) (n : ℕ) (x : Option Pair) → (n ≡ 0 → ⊥) → x ≡ first_pair (front ring (n - 1 + 1))
     → pair_code x ≡ pair_code (first_pair (front ring n))
 same_pair ring n x h e = let q : n - 1 + 1 ≡ n = omega arith in rw (e, q)
 

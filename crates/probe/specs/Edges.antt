@@ -1,9 +1,8 @@
 -- What the calls on edges answer: the definitions of `box_pairs`, as codes, where there is room.
-use Rattle.std.specs.Prelude.{Bool, not, cond, ◌&&◌, ◌||◌, List, ℕ, ◌+◌, ◌-◌, ◌*◌, ◌/◌, ◌^◌, eqb, leb, ltb, Float, length}
+use Rattle.std.specs.Prelude.{Bool, not, cond, ◌&&◌, ◌||◌, List, ℕ, ◌+◌, ◌-◌, ◌*◌, ◌/◌, ◌^◌, eqb, leb, ltb, Float, length, Option, None, Some}
 use Rattle.box_pairs.specs.declared.Issue.{Issue}
 use Rattle.box_pairs.specs.declared.Issue.TheVariants.{Sound, Short, Repeated, Crossing}
 use Rattle.box_pairs.specs.declared.pairs.Pair.{Pair}
-use Rattle.box_pairs.specs.declared.pairs.Pair.TheVariants.{None, At}
 use Rattle.box_pairs.specs.Internal.{front}
 use Rattle.box_pairs.specs.Pairs.{first_pair}
 use Rattle.box_pairs.specs.Issue.{issue_of}
@@ -18,9 +17,9 @@ issue_code Short = 1
 issue_code (Repeated position) = located 2 position 0
 issue_code (Crossing lower higher) = located 3 lower higher
 
-abbrev pub pair_code : Pair → ℕ
+abbrev pub pair_code : Option Pair → ℕ
 pair_code None = 0
-pair_code (At lower higher) = located 1 lower higher
+pair_code (Some pair) = located 1 pair.lower pair.higher
 
 -- the answer where nothing is looked for
 abbrev pub no_answer : ℕ

@@ -45,13 +45,13 @@ fn issue_code(issue: Issue) -> u64
     }
 }
 
-fn pair_code(pair: Pair) -> u64
+fn pair_code(pair: Option<Pair>) -> u64
     requires { PairBelow Edges.most pair }
     ensures { result ≡ Edges.pair_code pair }
 {
     match pair {
-        Pair::None => 0,
-        Pair::At(lower, higher) => located(1, lower, higher),
+        None => 0,
+        Some(pair) => located(1, pair.lower, pair.higher),
     }
 }
 

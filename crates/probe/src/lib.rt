@@ -2,7 +2,7 @@
 // shipped.
 #![tactic(auto)]
 
-ghost use Rattle.std.specs.Prelude.{◌≡◌, get_or, set, take};
+ghost use Rattle.std.specs.Prelude.{◌≡◌, Ok, get_or, set, take};
 ghost use Rattle.std.specs.Float.{nan};
 ghost use Rattle.tile.specs.Ring.{coords};
 ghost use Rattle.tile.specs.Bounds.{empty, is_valid, expand, intersect, width, height, buffered};
@@ -11,7 +11,7 @@ ghost use Rattle.sutherland_hodgman.specs.Internal.{RingCut};
 ghost use Rattle.ring_calls.specs.RingCall.{ring_slices, ring_call_check};
 ghost use Rattle.probe.specs.Numbers.{bounds_at, stored};
 
-use ring_calls::{Check, check_ring};
+use ring_calls::check_ring;
 use sutherland_hodgman::clip_ring;
 use tile::TileBounds;
 
@@ -118,10 +118,10 @@ pub extern "C" fn probe_clip_ring(
     out_origins: &mut [u16],
 ) -> usize
     ensures ring { ring_call_check ring.now
-        (ring_slices scratch.old origin_scratch.old out.old out_origins.old) ≡ Check.Passes
+        (ring_slices scratch.old origin_scratch.old out.old out_origins.old) ≡ Ok tt
         → RingCut (bounds_at bounds.now) (coords ring.now) result out.new }
     ensures origins { ring_call_check ring.now
-        (ring_slices scratch.old origin_scratch.old out.old out_origins.old) ≡ Check.Passes
+        (ring_slices scratch.old origin_scratch.old out.old out_origins.old) ≡ Ok tt
         → take result out_origins.new ≡ clip_origins (bounds_at bounds.now) (coords ring.now) }
 {
     match check_ring(
@@ -131,8 +131,8 @@ pub extern "C" fn probe_clip_ring(
         out.len(),
         out_origins.len(),
     ) {
-        Check::Fails(_) => 0,
-        Check::Passes => clip_ring(
+        Err(_) => 0,
+        Ok(()) => clip_ring(
             ring,
             ring.len() / 2,
             bounds_at(bounds),

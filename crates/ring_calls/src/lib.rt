@@ -5,7 +5,7 @@
 ghost use Rattle.std.specs.Prelude.{◌≡◌, ◌*◌, length, take};
 ghost use Rattle.tile.specs.Ring.{coords};
 ghost use Rattle.sutherland_hodgman.specs.Internal.{CutterRoom, OriginRoom};
-ghost use Rattle.ring_calls.specs.RingCall.{check_ring, ring_slices, ring_call_answer, ring_call_slices, RingCallPromise};
+ghost use Rattle.ring_calls.specs.RingCall.{refusal_number, check_ring, ring_slices, ring_call_answer, ring_call_slices, RingCallPromise};
 ghost use Rattle.ring_calls.specs.Internal.{PaddedCut, PaddedOrigins};
 
 use sutherland_hodgman::growth::{MOST_COORDINATES, room_for};
@@ -19,6 +19,19 @@ pub enum Refusal {
     Coordinates,
     Scratch,
     Output,
+}
+
+impl From<Refusal> for u8 {
+    ghost from_gives = { λ refusal number. number ≡ refusal_number refusal };
+
+    fn from(refusal: Refusal) -> u8 {
+        match refusal {
+            Refusal::Lengths => 19,
+            Refusal::Coordinates => 20,
+            Refusal::Scratch => 21,
+            Refusal::Output => 22,
+        }
+    }
 }
 
 // The refusals of a ring call, in their order, by the count of numbers and the lengths of the other slices.

@@ -2,7 +2,7 @@
 // says what they must be; a refusal is answered as minus its number.
 #![tactic(auto)]
 
-ghost use Rattle.std.specs.Prelude.{◌≡◌};
+ghost use Rattle.std.specs.Prelude.{◌≡◌, neg_ℤ, pos};
 ghost use Rattle.tile.specs.Bounds.{new_of};
 ghost use Rattle.mend.specs.MendCall.{mend_call_answer, mend_call_code, mend_call_output, MendPromise};
 ghost use Rattle.ring_calls.specs.RingCall.{ring_slices, ring_call_answer, ring_call_code, ring_call_slices, RingCallPromise};
@@ -14,23 +14,14 @@ ghost use Rattle.ringcut_calls.specs.Flags.{is_set, flags_of};
 ghost use Rattle.ringcut_calls.specs.Version.{version};
 
 use clip::polygon::Flags;
-use frame_bytes::reader::refusal_number;
-use frames::entry::FrameAnswer;
-use mend::{MendAnswer, MendRefusal};
-use ring_calls::{Refusal, RingAnswer};
 use slices::call::{SliceAnswer, answer_code};
 use tile::TileBounds;
 
-// Minus the number of a refusal.
-fn refusal_code(r: Refusal) -> i64
-    ensures { result ≡ ring_call_code (RingAnswer.Refused r) }
+// The code of a refusal, by its number: minus that.
+fn refusal_code(number: u8) -> i64
+    ensures { result ≡ neg_ℤ (pos number) }
 {
-    match r {
-        Refusal::Lengths => -19,
-        Refusal::Coordinates => -20,
-        Refusal::Scratch => -21,
-        Refusal::Output => -22,
-    }
+    -i64::from(number)
 }
 
 // The ring call: the count of coordinates of the cut ring, or minus the refusal. A NaN stands exactly where the definition has one, and
@@ -59,8 +50,8 @@ pub extern "C" fn ringcut_ring(
 {
     let bounds = TileBounds::new(west, south, east, north);
     match ring_calls::ring(ring, bounds, scratch, origin_scratch, out, out_origins) {
-        RingAnswer::Refused(r) => refusal_code(r),
-        RingAnswer::Clipped(n) => n as i64,
+        Err(refusal) => refusal_code(u8::from(refusal)),
+        Ok(n) => n as i64,
     }
 }
 
@@ -123,7 +114,7 @@ pub extern "C" fn ringcut_polygon(
         out_lengths,
         out_origins,
     ) {
-        SliceAnswer::Refused(r) => refusal_code(r),
+        Err(refusal) => refusal_code(u8::from(refusal)),
         SliceAnswer::Answered(answer, guards) => answer_code(answer) as i64,
     }
 }
@@ -135,20 +126,8 @@ pub extern "C" fn ringcut_frame(frame: &[u8], out: &mut [u8]) -> i64
     ensures lent { out.new ≡ frame_call_output frame.now out.old }
 {
     match frames::entry::frame(frame, out) {
-        FrameAnswer::Refused(r) => -(refusal_number(r) as i64),
-        FrameAnswer::Answered(n) => n as i64,
-    }
-}
-
-// Minus the number of a refusal of the mending call.
-fn mend_refusal_code(r: MendRefusal) -> i64
-    ensures { result ≡ mend_call_code (MendAnswer.Refused r) }
-{
-    match r {
-        MendRefusal::Lengths => -19,
-        MendRefusal::Coordinates => -20,
-        MendRefusal::Output => -22,
-        MendRefusal::Short => -26,
+        Err(refusal) => refusal_code(u8::from(refusal)),
+        Ok(n) => n as i64,
     }
 }
 
@@ -161,8 +140,8 @@ pub extern "C" fn ringcut_mend(ring: &[f64], out: &mut [f64]) -> i64
     ensures promise { MendPromise (mend_call_answer ring.now out.old) out.new }
 {
     match mend::mend_ring(ring, out) {
-        MendAnswer::Refused(r) => mend_refusal_code(r),
-        MendAnswer::Mended(n) => n as i64,
+        Err(refusal) => refusal_code(u8::from(refusal)),
+        Ok(n) => n as i64,
     }
 }
 

@@ -6,8 +6,8 @@ use Rattle.ringcut_calls.proofs.Codes.{mended_fit}
 use Rattle.ringcut_calls.proofs.ringcut_mend.Goals as goal
 
 pub overflow_cast-result : goal.overflow_cast-result
-overflow_cast-result c = mended_fit _ _ _ (sym c.mend_ring.ensures.answer ∙ c.in-Mended.is)
+overflow_cast-result c = mended_fit _ _ _ (sym c.mend_ring.ensures.answer ∙ c.in-Ok.is)
 
-pub returns-in-Mended-clause-answer : goal.returns-in-Mended-clause-answer
-returns-in-Mended-clause-answer c = let e = c.mend_ring.ensures in
-    let q = c.in-Mended.is in rw (← e.answer) (to_z-of_z (mended_fit _ _ _ (sym e.answer ∙ q)) ∙ ap mend_call_code (sym q))
+pub returns-in-Ok-clause-answer : goal.returns-in-Ok-clause-answer
+returns-in-Ok-clause-answer c = let e = c.mend_ring.ensures in
+    let q = c.in-Ok.is in rw (← e.answer) (to_z-of_z (mended_fit _ _ _ (sym e.answer ∙ q)) ∙ ap mend_call_code (sym q))

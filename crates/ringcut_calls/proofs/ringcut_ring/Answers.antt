@@ -7,11 +7,11 @@ use Rattle.ringcut_calls.proofs.Codes.{count_fits}
 use Rattle.ringcut_calls.proofs.ringcut_ring.Goals as goal
 
 pub overflow_cast-result : goal.overflow_cast-result
-overflow_cast-result c = count_fits _ (answer-few _ _ _ _ (sym c.ring.ensures.answer ∙ c.in-Clipped.is))
+overflow_cast-result c = count_fits _ (answer-few _ _ _ _ (sym c.ring.ensures.answer ∙ c.in-Ok.is))
 
-pub returns-in-Clipped-clause-answer : goal.returns-in-Clipped-clause-answer
-returns-in-Clipped-clause-answer c = let e = c.ring.ensures in
-    let q = c.in-Clipped.is in rw (
+pub returns-in-Ok-clause-answer : goal.returns-in-Ok-clause-answer
+returns-in-Ok-clause-answer c = let e = c.ring.ensures in
+    let q = c.in-Ok.is in rw (
       ← c.new-bounds.ensures,
       ← e.answer,
     ) (to_z-of_z (count_fits _ (answer-few _ _ _ _ (sym e.answer ∙ q))) ∙ ap ring_call_code (sym q))
