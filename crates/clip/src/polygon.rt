@@ -144,7 +144,7 @@ fn closed_issue(
     requires { Internal.ExteriorRoom n ring.now (length scratch.old) (length out.old) (length order.old) }
     ensures { result ≡ issue_of assume_simple (Ring.close (Ring.coords (take (2 * n) ring.now))) }
 {
-    if is_closed(ring, n) {
+    if is_closed(&ring[..2 * n]) {
         return find_issue(ring, n, assume_simple, scratch, order);
     }
     out[..2 * n].copy_from_slice(&ring[..2 * n]);

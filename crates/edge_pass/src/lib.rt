@@ -34,7 +34,7 @@ fn left_off(ring: &[f64], n: usize) -> usize
     if n < 2 {
         return n;
     }
-    if is_closed(ring, n) {
+    if is_closed(&ring[..2 * n]) {
         return n - 1;
     }
     n

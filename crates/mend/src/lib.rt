@@ -101,7 +101,7 @@ pub fn mend_ring(ring: &[f64], out: &mut [f64]) -> Result<usize, MendRefusal>
         return Err(MendRefusal::Lengths);
     }
     let n = ring.len() / 2;
-    let m = closed_count(ring, n);
+    let m = closed_count(&ring[..2 * n]);
     if MOST_COORDINATES < m {
         return Err(MendRefusal::Coordinates);
     }

@@ -38,7 +38,7 @@ pub fn closed_sum(coords: &[f64], lengths: &[u32]) -> usize
     let mut at = 0usize;
     for length in lengths {
         let n = *length as usize;
-        count += closed_count(&coords[at..], n);
+        count += closed_count(&coords[at..][..2 * n]);
         at += 2 * n;
     }
     count
@@ -54,7 +54,7 @@ pub fn room_of(coords: &[f64], lengths: &[u32]) -> RoomNeeded
     let mut at = 0usize;
     for length in lengths {
         let n = *length as usize;
-        let room = room_for(closed_count(&coords[at..], n));
+        let room = room_for(closed_count(&coords[at..][..2 * n]));
         largest = largest.max(room);
         all += room;
         at += 2 * n;
@@ -71,7 +71,7 @@ pub fn polygon_rect_all_rings(coords: &[f64], lengths: &[u32]) -> Rect
     let mut at = 0usize;
     for length in lengths {
         let n = *length as usize;
-        rect = with_ring(rect, &coords[at..], n);
+        rect = with_ring(rect, &coords[at..][..2 * n]);
         at += 2 * n;
     }
     rect
@@ -85,7 +85,7 @@ pub fn has_huge_ring(coords: &[f64], lengths: &[u32]) -> bool
     let mut at = 0usize;
     for length in lengths {
         let n = *length as usize;
-        if has_huge(&coords[at..], n) {
+        if has_huge(&coords[at..][..2 * n]) {
             return true;
         }
         at += 2 * n;

@@ -1,12 +1,11 @@
 // The rectangle of all rings of a polygon, and where it lies: the source's `intersects_bounds` and `is_fully_inside`, and a step of its
 // `polygon_rect_all_rings`.
-ghost use Rattle.std.specs.Prelude.{◌≡◌, ◌*◌, ◌≤◌, length, take, drop};
-ghost use Rattle.tile.specs.Ring.{coords};
+ghost use Rattle.std.specs.Prelude.{◌≡◌, drop};
 ghost use Rattle.rings.specs.Rectangle as Rectangle;
 ghost use Rattle.rings.specs.Internal as Internal;
 
 use binary64::compare::{higher, is_finite, lower, maximum, minimum};
-use tile::ring::coord_at;
+use tile::ring::Coords;
 use tile::{Coord, TileBounds};
 
 // Of no coordinate, of one that is not finite, or west, south, east and north.
@@ -49,22 +48,23 @@ pub fn with_coord(r: Rect, p: Coord) -> Rect
     }
 }
 
-// The rectangle of four numbers with the coordinates at the front of a slice, from the second to the nth. The numbers are carried one by
-// one: an enum would be stored and read back for every coordinate. None is a NaN, so `lower` and `higher` are the minimum and the maximum,
-// by one comparison each.
-fn box_with_rest(w: f64, s: f64, e: f64, n: f64, ring: &[f64], count: usize) -> Rect
-    requires { Internal.Numbers w s e n × (2 * count ≤ length ring.now) }
-    ensures { result ≡ Rectangle.with_ring (Rect.Box w s e n) (drop 1 (coords (take (2 * count) ring.now))) }
+// The rectangle of four numbers with the coordinates of a ring from the second on. The numbers are carried one by one: an enum would be
+// stored and read back for every coordinate. None is a NaN, so `lower` and `higher` are the minimum and the maximum, by one comparison
+// each. Where it is asked first whether a coordinate of a frame is finite, the compiler reads its bits once and leaves out the making of a
+// NaN from them.
+fn box_with_rest<R: Coords + Copy>(w: f64, s: f64, e: f64, n: f64, ring: R) -> Rect
+    requires { Internal.Numbers w s e n }
+    ensures { result ≡ Rectangle.with_ring (Rect.Box w s e n) (drop 1 (R.coords ring)) }
 {
     let mut west = w;
     let mut south = s;
     let mut east = e;
     let mut north = n;
-    for i in 1..count {
-        let p = coord_at(ring, i);
-        if !is_finite_coord(p) {
+    for i in 1..ring.count() {
+        if !is_finite_coord(ring.coord(i)) {
             return Rect::NotFinite;
         }
+        let p = ring.coord(i);
         west = lower(west, p.x);
         south = lower(south, p.y);
         east = higher(east, p.x);
@@ -73,18 +73,17 @@ fn box_with_rest(w: f64, s: f64, e: f64, n: f64, ring: &[f64], count: usize) -> 
     Rect::Box(west, south, east, north)
 }
 
-// The rectangle with the n coordinates at the front of a slice. The first leaves something in it, so the arm for Nothing is never taken.
-pub fn with_ring(r: Rect, ring: &[f64], n: usize) -> Rect
-    requires { 2 * n ≤ length ring.now }
-    ensures { result ≡ Rectangle.with_ring r (coords (take (2 * n) ring.now)) }
+// The rectangle with all of a ring. Its first coordinate leaves something in it, so the arm for Nothing is never taken.
+pub fn with_ring<R: Coords + Copy>(r: Rect, ring: R) -> Rect
+    ensures { result ≡ Rectangle.with_ring r (R.coords ring) }
 {
-    if n == 0 {
+    if ring.count() == 0 {
         return r;
     }
-    match with_coord(r, coord_at(ring, 0)) {
+    match with_coord(r, ring.coord(0)) {
         Rect::Nothing => Rect::Nothing,
         Rect::NotFinite => Rect::NotFinite,
-        Rect::Box(west, south, east, north) => box_with_rest(west, south, east, north, ring, n),
+        Rect::Box(west, south, east, north) => box_with_rest(west, south, east, north, ring),
     }
 }
 

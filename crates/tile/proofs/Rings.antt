@@ -2,7 +2,7 @@
 use mathlib.Core.Path.{◌≡◌, refl, sym, ◌∙◌, ap}
 use mathlib.Core.Bool.{Bool, true, false, cond, true≢false}
 use mathlib.Core.List.{List, [], ◌∷◌, ◌++◌}
-use Prim.Native.Nat.{ℕ, zero, suc, ◌+◌, ◌*◌, ◌-◌, ◌<◌, ◌≤◌}
+use Prim.Native.Nat.{ℕ, zero, suc, ◌+◌, ◌*◌, ◌-◌, ◌/◌, ◌<◌, ◌≤◌}
 use native.Mathlib.Numerals.{add-one}
 use native.Mathlib.Omega.{arith}
 use lib.ListN.{length, get_or, take, drop, length-append, take-append-drop}
@@ -39,6 +39,27 @@ flat-coords (suc n) (x ∷ y ∷ s) e = ap (λ (t : List Float). x ∷ y ∷ t) 
 
 pub length-coords : (n : ℕ) (s : List Float) → length s ≡ 2 * n → length (coords s) ≡ n
 length-coords n s e = omega (arith, length-flat (coords s), ap length (flat-coords n s e))
+
+-- half as many coordinates as numbers, rounded down
+
+coords-low : (s : List Float) → 2 * length (coords s) ≤ length s
+unfolding coords
+coords-low [] = omega arith
+coords-low (x ∷ []) = omega arith
+coords-low (x ∷ y ∷ s) = let h = coords-low s in omega arith
+
+coords-high : (s : List Float) → length s ≤ 2 * length (coords s) + 1
+unfolding coords
+coords-high [] = omega arith
+coords-high (x ∷ []) = omega arith
+coords-high (x ∷ y ∷ s) = let h = coords-high s in omega arith
+
+pub count-coords : (s : List Float) → length (coords s) ≡ length s / 2
+count-coords s = omega (arith, coords-low s, coords-high s)
+
+-- the numbers of the i-th coordinate are there
+pub coord-fits : (s : List Float) (i : ℕ) → i < length (coords s) → 2 * i + 1 < length s
+coord-fits s i h = omega (arith, coords-low s)
 
 -- ---- the ring of n coordinates at the front of a slice
 
@@ -88,7 +109,7 @@ written-front w = stands-front (written_stands w)
 
 -- ---- a coordinate by its place
 
-coords-at : (i : ℕ) (s : List Float) (z : Coord) → 2 * i + 1 < length s → get_or (coords s) i z ≡ coord_at s i
+pub coords-at : (i : ℕ) (s : List Float) (z : Coord) → 2 * i + 1 < length s → get_or (coords s) i z ≡ coord_at s i
 unfolding coords
 coords-at i [] z h = absurd (omega arith)
 coords-at i (x ∷ []) z h = absurd (omega arith)
@@ -108,8 +129,13 @@ unfolding last
 last-at p [] z = refl
 last-at p (q ∷ r) z = last-at q r z
 
+pub closed_none : (l : List Coord) → length l ≡ 0 → closed l ≡ true
+unfolding closed
+closed_none [] e = refl
+closed_none (p ∷ r) e = absurd (omega arith)
+
 -- closed, by the first and the last coordinate
-closed_at : (l : List Coord) (n : ℕ) (z : Coord) → length l ≡ suc n → closed l ≡ same (get_or l 0 z) (get_or l n z)
+pub closed_at : (l : List Coord) (n : ℕ) (z : Coord) → length l ≡ suc n → closed l ≡ same (get_or l 0 z) (get_or l n z)
 unfolding closed
 closed_at [] n z e = absurd (omega arith)
 closed_at (p ∷ r) n z e = let h : length r ≡ n = omega arith in rw (last-at p r z, h)

@@ -9,6 +9,10 @@ use Rattle.tile.specs.Ring.{flat}
 abbrev pub coord_at : List Float → ℕ → Coord
 coord_at s i = record { x = get_or s (2 * i) nan; y = get_or s (2 * i + 1) nan }
 
+-- what stands for a coordinate at a position past the last
+unfoldable pub nowhere : Coord
+nowhere = record { x = nan; y = nan }
+
 -- a ring stands at the front of a slice, r coordinates long; what lies past it is left open
 pub record Stands (ring : List Coord) (r : ℕ) (after : List Float) : Type 0 where
   pub count : r ≡ length ring

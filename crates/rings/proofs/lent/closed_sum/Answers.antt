@@ -1,21 +1,23 @@
 -- `closed_sum` meets its contract. The invariant: the count so far, with that of the rings that are left, is that of all. Assumes nothing.
-use mathlib.Core.Path.{◌≡◌, ◌∙◌}
+use mathlib.Core.Path.{◌≡◌, ◌∙◌, ap, sym}
 use Prim.Native.Nat.{◌<◌, ◌*◌}
 use native.Mathlib.Omega.{arith}
 use lib.ListN.{length, get_or, take, drop, length-drop}
+use lib.Seq.{length-take-le}
 use Rattle.binary64.proofs.Fill.{tail_part}
 use Rattle.tile.specs.Ring.{coords as coordinates, close}
 use Rattle.tile.proofs.Rings.{length_front, close-most}
 use Rattle.rings.proofs.LentRings.{left-ring, left_next, total-step, total_end}
 use Rattle.rings.proofs.lent.closed_sum.Goals as goal
 
-pub closed_count-count-requires : goal.closed_count-count-requires
-closed_count-count-requires c = let a = c.args in
-    let l = c.loop-length in omega (
+pub slice_bounds-closed_count-end-in-loop-length : goal.slice_bounds-closed_count-end-in-loop-length
+slice_bounds-closed_count-end-in-loop-length c = let a = c.args in
+    let l = c.loop-length in sym (length-take-le _ _ (omega (
       arith,
-      left-ring a.lengths.now a.coords.now l.length-index l.at
-          (omega arith) l.invariant.0,
-    )
+      left-ring a.lengths.now a.coords.now l.length-index l.at (omega arith) l.invariant.0,
+      ap length (tail_part a.coords.now l.at),
+      length-drop l.at a.coords.now,
+    )))
 
 pub overflow_add-count : goal.overflow_add-count
 overflow_add-count c = let s = c.args.coords.now in

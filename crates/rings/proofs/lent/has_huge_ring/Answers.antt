@@ -1,22 +1,24 @@
 -- `has_huge_ring` meets its contract. The invariant: a ring that is left is huge if one of all is. Assumes nothing.
-use mathlib.Core.Path.{◌≡◌, ◌∙◌, sym}
+use mathlib.Core.Path.{◌≡◌, ◌∙◌, sym, ap}
 use mathlib.Core.Bool.{true, false}
 use Prim.Native.Nat.{◌<◌, ◌*◌}
 use native.Mathlib.Omega.{arith}
-use lib.ListN.{length, get_or, take, drop}
+use lib.ListN.{length, get_or, take, drop, length-drop}
+use lib.Seq.{length-take-le}
 use Rattle.binary64.proofs.Fill.{tail_part}
 use Rattle.tile.specs.Ring.{coords as coordinates}
 use Rattle.rings.specs.Representable.{any_huge}
 use Rattle.rings.proofs.LentRings.{left-ring, left_next, huge-step, huge_end}
 use Rattle.rings.proofs.lent.has_huge_ring.Goals as goal
 
-pub has_huge-requires : goal.has_huge-requires
-has_huge-requires c = let a = c.args in
-    let l = c.loop-length in omega (
+pub slice_bounds-has_huge-end-in-loop-length : goal.slice_bounds-has_huge-end-in-loop-length
+slice_bounds-has_huge-end-in-loop-length c = let a = c.args in
+    let l = c.loop-length in sym (length-take-le _ _ (omega (
       arith,
-      left-ring a.lengths.now a.coords.now l.length-index l.at
-          (omega arith) l.invariant.0,
-    )
+      left-ring a.lengths.now a.coords.now l.length-index l.at (omega arith) l.invariant.0,
+      ap length (tail_part a.coords.now l.at),
+      length-drop l.at a.coords.now,
+    )))
 
 pub returns-then-has_huge : goal.returns-then-has_huge
 returns-then-has_huge c = let s = c.args.coords.now in

@@ -1,9 +1,10 @@
 -- `polygon_rect_all_rings` meets its contract. The invariant: the rectangle so far, with the rings that are left, is that of all. Assumes
 -- nothing.
-use mathlib.Core.Path.{◌≡◌, ◌∙◌, sym}
+use mathlib.Core.Path.{◌≡◌, ◌∙◌, sym, ap}
 use Prim.Native.Nat.{◌<◌, ◌*◌}
 use native.Mathlib.Omega.{arith}
-use lib.ListN.{length, get_or, take, drop}
+use lib.ListN.{length, get_or, take, drop, length-drop}
+use lib.Seq.{length-take-le}
 use Rattle.binary64.proofs.Fill.{tail_part}
 use Rattle.tile.specs.Ring.{coords as coordinates}
 use Rattle.rings.specs.declared.rectangle.Rect.{Rect}
@@ -11,13 +12,14 @@ use Rattle.rings.specs.Rectangle.{with_ring}
 use Rattle.rings.proofs.LentRings.{left-ring, left_next, rect_step, rect_end}
 use Rattle.rings.proofs.lent.polygon_rect_all_rings.Goals as goal
 
-pub with_ring-rect-requires : goal.with_ring-rect-requires
-with_ring-rect-requires c = let a = c.args in
-    let l = c.loop-length in omega (
+pub slice_bounds-with_ring-end-in-loop-length : goal.slice_bounds-with_ring-end-in-loop-length
+slice_bounds-with_ring-end-in-loop-length c = let a = c.args in
+    let l = c.loop-length in sym (length-take-le _ _ (omega (
       arith,
-      left-ring a.lengths.now a.coords.now l.length-index l.at
-          (omega arith) l.invariant.0,
-    )
+      left-ring a.lengths.now a.coords.now l.length-index l.at (omega arith) l.invariant.0,
+      ap length (tail_part a.coords.now l.at),
+      length-drop l.at a.coords.now,
+    )))
 
 pub loop-length-preserved : goal.loop-length-preserved
 loop-length-preserved c = let s = c.args.coords.now in

@@ -1,8 +1,9 @@
 -- `room_of` meets its contract. The invariant: what is measured so far, with the rings that are left, is that of all. Assumes nothing.
-use mathlib.Core.Path.{◌≡◌, ◌∙◌}
+use mathlib.Core.Path.{◌≡◌, ◌∙◌, ap, sym}
 use Prim.Native.Nat.{◌<◌, ◌≤◌, ◌*◌}
 use native.Mathlib.Omega.{arith}
-use lib.ListN.{length, get_or, take, drop}
+use lib.ListN.{length, get_or, take, drop, length-drop}
+use lib.Seq.{length-take-le}
 use Rattle.binary64.proofs.Fill.{tail_part}
 use Rattle.tile.specs.Ring.{coords as coordinates, close}
 use Rattle.sutherland_hodgman.proofs.Offered.{B-le}
@@ -11,13 +12,14 @@ use Rattle.rings.proofs.LentRings.{left-ring, left_next, total-step, total_end}
 use Rattle.rings.proofs.LentRings.{largest_step, largest_end}
 use Rattle.rings.proofs.lent.room_of.Goals as goal
 
-pub closed_count-requires : goal.closed_count-requires
-closed_count-requires c = let a = c.args in
-    let l = c.loop-length in omega (
+pub slice_bounds-closed_count-end-in-loop-length : goal.slice_bounds-closed_count-end-in-loop-length
+slice_bounds-closed_count-end-in-loop-length c = let a = c.args in
+    let l = c.loop-length in sym (length-take-le _ _ (omega (
       arith,
-      left-ring a.lengths.now a.coords.now l.length-index l.at
-          (omega arith) l.invariant.0,
-    )
+      left-ring a.lengths.now a.coords.now l.length-index l.at (omega arith) l.invariant.0,
+      ap length (tail_part a.coords.now l.at),
+      length-drop l.at a.coords.now,
+    )))
 
 pub room_for-room-requires : goal.room_for-room-requires
 room_for-room-requires c = let s = c.args.coords.now in
