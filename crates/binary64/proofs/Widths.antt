@@ -9,26 +9,46 @@ use native.Mathlib.Omega.{arith}
 use lib.Dec.{T, lit<}
 use lib.Ieee.{Float, nan, binary64, fits, to_bits}
 use lib.Ieee.Bits.{of_bits-to_bits, to_bits-lt}
+use Rattle.std.proofs.Math.Pow.{pow_mono}
+use Rattle.std.proofs.Common.{◌-◌, ◌%◌, pow-add}
 use lib.ListN.{length, take, drop, get_or, set, length-drop}
 use lib.Seq.{sets, drop-cons, take-add, drop-drop, length-take-le}
 use Rattle.binary64.specs.Bytes.{Order, Little, Big, from_low, to_low, number_of, bytes_of, double, double_bytes}
 
 -- ---- reading
 
-from_low-append : (a b : List ℕ) → from_low (a ++ b) ≡ from_low a + 256 ^ length a * from_low b
-unfolding from_low
-from_low-append [] b = omega arith
-from_low-append (x ∷ a) b = rw pow-succ' (omega (arith, from_low-append a b, mul_assoc 256 (256 ^ length a) (from_low b)))
+-- the bytes from place i up to place N of a number at `at`, of which the highest are read first
+pub record Reading (l : List ℕ) (at N i n : ℕ) : Type 0 where
+  pub here : n ≡ from_low (take (N - i) (drop (at + i) l))
+  pub below : n < 2 ^ (8 * (N - i))
 
-pub from_low_joined : (l : List ℕ) (i j k : ℕ) → i + j ≤ length l → from_low (take (j + k) (drop i l)) ≡ from_low (take j (drop i l)) + 256
-    ^ j * from_low (take k (drop (i + j) l))
-from_low_joined l i j k h =
-    let n : length (take j (drop i l)) ≡ j = length-take-le j (drop i l) (simp length-drop (omega arith)) in
-    rw (take-add j k (drop i l), drop-drop j i l) (rw n at (from_low-append (take j (drop i l)) (take k (drop (i + j) l))))
-
-pub from_low-two : (l : List ℕ) (i : ℕ) → i + 2 ≤ length l → from_low (take 2 (drop i l)) ≡ get_or l i 0 + 256 * get_or l (i + 1) 0
+pub read_start : (l : List ℕ) (at N : ℕ) → Reading l at N N 0
 unfolding from_low
-from_low-two l i h = rw (drop-cons l i 0 (omega arith), drop-cons l (suc i) 0 (omega arith), add-one) (omega arith)
+read_start l at N = let z : N - N ≡ 0 = omega arith in record { here = rw z; below = rw z (omega arith) }
+
+-- one byte more fits
+pub read_fits : (l : List ℕ) (at N i n x : ℕ) → N ≤ 8 → 0 < i → i ≤ N → x < 256 → Reading l at N i n → 256 * n + x < 2 ^ 64
+read_fits l at N i n x few some inside byte r =
+    let p : 2 ^ (8 * (N - i)) ≤ 2 ^ 56 = pow_mono {i = 8 * (N - i)} {j = 56} (omega arith) in
+    omega (arith, r.below)
+
+pub read_step : (l : List ℕ) (at N i n : ℕ) → at + N ≤ length l → 0 < i → i ≤ N → get_or l (at + (i - 1)) 0 < 256
+    → Reading l at N i n → Reading l at N (i - 1) (256 * n + get_or l (at + (i - 1)) 0)
+unfolding from_low
+read_step l at N i n room some inside byte r =
+    let k : N - (i - 1) ≡ suc (N - i) = omega arith in
+    let j : suc (at + (i - 1)) ≡ at + i = omega arith in
+    record {
+      here = rw (k, drop-cons l (at + (i - 1)) 0 (omega arith), j, ← r.here) (omega arith);
+      below =
+          let e : 8 * (N - (i - 1)) ≡ 8 + 8 * (N - i) = omega arith in
+          let p : 2 ^ (8 + 8 * (N - i)) ≡ 2 ^ 8 * 2 ^ (8 * (N - i)) = pow-add 2 8 (8 * (N - i)) in
+          rw (e, p) (omega (arith, r.below));
+    }
+
+pub read_end : (l : List ℕ) (at N i n : ℕ) → i ≤ 0 → Reading l at N i n → (n ≡ from_low (take N (drop at l))) × (n < 2 ^ (8 * N))
+read_end l at N zero n e r = let z : N - 0 ≡ N = omega arith in (rw (z, add-zero at) at r.here, rw z at r.below)
+read_end l at N (suc i) n e r = absurd (omega arith)
 
 -- ---- writing
 
@@ -53,6 +73,23 @@ written_joined l d r i j k n p q =
     let e : sets (sets l i (to_low j n)) (i + j) (to_low k (n / 256 ^ j)) ≡ sets l i (to_low j n ++ to_low k (n / 256 ^ j)) =
     rw (length-to_low j n) at (sets_joined l i (to_low j n) (to_low k (n / 256 ^ j))) in
     rw (to_low_joined j k n, ← e, ← p) q
+
+-- the lowest i bytes of n are written, and `rest` is what is left of it
+pub record Writing (l : List ℕ) (at n i rest : ℕ) (r : List ℕ) : Type 0 where
+  pub here : r ≡ sets l at (to_low i n)
+  pub left : rest ≡ n / 256 ^ i
+
+pub write_start : (l : List ℕ) (at n : ℕ) → Writing l at n 0 n l
+unfolding to_low
+write_start l at n = record { here = refl; left = rw (div-one n) }
+
+pub write_step : (l : List ℕ) (at n i rest : ℕ) (r : List ℕ) → Writing l at n i rest r
+    → Writing l at n (i + 1) (rest / 256) (set r (at + i) (rest % 256))
+unfolding to_low
+write_step l at n i rest r w = record {
+  here = written_joined l r (set r (at + i) (rest % 256)) at i 1 n w.here (rw w.left);
+  left = rw (w.left, div-div-eq-div-mul n (256 ^ i) 256, add-one i, pow-suc 256 i);
+}
 
 -- ---- and back
 

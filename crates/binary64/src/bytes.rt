@@ -1,42 +1,41 @@
 // Numbers and doubles from little-endian bytes and to them. A double's NaN is read from every NaN pattern and written as 7ff8000000000000.
-ghost use Rattle.std.specs.Prelude.{◌≡◌, ◌+◌, ◌^◌, ◌<◌, ◌≤◌, length, take, drop};
+ghost use Rattle.std.specs.Prelude.{◌≡◌, ◌+◌, ◌*◌, ◌^◌, ◌<◌, ◌≤◌, length, take, drop};
 ghost use Rattle.std.proofs.lemmas.List.Edits.{sets};
 ghost use Rattle.std.specs.Float.{binary64};
 ghost use Rattle.std.specs.Float.Ieee.{of_bits, to_bits};
 ghost use Rattle.binary64.specs.Bytes as Bytes;
 
-fn wide(x: u8) -> u64
-    ensures { (result ≡ x) × (result < 256) }
+// The number of N bytes. For any N it becomes one load; that is not proved.
+pub fn read_number<const N: usize>(b: &[u8], at: usize) -> u64
+    requires { (at + N ≤ length b.now) × (N ≤ 8) }
+    ensures { (result ≡ Bytes.number_of Bytes.Little (take N (drop at b.now))) × (result < 2 ^ (8 * N)) }
 {
-    x as u64
+    let mut n = 0u64;
+    for i in (0..N).rev() {
+        n = 256 * n + b[at + i] as u64;
+    }
+    n
 }
 
-// Each width is read as two of half the width, the lower first.
 pub fn read_u16(b: &[u8], at: usize) -> u64
     requires { at + 2 ≤ length b.now }
     ensures { (result ≡ Bytes.number_of Bytes.Little (take 2 (drop at b.now))) × (result < 2 ^ 16) }
 {
-    let low = wide(b[at]);
-    let high = wide(b[at + 1]);
-    low + 256 * high
+    read_number::<2>(b, at)
 }
 
 pub fn read_u32(b: &[u8], at: usize) -> u64
     requires { at + 4 ≤ length b.now }
     ensures { (result ≡ Bytes.number_of Bytes.Little (take 4 (drop at b.now))) × (result < 2 ^ 32) }
 {
-    let low = read_u16(b, at);
-    let high = read_u16(b, at + 2);
-    low + 65536 * high
+    read_number::<4>(b, at)
 }
 
 pub fn read_u64(b: &[u8], at: usize) -> u64
     requires { at + 8 ≤ length b.now }
     ensures { result ≡ Bytes.number_of Bytes.Little (take 8 (drop at b.now)) }
 {
-    let low = read_u32(b, at);
-    let high = read_u32(b, at + 4);
-    low + 4294967296 * high
+    read_number::<8>(b, at)
 }
 
 // Every NaN pattern gives the NaN, which is 0.0 / 0.0.
@@ -64,37 +63,31 @@ pub fn read_f64(b: &[u8], at: usize) -> f64
     requires { at + 8 ≤ length b.now }
     ensures { result ≡ Bytes.double Bytes.Little (take 8 (drop at b.now)) }
 {
-    from_bits(read_u64(b, at))
+    from_bits(read_number::<8>(b, at))
 }
 
-// Each width is written as two of half the width, the lower first. Of n the lowest 16 bits are written.
+// Writes the lowest N bytes of n.
+pub fn write_number<const N: usize>(out: &mut [u8], at: usize, n: u64)
+    requires { at + N ≤ length out.old }
+    ensures { out.new ≡ sets out.old at (Bytes.bytes_of Bytes.Little N n) }
+{
+    let mut rest = n;
+    for i in 0..N {
+        out[at + i] = (rest % 256) as u8;
+        rest = rest / 256;
+    }
+}
+
 pub fn write_u16(out: &mut [u8], at: usize, n: u64)
     requires { at + 2 ≤ length out.old }
     ensures { out.new ≡ sets out.old at (Bytes.bytes_of Bytes.Little 2 n) }
 {
-    out[at] = (n % 256) as u8;
-    out[at + 1] = (n / 256 % 256) as u8;
-}
-
-fn write_u32(out: &mut [u8], at: usize, n: u64)
-    requires { at + 4 ≤ length out.old }
-    ensures { out.new ≡ sets out.old at (Bytes.bytes_of Bytes.Little 4 n) }
-{
-    write_u16(out, at, n);
-    write_u16(out, at + 2, n / 65536);
-}
-
-fn write_u64(out: &mut [u8], at: usize, n: u64)
-    requires { at + 8 ≤ length out.old }
-    ensures { out.new ≡ sets out.old at (Bytes.bytes_of Bytes.Little 8 n) }
-{
-    write_u32(out, at, n);
-    write_u32(out, at + 4, n / 4294967296);
+    write_number::<2>(out, at, n);
 }
 
 pub fn write_f64(out: &mut [u8], at: usize, x: f64)
     requires { at + 8 ≤ length out.old }
     ensures { out.new ≡ sets out.old at (Bytes.double_bytes Bytes.Little x) }
 {
-    write_u64(out, at, to_bits(x));
+    write_number::<8>(out, at, to_bits(x));
 }

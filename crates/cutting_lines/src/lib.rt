@@ -17,6 +17,7 @@ pub fn intersect(a: Coord, b: Coord, edge: Edge, bounds: TileBounds) -> Coord
     ensures crossing { result ≡ CuttingLines.crossing edge bounds a b }
     ensures error { WithinError edge bounds a b result }
 {
+    // Stays four arms: by axis, a second match would have to find the bound.
     match edge {
         Edge::Left => {
             let y = interpolate(bounds.lng_min, a.x, b.x, a.y, b.y);

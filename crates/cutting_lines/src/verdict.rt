@@ -6,6 +6,7 @@ ghost use Rattle.cutting_lines.specs.CuttingLines as CuttingLines;
 use tile::{Coord, Edge, TileBounds};
 
 // Whether a vertex is in, and how many verdicts a pass has worked out, this one included.
+// Stays a struct, not an `Option`: the count is there whether the vertex is in or out.
 #[derive(Clone, Copy)]
 pub struct Verdict {
     pub inside: bool,

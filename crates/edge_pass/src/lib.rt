@@ -208,6 +208,7 @@ fn enter(
 }
 
 // From a vertex, by the verdict on it, to the first that has the other verdict, or to the end.
+// Stays an `if`: one call of each step, with no closure between, lets both be compiled into the loop.
 fn turn(
     ring: &[f64],
     origins: &[u16],

@@ -8,6 +8,7 @@ use tile::ring::put;
 use tile::{Coord, Edge};
 
 // The origin of what a line makes.
+// Stays a function, not `From<Edge>`: a line has two numbers, this one and that of a reason, and a conversion would not say which.
 pub fn line_origin(edge: Edge) -> u16
     ensures { result ≡ Origins.line_origin edge }
 {

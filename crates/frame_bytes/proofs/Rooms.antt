@@ -11,10 +11,10 @@ use Rattle.tile.specs.declared.Coord.{Coord}
 use Rattle.tile.specs.Ring.{close}
 use Rattle.sutherland_hodgman.specs.Growth.{B, most_coordinates}
 use Rattle.sutherland_hodgman.proofs.Offered.{B-le}
+use Rattle.std.specs.Prelude.{Err}
 use Rattle.rings.specs.LentRings.{total, ring_room}
 use Rattle.frame_bytes.specs.declared.reader.FrameRefusal.{FrameRefusal}
 use Rattle.frame_bytes.specs.declared.reader.FrameRefusal.TheVariants.{Output}
-use Rattle.frame_bytes.specs.declared.reader.FrameCheck.TheVariants.{Fails}
 use Rattle.frame_bytes.specs.declared.room.MeasuredRoom.{MeasuredRoom}
 use Rattle.frame_bytes.specs.Frame.{Reading, refused, read, refused_if, and_then, read_many, count_of, coords_of, read_ring, read_part}
 use Rattle.frame_bytes.specs.Frame.{Frame, read_frame, head_bytes, part_count_of, most_parts, most_in_ring}
@@ -198,12 +198,12 @@ module _ (frame : List ℕ) (a : Accepted (read_frame frame)) where
 -- ---- a frame call
 
 module _ (l : List ℕ) (out : ℕ) where
-  pub call-refused : (r : FrameRefusal) → check_of (read_frame l) ≡ Fails r → check_of (read_call l out) ≡ Fails r
+  pub call-refused : (r : FrameRefusal) → check_of (read_frame l) ≡ Err r → check_of (read_call l out) ≡ Err r
   unfolding read_call
   call-refused r e = go (read_frame l) e
     where
-      go : (x : Reading Frame) → check_of x ≡ Fails r
-          → check_of (and_then x (λ f rest. refused_if (ltb out (output_room answer_coord_size f.parts)) Output (read f rest))) ≡ Fails r
+      go : (x : Reading Frame) → check_of x ≡ Err r
+          → check_of (and_then x (λ f rest. refused_if (ltb out (output_room answer_coord_size f.parts)) Output (read f rest))) ≡ Err r
       go (refused s) e = cc
       go (read f rest) e = absurd (let z : ◌≡◌ {A = ℕ} 0 1 = cc in omega arith)
 
@@ -225,6 +225,6 @@ call-read l out f rest e =
     let same : p.value ≡ f = cc in
     (cc, rw (← same) (ltb-false out (output_room answer_coord_size p.value.parts) q.0))
 
-pub refused-room : (coordinate : ℕ) (x : Reading Frame) (r : FrameRefusal) → check_of x ≡ Fails r → frame_room coordinate x ≡ 0
+pub refused-room : (coordinate : ℕ) (x : Reading Frame) (r : FrameRefusal) → check_of x ≡ Err r → frame_room coordinate x ≡ 0
 refused-room coordinate (refused s) r e = refl
 refused-room coordinate (read f rest) r e = absurd (let z : ◌≡◌ {A = ℕ} 0 1 = cc in omega arith)

@@ -1,6 +1,7 @@
 -- What the functions that walk over a frame and those that write an answer say to each other and to the crates above. No contract of an
 -- entry point reaches it, so a reader of those can skip this file. Definitions only.
 use Rattle.std.specs.Prelude.{◌≡◌, Bool, true, false, not, List, [], ℕ, ◌*◌, ◌-◌, Float, length, take, drop}
+use Rattle.std.specs.Prelude.{Result, Ok, Err, ⊤, MatchResult, zero, suc}
 use Rattle.tile.specs.declared.Coord.{Coord}
 use Rattle.tile.specs.Ring.{coords}
 use Rattle.box_pairs.specs.Issue.{issue_of, has_issue}
@@ -9,10 +10,7 @@ use Rattle.rings.specs.declared.rectangle.Rect.TheVariants as Rects
 use Rattle.rings.specs.LentRings.{exterior}
 use Rattle.rings.specs.Rectangle.{with_rings, with_parts}
 use Rattle.rings.specs.Representable.{any_huge_ring}
-use Rattle.frame_bytes.specs.declared.reader.FrameCheck.{FrameCheck}
-use Rattle.frame_bytes.specs.declared.reader.FrameCheck.TheVariants.{Fails, Passes}
-use Rattle.frame_bytes.specs.declared.reader.FrameWalk.{FrameWalk}
-use Rattle.frame_bytes.specs.declared.reader.FrameWalk.TheVariants.{Stops, Reaches}
+use Rattle.frame_bytes.specs.declared.reader.FrameRefusal.{FrameRefusal}
 use Rattle.frame_bytes.specs.declared.room.MeasuredRoom.{MeasuredRoom}
 use Rattle.frame_bytes.specs.declared.measure.Measured.{Measured}
 use Rattle.frame_bytes.specs.Frame.{Reading, refused, read, read_many, read_ring, read_part, Frame}
@@ -25,17 +23,28 @@ use Rattle.frame_bytes.specs.Encoding.{AnswerCoord, with_origins}
 -- one, so that case is never looked at.
 
 -- whether it is refused
-abbrev pub check_of : {A : Type 0} → Reading A → FrameCheck
-check_of (refused r) = Fails r
-check_of (read a rest) = Passes
+abbrev pub check_of : {A : Type 0} → Reading A → Result ⊤ FrameRefusal
+check_of (refused r) = Err r
+check_of (read a rest) = Ok tt
 
 abbrev pub Accepted : {A : Type 0} → Reading A → Type 0
-Accepted x = check_of x ≡ Passes
+Accepted x = check_of x ≡ Ok tt
 
 -- where the walk over it ends, in a frame of `size` bytes
-abbrev pub walked : {A : Type 0} → ℕ → Reading A → FrameWalk
-walked size (refused r) = Stops r
-walked size (read a rest) = Reaches (size - length rest)
+abbrev pub walked : {A : Type 0} → ℕ → Reading A → Result ℕ FrameRefusal
+walked size (refused r) = Err r
+walked size (read a rest) = Ok (size - length rest)
+
+-- r is where `count` steps from a position end, each from where the one before it ended, or the refusal of one of them
+unfoldable pub Passes : (ℕ → Result ℕ FrameRefusal → Type 0) → ℕ → ℕ → Result ℕ FrameRefusal → Type 0
+Passes Step zero at r = r ≡ Ok at
+Passes Step (suc count) at r =
+    (first : Result ℕ FrameRefusal) × Step at first × MatchResult first (λ next. Passes Step count next r) (λ refusal. r ≡ Err refusal)
+
+-- such steps may be taken: the first, and from wherever it ends the others
+unfoldable pub Passable : (ℕ → Type 0) → (ℕ → Result ℕ FrameRefusal → Type 0) → ℕ → ℕ → Type 0
+Passable May Step zero at = ⊤
+Passable May Step (suc count) at = May at × ((next : ℕ) → Step at (Ok next) → Passable May Step count next)
 
 -- all rings, or all parts, that were read
 abbrev pub all_in : {A : Type 0} → Reading (List A) → List A

@@ -49,11 +49,9 @@ pub fn put_ring(ring: &[f64], origins: &[u16], n: usize, out: &mut [u8], at: usi
 {
     put_count(out, at, n);
     let first = at + COUNT;
-    let mut i = 0usize;
-    while i < n {
+    for i in 0..n {
         let p = coord_at(ring, i);
         put_answer_coord(out, first + ANSWER_COORD * i, p, origins[i]);
-        i += 1;
     }
     first + ANSWER_COORD * n
 }

@@ -43,8 +43,7 @@ fn box_with_coords(w: f64, s: f64, e: f64, n: f64, frame: &[u8], at: usize, coun
     let mut south = s;
     let mut east = e;
     let mut north = n;
-    let mut i = 0usize;
-    while i < count {
+    for i in 0..count {
         let place = at + COORD * i;
         if !is_finite_at(frame, place) {
             return Rect::NotFinite;
@@ -54,7 +53,6 @@ fn box_with_coords(w: f64, s: f64, e: f64, n: f64, frame: &[u8], at: usize, coun
         south = lower(south, p.y);
         east = higher(east, p.x);
         north = higher(north, p.y);
-        i += 1;
     }
     Rect::Box(west, south, east, north)
 }
@@ -88,14 +86,13 @@ pub fn part_rect(frame: &[u8], at: usize, rect: Rect) -> Measured
     ensures { result ≡ measured_of (length frame.now) rect (Frames.read_part (drop at frame.now)) }
 {
     let mut whole = rect;
-    let mut left = count_at(frame, at);
+    let rings = count_at(frame, at);
     let mut next = at + COUNT;
-    while left > 0 {
+    for _ in 0..rings {
         let n = count_at(frame, next);
         let coords = next + COUNT;
         whole = with_coords(frame, coords, n, whole);
         next = coords + COORD * n;
-        left -= 1;
     }
     Measured { rect: whole, next }
 }
@@ -107,12 +104,11 @@ pub fn whole_rect(frame: &[u8]) -> Rect
 {
     let mut rect = Rect::Nothing;
     let mut at = HEAD;
-    let mut left = count_at(frame, PART_COUNT);
-    while left > 0 {
+    let parts = count_at(frame, PART_COUNT);
+    for _ in 0..parts {
         let part = part_rect(frame, at, rect);
         rect = part.rect;
         at = part.next;
-        left -= 1;
     }
     rect
 }
@@ -122,12 +118,10 @@ fn has_huge(frame: &[u8], at: usize, n: usize) -> bool
     requires { at + 16 * n ≤ length frame.now }
     ensures { result ≡ any_huge (Frames.coords_of n (drop at frame.now)) }
 {
-    let mut i = 0usize;
-    while i < n {
+    for i in 0..n {
         if is_huge_coord(coord_at(frame, at + COORD * i)) {
             return true;
         }
-        i += 1;
     }
     false
 }
@@ -137,16 +131,15 @@ pub fn part_has_huge(frame: &[u8], at: usize) -> bool
     requires { (at ≤ length frame.now) × Internal.Accepted (Frames.read_part (drop at frame.now)) }
     ensures { result ≡ huge_of (Frames.read_part (drop at frame.now)) }
 {
-    let mut left = count_at(frame, at);
+    let rings = count_at(frame, at);
     let mut next = at + COUNT;
-    while left > 0 {
+    for _ in 0..rings {
         let n = count_at(frame, next);
         let coords = next + COUNT;
         if has_huge(frame, coords, n) {
             return true;
         }
         next = coords + COORD * n;
-        left -= 1;
     }
     false
 }

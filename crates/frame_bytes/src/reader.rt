@@ -33,35 +33,23 @@ pub enum FrameRefusal {
     Output,
 }
 
-// Whether there is a refusal.
-#[derive(Clone, Copy)]
-pub enum FrameCheck {
-    Fails(FrameRefusal),
-    Passes,
-}
-
 // Document 01's number of a refusal.
-pub fn refusal_number(refusal: FrameRefusal) -> u8
-    ensures { result ≡ Frames.frame_refusal_number refusal }
-{
-    match refusal {
-        FrameRefusal::Size => 11,
-        FrameRefusal::Kind => 12,
-        FrameRefusal::FlagBits => 13,
-        FrameRefusal::PartCount => 14,
-        FrameRefusal::Truncated => 15,
-        FrameRefusal::RingCount => 16,
-        FrameRefusal::CoordinateCount => 17,
-        FrameRefusal::Trailing => 18,
-        FrameRefusal::Output => 22,
-    }
-}
+impl From<FrameRefusal> for u8 {
+    ghost from_gives = { λ refusal number. number ≡ Frames.frame_refusal_number refusal };
 
-// Where a walk from the front ends: at a refusal, or at the place where the next thing starts.
-#[derive(Clone, Copy)]
-enum FrameWalk {
-    Stops(FrameRefusal),
-    Reaches(usize),
+    fn from(refusal: FrameRefusal) -> u8 {
+        match refusal {
+            FrameRefusal::Size => 11,
+            FrameRefusal::Kind => 12,
+            FrameRefusal::FlagBits => 13,
+            FrameRefusal::PartCount => 14,
+            FrameRefusal::Truncated => 15,
+            FrameRefusal::RingCount => 16,
+            FrameRefusal::CoordinateCount => 17,
+            FrameRefusal::Trailing => 18,
+            FrameRefusal::Output => 22,
+        }
+    }
 }
 
 fn is_wrong_size(size: usize) -> bool
@@ -91,117 +79,85 @@ fn is_wrong_ring_count(rings: usize) -> bool
     rings == 0 || rings > MOST_RINGS
 }
 
-// Passes over the ring at `at`.
-fn pass_ring(frame: &[u8], at: usize) -> FrameWalk
+// A walk from the front ends at a refusal, or at the place where the next thing starts. This one passes over the ring at `at`.
+fn pass_ring(frame: &[u8], at: usize) -> Result<usize, FrameRefusal>
     requires { at ≤ length frame.now }
     ensures { result ≡ Internal.walked (length frame.now) (Frames.read_ring (drop at frame.now)) }
 {
     let left = frame.len() - at;
     if left < COUNT {
-        return FrameWalk::Stops(FrameRefusal::Truncated);
+        return Err(FrameRefusal::Truncated);
     }
     let n = count_at(frame, at);
     if n > MOST_IN_RING {
-        return FrameWalk::Stops(FrameRefusal::CoordinateCount);
+        return Err(FrameRefusal::CoordinateCount);
     }
     if left - COUNT < COORD * n {
-        return FrameWalk::Stops(FrameRefusal::Truncated);
+        return Err(FrameRefusal::Truncated);
     }
-    FrameWalk::Reaches(at + COUNT + COORD * n)
+    Ok(at + COUNT + COORD * n)
 }
 
-// Passes over `rings` rings, the first of which begins at `start`.
-fn pass_rings(frame: &[u8], start: usize, rings: usize) -> FrameWalk
-    requires { start ≤ length frame.now }
-    ensures { result ≡ Internal.walked (length frame.now)
-        (Frames.read_many Frames.read_ring rings (drop start frame.now)) }
+// Passes over `count` things, the first of which begins at `start`: `pass` passes over the one at a place.
+fn pass_many<F: Fn(usize) -> Result<usize, FrameRefusal>>(
+    start: usize,
+    count: usize,
+    pass: F,
+) -> Result<usize, FrameRefusal>
+    requires { Internal.Passable (F.pre pass) (F.post pass) count start }
+    ensures { Internal.Passes (F.post pass) count start result }
 {
     let mut at = start;
-    let mut left = rings;
-    while left > 0 {
-        match pass_ring(frame, at) {
-            FrameWalk::Stops(refusal) => {
-                return FrameWalk::Stops(refusal);
-            }
-            FrameWalk::Reaches(next) => {
-                at = next;
-            }
-        }
-        left -= 1;
+    for _ in 0..count {
+        at = pass(at)?;
     }
-    FrameWalk::Reaches(at)
+    Ok(at)
 }
 
 // Passes over the part at `at`.
-fn pass_part(frame: &[u8], at: usize) -> FrameWalk
+fn pass_part(frame: &[u8], at: usize) -> Result<usize, FrameRefusal>
     requires { at ≤ length frame.now }
     ensures { result ≡ Internal.walked (length frame.now) (Frames.read_part (drop at frame.now)) }
 {
     if frame.len() - at >= COUNT {
         let rings = count_at(frame, at);
         if is_wrong_ring_count(rings) {
-            return FrameWalk::Stops(FrameRefusal::RingCount);
+            return Err(FrameRefusal::RingCount);
         }
-        return pass_rings(frame, at + COUNT, rings);
+        return pass_many(at + COUNT, rings, |ring| pass_ring(frame, ring));
     }
-    FrameWalk::Stops(FrameRefusal::Truncated)
-}
-
-// Passes over `parts` parts, the first of which begins at `start`.
-fn pass_parts(frame: &[u8], start: usize, parts: usize) -> FrameWalk
-    requires { start ≤ length frame.now }
-    ensures { result ≡ Internal.walked (length frame.now)
-        (Frames.read_many Frames.read_part parts (drop start frame.now)) }
-{
-    let mut at = start;
-    let mut left = parts;
-    while left > 0 {
-        match pass_part(frame, at) {
-            FrameWalk::Stops(refusal) => {
-                return FrameWalk::Stops(refusal);
-            }
-            FrameWalk::Reaches(next) => {
-                at = next;
-            }
-        }
-        left -= 1;
-    }
-    FrameWalk::Reaches(at)
+    Err(FrameRefusal::Truncated)
 }
 
 // The refusals of the parts and of what follows them.
-fn check_parts(frame: &[u8], parts: usize) -> FrameCheck
+fn check_parts(frame: &[u8], parts: usize) -> Result<(), FrameRefusal>
     requires { Frames.head_bytes ≤ length frame.now }
     ensures { result ≡ Internal.check_of (Frames.read_parts parts (drop Frames.head_bytes frame.now)) }
 {
-    match pass_parts(frame, HEAD, parts) {
-        FrameWalk::Stops(refusal) => FrameCheck::Fails(refusal),
-        FrameWalk::Reaches(end) => {
-            if end < frame.len() {
-                return FrameCheck::Fails(FrameRefusal::Trailing);
-            }
-            FrameCheck::Passes
-        }
+    let end = pass_many(HEAD, parts, |part| pass_part(frame, part))?;
+    if end < frame.len() {
+        return Err(FrameRefusal::Trailing);
     }
+    Ok(())
 }
 
 // The refusals of a frame, in their order.
-pub fn check_frame(frame: &[u8]) -> FrameCheck
+pub fn check_frame(frame: &[u8]) -> Result<(), FrameRefusal>
     ensures { result ≡ Internal.check_of (Frames.read_frame frame.now) }
 {
     if is_wrong_size(frame.len()) {
-        return FrameCheck::Fails(FrameRefusal::Size);
+        return Err(FrameRefusal::Size);
     }
     let kind = frame[0];
     if is_wrong_kind(kind) {
-        return FrameCheck::Fails(FrameRefusal::Kind);
+        return Err(FrameRefusal::Kind);
     }
     if frame[1] > MOST_FLAGS {
-        return FrameCheck::Fails(FrameRefusal::FlagBits);
+        return Err(FrameRefusal::FlagBits);
     }
     let parts = count_at(frame, PART_COUNT);
     if is_wrong_part_count(kind, parts) {
-        return FrameCheck::Fails(FrameRefusal::PartCount);
+        return Err(FrameRefusal::PartCount);
     }
     check_parts(frame, parts)
 }

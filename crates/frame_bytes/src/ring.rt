@@ -60,11 +60,9 @@ pub fn decode_ring(frame: &[u8], at: usize, n: usize, ring: &mut [f64]) -> usize
     ensures { (result ≡ at + 16 * n) × (ring.new ≡ sets ring.old 0
         (flat (Frames.coords_of n (drop at frame.now)))) }
 {
-    let mut i = 0usize;
-    while i < n {
+    for i in 0..n {
         let p = coord_at(frame, at + COORD * i);
         put(ring, i, p);
-        i += 1;
     }
     at + COORD * n
 }

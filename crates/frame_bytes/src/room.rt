@@ -7,7 +7,7 @@ ghost use Rattle.frame_bytes.specs.Room as OutputRoom;
 
 use super::encode::{ANSWER_COORD, PART};
 use super::head::{HEAD, PART_COUNT};
-use super::reader::{FrameCheck, FrameRefusal, check_frame};
+use super::reader::{FrameRefusal, check_frame};
 use super::ring::{COORD, COUNT, closed_count, count_at};
 use sutherland_hodgman::growth::room_for;
 
@@ -46,12 +46,10 @@ fn rings_room(frame: &[u8], start: usize, rings: usize) -> MeasuredRoom
 {
     let mut room = 0usize;
     let mut at = start;
-    let mut left = rings;
-    while left > 0 {
+    for _ in 0..rings {
         let ring = ring_room(frame, at);
         room += ring.room;
         at = ring.next;
-        left -= 1;
     }
     MeasuredRoom { room, next: at }
 }
@@ -77,27 +75,22 @@ pub fn frame_room(frame: &[u8]) -> usize
 {
     let mut room = LEAST_ROOM;
     let mut at = HEAD;
-    let mut left = count_at(frame, PART_COUNT);
-    while left > 0 {
+    let parts = count_at(frame, PART_COUNT);
+    for _ in 0..parts {
         let part = part_room(frame, at);
         room += part.room;
         at = part.next;
-        left -= 1;
     }
     room
 }
 
 // The refusals of a frame call with an output of `out` bytes, in their order.
-pub fn check_call(frame: &[u8], out: usize) -> FrameCheck
+pub fn check_call(frame: &[u8], out: usize) -> Result<(), FrameRefusal>
     ensures { result ≡ Internal.check_of (OutputRoom.read_call frame.now out) }
 {
-    match check_frame(frame) {
-        FrameCheck::Fails(refusal) => FrameCheck::Fails(refusal),
-        FrameCheck::Passes => {
-            if out < frame_room(frame) {
-                return FrameCheck::Fails(FrameRefusal::Output);
-            }
-            FrameCheck::Passes
-        }
+    check_frame(frame)?;
+    if out < frame_room(frame) {
+        return Err(FrameRefusal::Output);
     }
+    Ok(())
 }

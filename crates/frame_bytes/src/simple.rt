@@ -16,14 +16,12 @@ fn has_repeated(frame: &[u8], at: usize, n: usize, count: usize) -> bool
     ensures { result ≡ repeated (close (Frames.coords_of n (drop at frame.now))) }
 {
     let mut p = coord_at(frame, at);
-    let mut k = 0usize;
-    while k + 2 < count {
+    for k in 0..count - 2 {
         let q = coord_at(frame, at + COORD * (k + 1));
         if is_degenerate(p, q) {
             return true;
         }
         p = q;
-        k += 1;
     }
     false
 }

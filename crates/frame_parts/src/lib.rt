@@ -82,14 +82,12 @@ fn put_holes(
 {
     let mut written = exterior;
     let mut at = start;
-    let mut left = holes;
-    while left > 0 {
+    for _ in 0..holes {
         let n = count_at(frame, at);
         let next = decode_ring(frame, at + COUNT, n, ring);
         let m = clip_hole(ring, n, bounds, a, a_origins, b, b_origins);
         written = put_cut_ring(b, b_origins, m, out, written);
         at = next;
-        left -= 1;
     }
     written
 }

@@ -22,7 +22,6 @@ use Rattle.clip.specs.declared.polygon.Flags.{Flags}
 use Rattle.clip.specs.Polygon as Polygon
 use Rattle.frame_bytes.specs.declared.head.Head.{Head}
 use Rattle.frame_bytes.specs.declared.reader.FrameRefusal.{FrameRefusal}
-use Rattle.frame_bytes.specs.declared.reader.FrameCheck.TheVariants.{Fails}
 use Rattle.frame_bytes.specs.Frame.{Reading, refused, read, polygon_kind, multipolygon_kind, longest, most_parts, head_bytes}
 use Rattle.frame_bytes.specs.Frame.{count_of, read_ring, read_part, Frame, kind_of, part_count_of, wrong_kind, wrong_part_count, head_of, read_frame}
 use Rattle.frame_bytes.specs.Internal.{check_of, Accepted, all_in, part_at, frame_room, frame_rect, sound_if_simple}
@@ -35,7 +34,7 @@ use Rattle.frame_bytes.proofs.SimpleExteriors.{sound_part}
 use Rattle.frame_parts.specs.Part.{Part, part_of, part_bytes}
 use Rattle.frame_parts.specs.Internal.{routed_part, measured_part, Lengths, PartRoom, PositionsRoom}
 use Rattle.frame_parts.proofs.CutParts.{bytes_fit}
-use Rattle.frames.specs.declared.entry.FrameAnswer.TheVariants.{Refused, Answered}
+use Rattle.std.specs.Prelude.{Ok, Err}
 use Rattle.frames.specs.Answer.{Answer, Nothing, Unchanged, Listed, of_outcome, of_polygon, route_part, listed_before, list_parts}
 use Rattle.frames.specs.Answer.{of_parts, if_box, of_multipolygon, flags_in, bounds_in, only_part, route_polygon, answer_to}
 use Rattle.frames.specs.Output.{answer_bytes, frame_bytes, output_of, frame_call_output}
@@ -382,28 +381,28 @@ call_accepts frame n a =
     (rw c.0, rw c.0 c.1)
 
 pub call_answers : (frame out out' : List ℕ) (r : ℕ) → Accepted (read_call frame (length out))
-    → Answers (answer_read (read_frame frame)) out r out' → (Answered r ≡ frame_call_answer frame out) × (out' ≡ frame_call_output frame out)
+    → Answers (answer_read (read_frame frame)) out r out' → (Ok r ≡ frame_call_answer frame out) × (out' ≡ frame_call_output frame out)
 call_answers frame out out' r a x = let t = taken (read_call frame (length out)) a in go t.value t.rest t.is
   where
     go : (f : Frame) (rest : List ℕ) → read_call frame (length out) ≡ read f rest
-        → (Answered r ≡ frame_call_answer frame out) × (out' ≡ frame_call_output frame out)
+        → (Ok r ≡ frame_call_answer frame out) × (out' ≡ frame_call_output frame out)
     go f rest e =
         let c = call-read frame (length out) f rest e in
         let same : answer_read (read_frame frame) ≡ answer_to f = ap answer_read c.0 in
         let fits : length (frame_bytes f) ≤ length out = omega (arith, answer-fits f (parts-some frame f rest c.0), c.1) in
         (rw (e, x.count, same), x.output ∙ rw (e, same) (whole-over (frame_bytes f) out fits))
 
-pub call_refuses : (x : Reading Frame) (r : FrameRefusal) (out : List ℕ) → check_of x ≡ Fails r → (Refused r ≡ answer_of_reading x)
+pub call_refuses : (x : Reading Frame) (r : FrameRefusal) (out : List ℕ) → check_of x ≡ Err r → (Err r ≡ answer_of_reading x)
     × (out ≡ output_of x out)
 call_refuses (refused s) r out e = let same : s ≡ r = cc in (rw same, refl)
 call_refuses (read f rest) r out e = absurd (let z : ◌≡◌ {A = ℕ} 0 1 = cc in omega arith)
 
 -- an answer's count is small: it fits an i64
-pub answered_few : (frame : List ℕ) (out n : ℕ) → answer_of_reading (read_call frame out) ≡ Answered n → n ≤ least_room + most_parts * most_part
+pub answered_few : (frame : List ℕ) (out n : ℕ) → answer_of_reading (read_call frame out) ≡ Ok n → n ≤ least_room + most_parts * most_part
 unfolding output_room
 answered_few frame out n q = go (read_call frame out) refl q
   where
-    go : (x : Reading Frame) → read_call frame out ≡ x → answer_of_reading x ≡ Answered n → n ≤ least_room + most_parts * most_part
+    go : (x : Reading Frame) → read_call frame out ≡ x → answer_of_reading x ≡ Ok n → n ≤ least_room + most_parts * most_part
     go (refused r) e q = absurd (let z : ◌≡◌ {A = ℕ} 0 1 = cc in omega arith)
     go (read f rest) e q =
         let c = call-read frame out f rest e in

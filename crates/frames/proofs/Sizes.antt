@@ -3,14 +3,14 @@
 use mathlib.Core.Path.{◌≡◌, refl, sym, ◌∙◌, ap, subst}
 use mathlib.Core.Bool.{true}
 use mathlib.Core.List.{List, ◌∷◌}
-use Prim.Native.Nat.{ℕ, zero, suc, ◌+◌, ◌*◌, ◌-◌, ◌≤◌}
+use Prim.Native.Nat.{ℕ, zero, suc, ◌+◌, ◌*◌, ◌-◌, ◌/◌, ◌≤◌}
 use native.Mathlib.Omega.{arith}
 use lib.ListN.{length, drop}
 use Rattle.binary64.specs.Lists.{Every}
 use Rattle.tile.specs.declared.Coord.{Coord}
 use Rattle.tile.specs.Ring.{close}
 use Rattle.sutherland_hodgman.specs.Growth.{B}
-use Rattle.sutherland_hodgman.proofs.Offered.{B-mono}
+use Rattle.sutherland_hodgman.proofs.Offered.{B-mono, B-le}
 use Rattle.rings.specs.declared.rectangle.Rect.{Rect}
 use Rattle.rings.specs.declared.rectangle.Rect.TheVariants as Rects
 use Rattle.rings.specs.Rectangle.{with_ring, with_rings, with_parts}
@@ -21,9 +21,10 @@ use Rattle.rings.proofs.LentRings.{larger-most}
 use Rattle.frame_bytes.specs.Internal.{Accepted, rings_from, part_at}
 use Rattle.frame_bytes.specs.Frame.{most_in_ring, count_of, coords_of, read_ring, read_many, read_part}
 use Rattle.frame_bytes.proofs.Coordinates.{close_grows}
+use Rattle.frame_bytes.proofs.Rooms.{most_ring}
 use Rattle.frame_bytes.proofs.PartRings.{next_ring, part-rings}
 use Rattle.frame_parts.specs.Internal.{Lengths}
-use Rattle.frames.specs.Internal.{Workable, parts_from}
+use Rattle.frames.specs.Internal.{Workable, parts_from, RoomFor}
 use Rattle.frames.proofs.Listings.{next_place, next_part}
 
 -- working slices of these lengths, and that many positions, are enough for a ring of m coordinates
@@ -36,17 +37,24 @@ pub record Enough (m : ℕ) (lent : Lengths) (order : ℕ) : Type 0 where
   pub b-origins : B m ≤ lent.b-origins
   pub positions : B m ≤ order
 
-pub enough : (m n : ℕ) → m ≤ most_in_ring + 1 → B m ≡ n
-    → Enough m (record { ring = 2 * m; a = 2 * n; a-origins = n; b = 2 * n; b-origins = n }) n
-enough m n h e = record {
-  small = h;
-  ring = omega arith;
-  a = omega (arith, e);
-  a-origins = omega (arith, e);
-  b = omega (arith, e);
-  b-origins = omega (arith, e);
-  positions = omega (arith, e);
+pub enough : (size ring work origins : ℕ) (lent : Lengths) (order : ℕ) → RoomFor size ring work origins → lent.ring ≡ ring → lent.a ≡ work
+    → lent.a-origins ≡ origins → lent.b ≡ work → lent.b-origins ≡ origins → order ≡ origins → Enough (ring / 2) lent order
+enough size ring work origins lent order r er ea eao eb ebo eo = record {
+  small = r.small;
+  ring = omega (arith, er);
+  a = omega (arith, ea, r.work-room, r.origin-room);
+  a-origins = omega (arith, eao, r.origin-room);
+  b = omega (arith, eb, r.work-room, r.origin-room);
+  b-origins = omega (arith, ebo, r.origin-room);
+  positions = omega (arith, eo, r.origin-room);
 }
+
+-- such arrays are no larger than a slice may be
+pub few_work : (size ring work origins : ℕ) → RoomFor size ring work origins → work ≤ 2 * most_ring
+few_work size ring work origins r = omega (arith, r.work-room, r.origin-room, B-le (ring / 2) (omega (arith, r.small)))
+
+pub few_origins : (size ring work origins : ℕ) → RoomFor size ring work origins → origins ≤ most_ring
+few_origins size ring work origins r = omega (arith, r.origin-room, B-le (ring / 2) (omega (arith, r.small)))
 
 -- m coordinates, closed, are the most that a ring can have behind the head and two counts
 module _ (frame : List ℕ) (m : ℕ) (small : length frame ≤ 47 + 16 * m) where

@@ -1,6 +1,6 @@
 -- What the functions that list the parts of a frame say to each other. No contract of an entry point reaches it, so a reader
 -- of those can skip this file. Definitions only.
-use Rattle.std.specs.Prelude.{◌≡◌, cond, true, Bool, not, ◌&&◌, ◌||◌, List, [], ℕ, ◌+◌, ◌*◌, ◌<◌, ◌≤◌, ◌-◌, eqb, length, drop}
+use Rattle.std.specs.Prelude.{◌≡◌, cond, true, Bool, not, ◌&&◌, ◌||◌, List, [], ℕ, ◌+◌, ◌*◌, ◌<◌, ◌≤◌, ◌-◌, ◌/◌, eqb, length, drop}
 use Rattle.std.proofs.lemmas.List.Edits.{sets}
 use Rattle.binary64.specs.Lists.{Every}
 use Rattle.tile.specs.declared.Coord.{Coord}
@@ -15,7 +15,8 @@ use Rattle.clip.specs.Polygon as Polygon
 use Rattle.clip.specs.Polygon.{answer_of, told}
 use Rattle.frame_bytes.specs.declared.head.Head.{Head}
 use Rattle.frame_bytes.specs.Frame.{polygon_kind, Frame, Reading, refused, read, read_many, read_part, most_parts}
-use Rattle.frame_bytes.specs.Frame.{multipolygon_kind, head_bytes, head_of, read_frame}
+use Rattle.frame_bytes.specs.Frame.{multipolygon_kind, head_bytes, head_of, read_frame, most_in_ring}
+use Rattle.sutherland_hodgman.specs.Growth.{B}
 use Rattle.frame_bytes.specs.Room.{answer_coord_size, part_room, least_room}
 use Rattle.frame_bytes.specs.Encoding.{each, header_bytes}
 use Rattle.frame_bytes.specs.Internal.{Accepted, all_in, frame_room, frame_rect}
@@ -146,6 +147,13 @@ unchanged_at_once head rect b parts =
 -- the longest frame of which every ring, closed, has at most m coordinates: a ring stands behind the head and two counts
 abbrev pub longest_for : ℕ → ℕ
 longest_for m = head_bytes + 4 + 16 * m - 1
+
+-- arrays of these lengths have room for what is cut of a frame of so many bytes, as no ring of it, closed, has over `ring / 2` coordinates
+pub record RoomFor (size ring work origins : ℕ) : Type 0 where
+  pub short : size ≤ longest_for (ring / 2)
+  pub small : ring / 2 ≤ most_in_ring + 1
+  pub origin-room : origins ≡ B (ring / 2)
+  pub work-room : work ≡ 2 * origins
 
 -- the frame has the parts that its head says, they can be cut, and they have room in the output
 pub record PartsReady (frame : List ℕ) (head : Head) (lent : Lengths) (order out : ℕ) : Type 0 where

@@ -11,7 +11,7 @@ use super::parts::{answer_in, put_alone};
 use clip::polygon::{DROPPED, NOTHING, UNCHANGED};
 use frame_bytes::head::{HEAD, Head, read_head};
 use frame_bytes::measure::whole_rect;
-use frame_bytes::reader::{FrameCheck, FrameRefusal, MULTIPOLYGON};
+use frame_bytes::reader::{FrameRefusal, MULTIPOLYGON};
 use frame_bytes::room::check_call;
 use frame_bytes::simple::is_sound_if_simple;
 use rings::rectangle::{Rect, intersects_bounds, is_fully_inside};
@@ -24,26 +24,27 @@ const MEDIUM: usize = 559;
 
 const LARGE: usize = 1343;
 
-// A refusal, or the count of the answer's bytes.
-#[derive(Clone, Copy)]
-pub enum FrameAnswer {
-    Refused(FrameRefusal),
-    Answered(usize),
-}
-
 // In arrays for rings of up to m coordinates, closed: 2 m numbers for the ring, 2 B(m) each for the cutter's scratch slice and its output,
-// B(m) each for their origins, B(m) positions. Here m is 6.
-fn answer_small(frame: &[u8], head: Head, rect: Rect, bounds: TileBounds, out: &mut [u8]) -> usize
-    requires { Internal.Cuttable frame.now head (length out.old) × (length frame.now ≤ Internal.longest_for 6) }
+// B(m) each for their origins, B(m) positions. Never inlined, so that the stack holds the arrays of no other size than the one called.
+#[inline(never)]
+fn answer_with<const RING: usize, const WORK: usize, const ORIGINS: usize>(
+    frame: &[u8],
+    head: Head,
+    rect: Rect,
+    bounds: TileBounds,
+    out: &mut [u8],
+) -> usize
+    requires cuttable { Internal.Cuttable frame.now head (length out.old) }
+    requires room { Internal.RoomFor (length frame.now) RING WORK ORIGINS }
     ensures { Internal.Answers (Internal.answer_measured head rect bounds
         (Internal.parts_of (Frames.read_frame frame.now))) out.old result out.new }
 {
-    let mut ring = [0.0; 12];
-    let mut a = [0.0; 60];
-    let mut a_origins = [0u16; 30];
-    let mut b = [0.0; 60];
-    let mut b_origins = [0u16; 30];
-    let mut order = [0u32; 30];
+    let mut ring = [0.0; RING];
+    let mut a = [0.0; WORK];
+    let mut a_origins = [0u16; ORIGINS];
+    let mut b = [0.0; WORK];
+    let mut b_origins = [0u16; ORIGINS];
+    let mut order = [0u32; ORIGINS];
     answer_in(
         frame,
         head,
@@ -59,103 +60,23 @@ fn answer_small(frame: &[u8], head: Head, rect: Rect, bounds: TileBounds, out: &
     )
 }
 
-// With m = 32.
-fn answer_medium(frame: &[u8], head: Head, rect: Rect, bounds: TileBounds, out: &mut [u8]) -> usize
-    requires { Internal.Cuttable frame.now head (length out.old) × (length frame.now ≤ Internal.longest_for 32) }
-    ensures { Internal.Answers (Internal.answer_measured head rect bounds
-        (Internal.parts_of (Frames.read_frame frame.now))) out.old result out.new }
-{
-    let mut ring = [0.0; 64];
-    let mut a = [0.0; 328];
-    let mut a_origins = [0u16; 164];
-    let mut b = [0.0; 328];
-    let mut b_origins = [0u16; 164];
-    let mut order = [0u32; 164];
-    answer_in(
-        frame,
-        head,
-        rect,
-        bounds,
-        &mut ring,
-        &mut a,
-        &mut a_origins,
-        &mut b,
-        &mut b_origins,
-        &mut order,
-        out,
-    )
-}
-
-// With m = 81.
-fn answer_large(frame: &[u8], head: Head, rect: Rect, bounds: TileBounds, out: &mut [u8]) -> usize
-    requires { Internal.Cuttable frame.now head (length out.old) × (length frame.now ≤ Internal.longest_for 81) }
-    ensures { Internal.Answers (Internal.answer_measured head rect bounds
-        (Internal.parts_of (Frames.read_frame frame.now))) out.old result out.new }
-{
-    let mut ring = [0.0; 162];
-    let mut a = [0.0; 816];
-    let mut a_origins = [0u16; 408];
-    let mut b = [0.0; 816];
-    let mut b_origins = [0u16; 408];
-    let mut order = [0u32; 408];
-    answer_in(
-        frame,
-        head,
-        rect,
-        bounds,
-        &mut ring,
-        &mut a,
-        &mut a_origins,
-        &mut b,
-        &mut b_origins,
-        &mut order,
-        out,
-    )
-}
-
-// With m = 318, which no ring of the longest frame passes.
-fn answer_full(frame: &[u8], head: Head, rect: Rect, bounds: TileBounds, out: &mut [u8]) -> usize
-    requires { Internal.Cuttable frame.now head (length out.old) }
-    ensures { Internal.Answers (Internal.answer_measured head rect bounds
-        (Internal.parts_of (Frames.read_frame frame.now))) out.old result out.new }
-{
-    let mut ring = [0.0; 636];
-    let mut a = [0.0; 3220];
-    let mut a_origins = [0u16; 1610];
-    let mut b = [0.0; 3220];
-    let mut b_origins = [0u16; 1610];
-    let mut order = [0u32; 1610];
-    answer_in(
-        frame,
-        head,
-        rect,
-        bounds,
-        &mut ring,
-        &mut a,
-        &mut a_origins,
-        &mut b,
-        &mut b_origins,
-        &mut order,
-        out,
-    )
-}
-
-// By the size of the frame: clearing arrays for the longest ring costs more than cutting a short one.
+// By the size of the frame, with m of 6, 32, 81 and 318, which no ring of the longest frame passes: clearing arrays for the longest ring
+// costs more than cutting a short one.
 fn answer_sized(frame: &[u8], head: Head, rect: Rect, bounds: TileBounds, out: &mut [u8]) -> usize
     requires { Internal.Cuttable frame.now head (length out.old) }
     ensures { Internal.Answers (Internal.answer_measured head rect bounds
         (Internal.parts_of (Frames.read_frame frame.now))) out.old result out.new }
 {
     if frame.len() <= SMALL {
-        return answer_small(frame, head, rect, bounds, out);
+        return answer_with::<12, 60, 30>(frame, head, rect, bounds, out);
     }
     if frame.len() <= MEDIUM {
-        return answer_medium(frame, head, rect, bounds, out);
+        return answer_with::<64, 328, 164>(frame, head, rect, bounds, out);
     }
     if frame.len() <= LARGE {
-        return answer_large(frame, head, rect, bounds, out);
+        return answer_with::<162, 816, 408>(frame, head, rect, bounds, out);
     }
-    answer_full(frame, head, rect, bounds, out)
+    answer_with::<636, 3220, 1610>(frame, head, rect, bounds, out)
 }
 
 // Whether the frame is unchanged, as far as that is told without an array: a multipolygon inside as a whole, which has no issue check, or a
@@ -210,13 +131,11 @@ fn answer(frame: &[u8], out: &mut [u8]) -> usize
     }
 }
 
-// A refusal leaves the output as it was; an answer stands at its front, and what lies past it stays.
-pub fn frame(frame: &[u8], out: &mut [u8]) -> FrameAnswer
+// Answers a refusal, or the count of the answer's bytes. A refusal leaves the output as it was; an answer stands at its front, and what lies past it stays.
+pub fn frame(frame: &[u8], out: &mut [u8]) -> Result<usize, FrameRefusal>
     ensures answer { result ≡ frame_call_answer frame.now out.old }
     ensures lent { out.new ≡ frame_call_output frame.now out.old }
 {
-    if let FrameCheck::Fails(refusal) = check_call(frame, out.len()) {
-        return FrameAnswer::Refused(refusal);
-    }
-    FrameAnswer::Answered(answer(frame, out))
+    check_call(frame, out.len())?;
+    Ok(answer(frame, out))
 }

@@ -124,8 +124,7 @@ fn list_parts(
         next: LEAST_ROOM,
     };
     let mut at = HEAD;
-    let mut i = 0usize;
-    while i < parts {
+    for i in 0..parts {
         let measured = part_rect(frame, at, Rect::Nothing);
         let rect = measured.rect;
         listing = add_part(
@@ -133,7 +132,6 @@ fn list_parts(
             listing,
         );
         at = measured.next;
-        i += 1;
     }
     listing
 }

@@ -1,12 +1,11 @@
 -- The line step, which takes an input in blocks of any sizes (document 01, "Frames": the program `ringcut`). Definitions only.
 use Rattle.std.specs.Prelude.{◌≡◌, Bool, true, false, ◌&&◌, cond, List, [], ◌∷◌, ◌++◌, ℕ, suc, ◌+◌, ◌*◌, ◌%◌, ◌≤◌, leb, eqb, length}
-use Rattle.std.specs.Prelude.{take, replicate}
+use Rattle.std.specs.Prelude.{take, replicate, Result, Ok, Err}
 use Rattle.binary64.specs.Slices.{over}
 use Rattle.frame_bytes.specs.Frame.{longest}
 use Rattle.lines.specs.declared.line.Line.{Line}
 use Rattle.lines.specs.declared.line.Line.TheVariants as KnownLines
-use Rattle.lines.specs.declared.feed.Finished.{Finished}
-use Rattle.lines.specs.declared.feed.Finished.TheVariants.{TooShort, Wrote}
+use Rattle.lines.specs.declared.feed.TooShort.{TooShort}
 use Rattle.lines.specs.Lines.{newline, hex_digit, lower_hex, printed}
 
 -- ---- the characters that stand for what is known of a line
@@ -100,14 +99,14 @@ pub record Feeds (block : List ℕ) (line : Line) (kept out : List ℕ) (taken w
 -- ---- the end of the input: "A last line without a newline counts", and where no character of it was read there is none
 
 -- what `finish` answers: how many bytes it wrote, 0 where there is no last line, or that a lent slice is shorter than `slices_fit` asks for
-abbrev pub finish_answer : Line → List ℕ → List ℕ → Finished
-finish_answer line kept out = cond (slices_fit kept out) (Wrote (length (printed (chars_of line kept)))) TooShort
+abbrev pub finish_answer : Line → List ℕ → List ℕ → Result ℕ TooShort
+finish_answer line kept out = cond (slices_fit kept out) (Ok (length (printed (chars_of line kept)))) (Err record {})
 
 -- and what the output holds then
 abbrev pub finish_output : Line → List ℕ → List ℕ → List ℕ
 finish_output line kept out = cond (slices_fit kept out) (over (printed (chars_of line kept)) out) out
 
 -- how many bytes were written by such an answer
-abbrev pub bytes_written : Finished → ℕ
-bytes_written TooShort = 0
-bytes_written (Wrote count) = count
+abbrev pub bytes_written : Result ℕ TooShort → ℕ
+bytes_written (Err too_short) = 0
+bytes_written (Ok count) = count

@@ -30,17 +30,20 @@ const VALUES: [u8; 256] = *b"\
     \x10\x10\x10\x10\x10\x10\x10\x10\x10\x10\x10\x10\x10\x10\x10\x10";
 
 // The table, to be lent to whoever reads many characters: a constant is written out anew wherever it is used.
-pub fn digit_values() -> [u8; 256]
-    ensures { Internal.DigitValues result }
-{
-    VALUES
+#[derive(Drop)]
+pub struct DigitValues {
+    values: [u8; 256],
+    ghost known: { Internal.DigitValues values },
 }
 
-pub fn digit_of(b: u8, values: &[u8; 256]) -> u8
-    requires { Internal.DigitValues values.now }
+pub fn digit_values() -> DigitValues {
+    DigitValues { values: VALUES }
+}
+
+pub fn digit_of(b: u8, values: &DigitValues) -> u8
     ensures { result ≡ Lines.digit b }
 {
-    values[b as usize]
+    values.values[b as usize]
 }
 
 fn hex_digit(d: u8) -> u8
@@ -67,9 +70,7 @@ fn to_hex(out: &mut [u8], count: usize)
     requires { 2 * count ≤ length out.old }
     ensures { out.new ≡ Lines.lower_hex (take count out.old) ++ drop (2 * count) out.old }
 {
-    let mut k = count;
-    while k > 0 {
-        k -= 1;
+    for k in (0..count).rev() {
         let b = out[k];
         put_hex(out, 2 * k, b);
     }

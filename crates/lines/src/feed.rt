@@ -16,14 +16,9 @@ pub struct Fed {
     pub written: usize,
 }
 
-// What the end of an input comes to.
-#[derive(Clone, Copy)]
-pub enum Finished {
-    // `kept` or `out` is shorter than the line step asks: nothing was written, nor is it told whether there is a last line.
-    TooShort,
-    // So many bytes were written, 0 where there is no last line.
-    Wrote(usize),
-}
+// `kept` or `out` is shorter than the line step asks: nothing was written, nor is it told whether there is a last line.
+#[derive(Clone, Copy, Debug, PartialEq, Eq)]
+pub struct TooShort;
 
 // What is known of a line before an input is read: nothing, so that no character stands for it.
 pub fn start() -> Line
@@ -127,26 +122,22 @@ pub fn feed_lines(block: &[u8], line: Line, kept: &mut [u8], out: &mut [u8]) -> 
 fn is_not_begun(line: Line) -> bool
     ensures answer { result ≡ Internal.not_begun line }
 {
-    match line {
-        Line::NotDigits => false,
-        Line::Whole(bytes) => bytes == 0,
-        Line::Half(_, _) => false,
-        Line::Long(_) => false,
-    }
+    matches!(line, Line::Whole(0))
 }
 
-// Writes what the end of the input prints, a last line without a newline. Where a slice is too short it writes nothing, and says so:
-// then it may be called again with slices that are long enough, so that the last line is not lost.
-pub fn finish(line: Line, kept: &[u8], out: &mut [u8]) -> Finished
+// Writes what the end of the input prints, a last line without a newline, and answers how many bytes that is, 0 where there is no last
+// line. Where a slice is too short it writes nothing, and says so: then it may be called again with slices that are long enough, so that
+// the last line is not lost.
+pub fn finish(line: Line, kept: &[u8], out: &mut [u8]) -> Result<usize, TooShort>
     ensures answer { result ≡ LineStep.finish_answer line kept.now out.old }
     ensures output { out.new ≡ LineStep.finish_output line kept.now out.old }
     ensures room { LineStep.bytes_written result ≤ length out.old }
 {
     if !slices_fit(kept, out) {
-        return Finished::TooShort;
+        return Err(TooShort);
     }
     if is_not_begun(line) {
-        return Finished::Wrote(0);
+        return Ok(0);
     }
-    Finished::Wrote(answer_line(line, kept, out))
+    Ok(answer_line(line, kept, out))
 }

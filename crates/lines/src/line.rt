@@ -3,7 +3,7 @@ ghost use Rattle.std.specs.Prelude.{◌≡◌, ◌<◌, ◌≤◌, length, take}
 ghost use Rattle.frame_bytes.specs.Frame.{longest};
 ghost use Rattle.lines.specs.Internal as Internal;
 
-use super::digits::{NEWLINE, NOT_A_DIGIT, digit_of, digit_values};
+use super::digits::{DigitValues, NEWLINE, NOT_A_DIGIT, digit_of, digit_values};
 use frame_bytes::reader::LONGEST;
 
 // What is known of a line. The bytes stand at the front of a slice that holds the longest frame, which goes with it: a count over the
@@ -38,8 +38,8 @@ fn take_digit(line: Line, d: u8, kept: &mut [u8]) -> Line
     }
 }
 
-fn take_char(line: Line, b: u8, values: &[u8; 256], kept: &mut [u8]) -> Line
-    requires { Internal.DigitValues values.now × (longest ≤ length kept.old) }
+fn take_char(line: Line, b: u8, values: &DigitValues, kept: &mut [u8]) -> Line
+    requires { longest ≤ length kept.old }
     ensures state { Internal.state_of result kept.new ≡ Internal.after (Internal.state_of line kept.old) b }
 {
     let d = digit_of(b, values);
@@ -57,8 +57,8 @@ struct Pairs {
 }
 
 // Takes pairs of digits from the front of a block, as long as there are any and a byte more is kept: nearly every line is such pairs.
-fn take_pairs(block: &[u8], bytes: usize, values: &[u8; 256], kept: &mut [u8]) -> Pairs
-    requires { Internal.DigitValues values.now × (longest ≤ length kept.old) }
+fn take_pairs(block: &[u8], bytes: usize, values: &DigitValues, kept: &mut [u8]) -> Pairs
+    requires { longest ≤ length kept.old }
     ensures passes { Internal.ReadsOn block.now 0 (Internal.whole (take bytes kept.old))
         result.at (Internal.whole (take result.bytes kept.new)) }
 {
@@ -91,21 +91,22 @@ pub struct Place {
 }
 
 // Takes characters from a place of a block on, to the next newline or to the block's end.
-fn take_chars(block: &[u8], from: usize, line: Line, values: &[u8; 256], kept: &mut [u8]) -> Place
-    requires { (from ≤ length block.now) × Internal.DigitValues values.now × (longest ≤ length kept.old) }
+fn take_chars(block: &[u8], from: usize, line: Line, values: &DigitValues, kept: &mut [u8]) -> Place
+    requires { (from ≤ length block.now) × (longest ≤ length kept.old) }
     ensures takes { Internal.Takes block.now from line kept.old result.at result.line kept.new }
 {
     let mut reached = line;
-    let mut at = from;
-    while at < block.len() {
+    for at in from..block.len() {
         let b = block[at];
         if b == NEWLINE {
             return Place { line: reached, at };
         }
         reached = take_char(reached, b, values, kept);
-        at += 1;
     }
-    Place { line: reached, at }
+    Place {
+        line: reached,
+        at: block.len(),
+    }
 }
 
 // Takes a block's characters to its first newline or to its end.

@@ -89,9 +89,9 @@ fn write_kept(ring: &[f64], end: usize, closing: Coord, out: &mut [f64]) -> usiz
     kept + 1
 }
 
-// Mends a ring into the output, and answers how many coordinates it has then, or why it is refused. Whether four coordinates are kept is found before the first is written, so that a refusal changes nothing;
-// past the answer the output is unchanged. The logic has one NaN: a NaN stands exactly where the definition has one, and its bits are free,
-// also where the output is left unchanged.
+// Mends a ring into the output, and answers how many coordinates it has then, or why it is refused. Whether four coordinates are kept is
+// found before the first is written, so that a refusal changes nothing; past the answer the output is unchanged. The logic has one NaN: a
+// NaN stands exactly where the definition has one, and its bits are free, also where the output is left unchanged.
 pub fn mend_ring(ring: &[f64], out: &mut [f64]) -> Result<usize, MendRefusal>
     ensures answer { result ≡ mend_call_answer ring.now out.old }
     ensures lent { out.new ≡ mend_call_output ring.now out.old }

@@ -92,10 +92,10 @@ fn clip_padded(
     len
 }
 
-// `clip_ring` on the ring as lent, not closed beforehand: how many coordinates the cut ring has, or why it is refused. A refusal changes nothing lent; a success fills the scratch slices with zeros,
-// whole, and the output past the answer up to what 22 asks, and leaves the output beyond that unchanged; so it does with the output of the
-// origins. The logic has one NaN: a NaN stands exactly where the definition has one, and its bits are free, also in a slice that is left
-// unchanged.
+// `clip_ring` on the ring as lent, not closed beforehand: how many coordinates the cut ring has, or why it is refused. A refusal changes
+// nothing lent; a success fills the scratch slices with zeros, whole, and the output past the answer up to what 22 asks, and leaves the
+// output beyond that unchanged; so it does with the output of the origins. The logic has one NaN: a NaN stands exactly where the
+// definition has one, and its bits are free, also in a slice that is left unchanged.
 pub fn ring(
     ring: &[f64],
     bounds: TileBounds,

@@ -13,7 +13,6 @@ use Rattle.std.proofs.KnownBytes.{Consumes-nil, Consumes-trans, Consumes-kept, A
 use Rattle.frame_bytes.specs.Encoding.{each}
 use Rattle.lines.specs.declared.line.Line.{Line}
 use Rattle.lines.specs.Lines.{newline, in_front, lines_of, answer_line, printed}
-use Rattle.lines.specs.declared.feed.Finished.TheVariants.{Wrote}
 use Rattle.lines.specs.LineStep.{chars_of, Begins, in_front_of_some, ended, printed_now, GoesOn, slices_fit}
 use Rattle.lines.specs.LineStep.{finish_answer, finish_output, bytes_written}
 use Rattle.ringcut.specs.Internal.{ReadsAll}
@@ -130,7 +129,7 @@ reached_some (Some all) (Some rest) held₀ held line kept (characters, taken, (
 
 -- what stands at the front of the output behind `finish`
 pub last_now : (line : Line) (kept out out' : List ℕ) (waiting : ℕ) → slices_fit kept out ≡ true
-    → Wrote waiting ≡ finish_answer line kept out → out' ≡ finish_output line kept out → take waiting out' ≡ printed (chars_of line kept)
+    → Ok waiting ≡ finish_answer line kept out → out' ≡ finish_output line kept out → take waiting out' ≡ printed (chars_of line kept)
 last_now line kept out out' waiting fits answer output =
     let text = printed (chars_of line kept) in
     let count : waiting ≡ length text = ap bytes_written (rw fits at answer) in

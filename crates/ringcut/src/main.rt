@@ -19,7 +19,7 @@ ghost use Rattle.ringcut.specs.Streams as Streams;
 
 use arguments::{asks_for_version, has_arguments};
 use frame_bytes::reader::LONGEST;
-use lines::feed::{Finished, feed_lines, finish, start};
+use lines::feed::{TooShort, feed_lines, finish, start};
 use lines::line::Line;
 use std::io;
 use std::io::{IsTerminal, Read, Write};
@@ -32,15 +32,14 @@ const BLOCK: usize = 65536;
 // Room for the longest line, and for some answers that wait to be written: a write for each would cost more than the answer.
 const OUTPUT: usize = 151552;
 
-// What a block leaves: the line to go on with, the line that the input ended in, or that a read or a write failed.
+// What a block leaves: the line to go on with, or the line that the input ended in.
 #[derive(Drop)]
 enum Turn {
     More(Line),
     Ended(Line),
-    Failed(Stopped),
 }
 
-// Answers every line that ends in the block, and writes the answers out: the next read may wait for more.
+// Answers every line that ends in the block, and writes the answers out: the next read may wait for more. Returns the line to go on with.
 fn feed_all<W: Write>(
     clock: &impl Clock,
     to: &mut W,
@@ -48,9 +47,9 @@ fn feed_all<W: Write>(
     line: Line,
     kept: &mut [u8],
     out: &mut [u8],
-) -> Turn
+) -> Result<Line, Stopped>
     requires { (longest ≤ length kept.old) × (LineStep.line_room ≤ length out.old) }
-    ensures goes_on { Internal.GoesOnIfMore block.now line kept.old result kept.new }
+    ensures goes_on { IfOk result (λ next. LineStep.GoesOn block.now line kept.old next kept.new) }
     ensures answers { Internal.Answers (W.contents to.old) (W.contents to.new) block.now line kept.old
         result }
 {
@@ -58,13 +57,11 @@ fn feed_all<W: Write>(
     let mut from = 0usize;
     while from < block.len() {
         let fed = feed_lines(&block[from..], known, kept, out);
-        if let Err(stopped) = write_out(clock, to, out, fed.written) {
-            return Turn::Failed(stopped);
-        }
+        write_out(clock, to, out, fed.written)?;
         known = fed.line;
         from += fed.taken;
     }
-    Turn::More(known)
+    Ok(known)
 }
 
 fn read_block<R: Read, W: Write>(
@@ -74,20 +71,23 @@ fn read_block<R: Read, W: Write>(
     line: Line,
     kept: &mut [u8],
     out: &mut [u8],
-) -> Turn
+) -> Result<Turn, Stopped>
     requires { (longest ≤ length kept.old) × (LineStep.line_room ≤ length out.old) }
     ensures turns { Internal.Turns (R.remaining input.old) (R.remaining input.new)
         (W.contents to.old) (W.contents to.new) line kept.old result kept.new }
 {
     let mut block = [0u8; BLOCK];
     match input.read(&mut block) {
-        Ok(0) => Turn::Ended(line),
-        Ok(n) => feed_all(clock, to, &block[..n], line, kept, out),
+        Ok(0) => Ok(Turn::Ended(line)),
+        Ok(n) => {
+            let next = feed_all(clock, to, &block[..n], line, kept, out)?;
+            Ok(Turn::More(next))
+        }
         Err(error) => {
             if try_again(clock, &error) {
-                Turn::More(line)
+                Ok(Turn::More(line))
             } else {
-                Turn::Failed(Stopped::Reading(error))
+                Err(Stopped::Reading(error))
             }
         }
     }
@@ -109,10 +109,9 @@ fn read_all<R: Read, W: Write>(
 {
     let mut line = start();
     for _ in 0..u64::MAX {
-        match read_block(clock, input, to, line, kept, out) {
+        match read_block(clock, input, to, line, kept, out)? {
             Turn::More(next) => line = next,
             Turn::Ended(last) => return Ok(last),
-            Turn::Failed(stopped) => return Err(stopped),
         }
     }
     Err(Stopped::Reading(io::Error::from(io::ErrorKind::TimedOut)))
@@ -132,9 +131,9 @@ fn answer_input<R: Read, W: Write>(
     let mut out = [0u8; OUTPUT];
     let line = read_all(clock, input, to, &mut kept, &mut out)?;
     match finish(line, &kept, &mut out) {
-        Finished::Wrote(waiting) => write_out(clock, to, &out, waiting),
+        Ok(waiting) => write_out(clock, to, &out, waiting),
         // Both slices are as long as `finish` asks, so it never answers that one is too short.
-        Finished::TooShort => unreachable!(),
+        Err(TooShort) => unreachable!(),
     }
 }
 

@@ -10,6 +10,7 @@ use lib.Ieee.{Float}
 use lib.IntN.{ℤ, pos}
 use lib.ListN.{length, replicate}
 use borrow.Author.Tests.{ne_eqb}
+use Rattle.std.specs.Prelude.{Result, Ok, Err}
 use Rattle.binary64.specs.Slices.{plus_zero, zeros, over, padded}
 use Rattle.tile.specs.declared.Coord.{Coord}
 use Rattle.tile.specs.declared.TileBounds.{TileBounds}
@@ -21,8 +22,6 @@ use Rattle.sutherland_hodgman.specs.Growth.{B, most_coordinates}
 use Rattle.sutherland_hodgman.proofs.Offered.{B-le}
 use Rattle.ring_calls.specs.declared.Refusal.{Refusal}
 use Rattle.ring_calls.specs.declared.Refusal.TheVariants as Refusals
-use Rattle.ring_calls.specs.declared.Check.{Check}
-use Rattle.ring_calls.specs.declared.Check.TheVariants.{Fails, Passes}
 use Rattle.rings.specs.declared.rectangle.Rect.{Rect}
 use Rattle.rings.specs.declared.rectangle.Rect.TheVariants as Rects
 use Rattle.rings.specs.Rectangle.{rectangle}
@@ -39,10 +38,7 @@ use Rattle.clip.specs.Polygon.{cut_hole, unless_none, cut_holes, cut_rings, over
 use Rattle.clip.specs.Polygon.{nothing, dropped, unchanged, cut, overlay, detail, issue_detail, reason_detail, answer_of, told}
 use Rattle.clip.proofs.Positions.{RouteWithin, exterior-within}
 use Rattle.polygon_rings.specs.WrittenRings.{written_rings, numbers_of, lengths_of, origins_of}
-use Rattle.slices.specs.declared.call.SliceAnswer.{SliceAnswer}
-use Rattle.slices.specs.declared.call.SliceAnswer.TheVariants.{Refused, Answered}
-use Rattle.slices.specs.declared.call.RoomCheck.{RoomCheck}
-use Rattle.slices.specs.declared.call.RoomCheck.TheVariants as Rooms
+use Rattle.slices.specs.declared.call.Answered.{Answered}
 use Rattle.slices.specs.SliceCall.{PolygonSlices, polygon_slices, slice_call_check, route_lent, slice_answered, slice_call_answer}
 use Rattle.slices.specs.SliceCall.{
   slice_call_room,
@@ -53,8 +49,7 @@ use Rattle.slices.specs.SliceCall.{
   slice_call_guards,
   guards_in,
 }
-use Rattle.slices.specs.Internal.{with_room}
-use Rattle.slices.proofs.Checks.{passes-room, fails_told}
+use Rattle.slices.proofs.Checks.{passes-room}
 
 unless_most : (c : List Coord) (l : List (List Coord)) → length (unless_none c l) ≤ suc (length l)
 unless_most [] l = omega arith
@@ -141,19 +136,23 @@ module _ (b : TileBounds) (rings : List (List Coord)) (few : length rings ≤ mo
 
 -- ---- the call
 
+-- a slice that is filled with zeros and had kept its length
+pub cleared : {A : Type 0} (zero : A) (m n : ℕ) (l : List A) → l ≡ replicate m zero → m ≡ n → l ≡ replicate n zero
+cleared zero m n l e h = rw (e, h)
+
 -- what is answered, and what the lent slices hold, where the checks refuse
-pub refused : (c : Check) (room : ℕ) (rings : List (List Coord)) (to : Routed) (origins : List (List ℕ)) (lent : PolygonSlices)
-    (r : RoomCheck) (refusal : Refusal) → r ≡ with_room c room → r ≡ Rooms.Fails refusal
-    → (Refused refusal ≡ slice_answered c to) × (lent ≡ polygon_slices_after c rings to origins lent)
-refused c room rings to origins lent r refusal told e = let f = fails_told c room r refusal told e in (rw f, rw f)
+pub refused : (c : Result ℕ Refusal) (rings : List (List Coord)) (to : Routed) (origins : List (List ℕ)) (lent : PolygonSlices)
+    (refusal : Refusal) → c ≡ Err refusal
+    → (Err refusal ≡ slice_answered c to) × (lent ≡ polygon_slices_after c rings to origins lent)
+refused c rings to origins lent refusal e = (rw e, rw e)
 
 -- and where they pass
-module _ (c : Check) (to : Routed) (passes : c ≡ Passes) where
+module _ (c : Result ℕ Refusal) (to : Routed) (room : ℕ) (passes : c ≡ Ok room) where
   pub answered : (answer : PolygonAnswer) (guards : ℕ) → answer ≡ answer_of to → guards ≡ (told answer).guards
-      → Answered answer guards ≡ slice_answered c to
+      → ◌≡◌ {A = Result Answered Refusal} (Ok (record { answer = answer; guards = guards })) (slice_answered c to)
   answered answer guards ha hg = rw (passes, hg, ha)
 
-  pub written : (rings : List (List Coord)) (origins : List (List ℕ)) (lent : PolygonSlices) (room : ℕ) → room ≡ total ring_room rings
+  pub written : (rings : List (List Coord)) (origins : List (List ℕ)) (lent : PolygonSlices) → room ≡ total ring_room rings
       → (scratch : List Float) (origin_scratch order : List ℕ) (out : List Float) (lens os : List ℕ)
       → scratch ≡ zeros (length lent.scratch) → origin_scratch ≡ replicate (length lent.origin_scratch) 0
       → order ≡ replicate (length lent.order) 0
@@ -162,37 +161,37 @@ module _ (c : Check) (to : Routed) (passes : c ≡ Passes) where
       → os ≡ padded 0 (origins_of origins) room lent.out_origins
       → polygon_slices scratch origin_scratch order out lens os ≡ polygon_slices_after c rings to origins lent
   unfolding slice_call_room slice_call_origin_room
-  written rings origins lent room asked scratch origin_scratch order out lens os hs hu hp ho hl hr =
+  written rings origins lent asked scratch origin_scratch order out lens os hs hu hp ho hl hr =
       rw (passes, ← asked, hs, hu, hp, ho, hl, hr)
 
-pub passed : (c : Check) (to : Routed) (answer : PolygonAnswer) (guards : ℕ) → slice_answered c to ≡ Answered answer guards
-    → (c ≡ Passes) × (answer_of to ≡ answer)
-passed (Fails r) to answer guards e = absurd (let z : ◌≡◌ {A = ℕ} 0 1 = cc in omega arith)
-passed Passes to answer guards e = (refl, cc)
+pub passed : (c : Result ℕ Refusal) (to : Routed) (a : Answered) → slice_answered c to ≡ Ok a
+    → (room : ℕ) × (c ≡ Ok room) × (answer_of to ≡ a.answer)
+passed (Err r) to a e = absurd (let z : ◌≡◌ {A = ℕ} 0 1 = cc in omega arith)
+passed (Ok room) to a e = (room, refl, cc)
 
 module _ (flags : Flags) (bounds : TileBounds) (buffer : Float) (s : List Float) (ns : List ℕ) (lent : PolygonSlices) where
-  answer_fields : (answer : PolygonAnswer) (guards : ℕ) → slice_call_answer flags bounds buffer s ns lent ≡ Answered answer guards
-      → Fields answer
+  answer_fields : (a : Answered) → slice_call_answer flags bounds buffer s ns lent ≡ Ok a
+      → Fields a.answer
   unfolding slice_call_answer route_lent
-  answer_fields answer guards e =
-      let p = passed (slice_call_check s ns lent) (route_lent flags bounds buffer s ns) answer guards e in
-      let m = (passes-room ns s _ _ _ _ _ _ p.0).0.measurable in
+  answer_fields a e =
+      let p = passed (slice_call_check s ns lent) (route_lent flags bounds buffer s ns) a e in
+      let m = (passes-room ns s _ _ _ _ _ _ _ p.1).0.measurable in
       let few : length (closed_rings ns s) ≤ most_rings = omega (arith, length-closed ns s, m.lent.few) in
       let small : length (exterior (closed_rings ns s)) ≤ most_coordinates = omega (arith, exterior-most (closed_rings ns s), m.small) in
-      rw (← p.1) (route_fields (buffered bounds buffer) (closed_rings ns s) few small flags)
+      rw (← p.2) (route_fields (buffered bounds buffer) (closed_rings ns s) few small flags)
 
-  pub answer-below : (answer : PolygonAnswer) (guards : ℕ) → slice_call_answer flags bounds buffer s ns lent ≡ Answered answer guards
-      → answer_code answer < 2 ^ 60
-  answer-below answer guards e =
-      let f = answer_fields answer guards e in omega (arith, f.number, f.reason, f.rings_or_first, f.second)
+  pub answer-below : (a : Answered) → slice_call_answer flags bounds buffer s ns lent ≡ Ok a
+      → answer_code a.answer < 2 ^ 60
+  answer-below a e =
+      let f = answer_fields a e in omega (arith, f.number, f.reason, f.rings_or_first, f.second)
 
   -- each field can be read from the number
-  pub answer-read : (answer : PolygonAnswer) (guards : ℕ) → slice_call_answer flags bounds buffer s ns lent ≡ Answered answer guards
-      → (answer_code answer % 2 ^ 8 ≡ (told answer).number) × (answer_code answer / 2 ^ 8 % 2 ^ 8 ≡ (told answer).reason.number)
-      × (answer_code answer / 2 ^ 16 % 2 ^ 24 ≡ (told answer).rings + (told answer).reason.first)
-      × (answer_code answer / 2 ^ 40 ≡ (told answer).reason.second)
-  answer-read answer guards e =
-      let f = answer_fields answer guards e in (
+  pub answer-read : (a : Answered) → slice_call_answer flags bounds buffer s ns lent ≡ Ok a
+      → (answer_code a.answer % 2 ^ 8 ≡ (told a.answer).number) × (answer_code a.answer / 2 ^ 8 % 2 ^ 8 ≡ (told a.answer).reason.number)
+      × (answer_code a.answer / 2 ^ 16 % 2 ^ 24 ≡ (told a.answer).rings + (told a.answer).reason.first)
+      × (answer_code a.answer / 2 ^ 40 ≡ (told a.answer).reason.second)
+  answer-read a e =
+      let f = answer_fields a e in (
         omega (arith, f.number, f.reason, f.rings_or_first, f.second),
         omega (arith, f.number, f.reason, f.rings_or_first, f.second),
         omega (arith, f.number, f.reason, f.rings_or_first, f.second),
@@ -200,7 +199,7 @@ module _ (flags : Flags) (bounds : TileBounds) (buffer : Float) (s : List Float)
       )
 
   -- the number that is answered tells the guard count
-  pub guards-told : (r : SliceAnswer) (code : ℤ) → r ≡ slice_call_answer flags bounds buffer s ns lent → code ≡ slice_call_code r
+  pub guards-told : (r : Result Answered Refusal) (code : ℤ) → r ≡ slice_call_answer flags bounds buffer s ns lent → code ≡ slice_call_code r
       → guards_in code ≡ slice_call_guards r
   unfolding slice_call_answer
   guards-told r code hr hc = rw (hc, hr) (told (slice_call_check s ns lent) (route_lent flags bounds buffer s ns))
@@ -208,13 +207,13 @@ module _ (flags : Flags) (bounds : TileBounds) (buffer : Float) (s : List Float)
       not-one : (n : ℕ) → 1 < n → guards_in (pos n) ≡ 0
       not-one n h = rw (ne_eqb n 1 (λ e. omega arith))
 
-      told : (c : Check) (to : Routed) → guards_in (slice_call_code (slice_answered c to)) ≡ slice_call_guards (slice_answered c to)
-      told (Fails Refusals.Lengths) to = refl
-      told (Fails Refusals.Coordinates) to = refl
-      told (Fails Refusals.Scratch) to = refl
-      told (Fails Refusals.Output) to = refl
-      told Passes nothing = refl
-      told Passes dropped = refl
-      told Passes unchanged = refl
-      told Passes (cut rings) = not-one (answer_code (answer_of (cut rings))) (omega arith)
-      told Passes (overlay reason) = not-one (answer_code (answer_of (overlay reason))) (omega arith)
+      told : (c : Result ℕ Refusal) (to : Routed) → guards_in (slice_call_code (slice_answered c to)) ≡ slice_call_guards (slice_answered c to)
+      told (Err Refusals.Lengths) to = refl
+      told (Err Refusals.Coordinates) to = refl
+      told (Err Refusals.Scratch) to = refl
+      told (Err Refusals.Output) to = refl
+      told (Ok room) nothing = refl
+      told (Ok room) dropped = refl
+      told (Ok room) unchanged = refl
+      told (Ok room) (cut rings) = not-one (answer_code (answer_of (cut rings))) (omega arith)
+      told (Ok room) (overlay reason) = not-one (answer_code (answer_of (overlay reason))) (omega arith)

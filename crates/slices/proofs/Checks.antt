@@ -9,26 +9,21 @@ use lib.Ieee.{Float}
 use lib.ListN.{length, take, drop, replicate, length-append, take-append-drop, drop_of_length-le}
 use lib.Seq.{length-take-le}
 use borrow.Author.Tests.{ltb-true, ltb-false, leb-true, eqb-true, not-false}
+use Rattle.std.specs.Prelude.{Result, Ok}
 use Rattle.binary64.specs.Slices.{plus_zero, zeros, padded}
 use Rattle.binary64.proofs.Fill.{padded-part}
 use Rattle.binary64.proofs.Booleans.{neither, both}
 use Rattle.sutherland_hodgman.specs.Growth.{most_coordinates}
 use Rattle.ring_calls.specs.declared.Refusal.{Refusal}
 use Rattle.ring_calls.specs.declared.Refusal.TheVariants.{Lengths, Coordinates, Scratch, Output}
-use Rattle.ring_calls.specs.declared.Check.{Check}
-use Rattle.ring_calls.specs.declared.Check.TheVariants.{Fails, Passes}
-use Rattle.ring_calls.specs.RingCall.{fails_if}
-use Rattle.ring_calls.proofs.Offered.{not-refused}
 use Rattle.rings.specs.LentRings.{most_rings, sum, closed_rings, total, largest, ring_room}
 use Rattle.rings.specs.Internal.{Lent, Measurable}
 use Rattle.rings.proofs.LentRings.{length-closed, largest-total, rooms_below}
 use Rattle.clip.specs.Polygon.{Routed}
 use Rattle.polygon_rings.specs.WrittenRings.{written_rings, numbers_of, origins_of}
 use Rattle.polygon_rings.specs.Internal.{none_placed, LentOriginsRoom, PolygonRoom, Filled, FilledOrigins}
-use Rattle.slices.specs.declared.call.RoomCheck.{RoomCheck}
-use Rattle.slices.specs.declared.call.RoomCheck.TheVariants as Rooms
-use Rattle.slices.specs.SliceCall.{lengths_fit, slice_call_room, slice_call_origin_room, check_room, check_polygon}
-use Rattle.slices.specs.Internal.{with_room, FilledWhole}
+use Rattle.slices.specs.SliceCall.{refused_if, lengths_fit, slice_call_room, slice_call_origin_room, check_room, check_polygon}
+use Rattle.slices.specs.Internal.{FilledWhole}
 
 -- the rooms of a few rings are numbers of the machine
 pub few_rooms : (ns : List ℕ) (s : List Float) → Measurable ns s → (largest ring_room (closed_rings ns s) ≤ most_rings * (8 * most_coordinates))
@@ -60,26 +55,32 @@ none-of_three s t u e =
     let q = neither t u p.1 in
     (p.0, q.0, q.1)
 
-module _ (ns : List ℕ) (s : List Float) (scratch origin_scratch order out lens out_origins : ℕ)
-    (h : check_polygon s ns scratch origin_scratch order out lens out_origins ≡ Passes) where
+-- where the row of tests passes, its first test says no and the others pass
+not-refused : (t : Bool) (r : Refusal) (c : Result ℕ Refusal) (room : ℕ) → refused_if t r c ≡ Ok room → (t ≡ false) × (c ≡ Ok room)
+not-refused true r c room e = absurd (let z : ◌≡◌ {A = ℕ} 0 1 = cc in omega arith)
+not-refused false r c room e = (refl, e)
+
+module _ (ns : List ℕ) (s : List Float) (scratch origin_scratch order out lens out_origins room : ℕ)
+    (h : check_polygon s ns scratch origin_scratch order out lens out_origins ≡ Ok room) where
   past_lengths : (not (lengths_fit (length s) ns) ≡ false)
-      × (fails_if (ltb most_coordinates (total length (closed_rings ns s))) Coordinates
-      (check_room (closed_rings ns s) scratch origin_scratch order out lens out_origins) ≡ Passes)
+      × (refused_if (ltb most_coordinates (total length (closed_rings ns s))) Coordinates
+      (check_room (closed_rings ns s) scratch origin_scratch order out lens out_origins) ≡ Ok room)
   unfolding check_polygon
-  past_lengths = not-refused (not (lengths_fit (length s) ns)) Lengths _ h
+  past_lengths = not-refused (not (lengths_fit (length s) ns)) Lengths _ room h
 
   pub passes_fit : lengths_fit (length s) ns ≡ true
   passes_fit = not-false (lengths_fit (length s) ns) past_lengths.0
 
   pub passes-room : PolygonRoom ns s scratch order out lens × LentOriginsRoom ns s origin_scratch out_origins none_placed
+      × (room ≡ total ring_room (closed_rings ns s))
   unfolding check_room slice_call_room slice_call_origin_room
   passes-room =
       let most = largest ring_room (closed_rings ns s) in
       let all = total ring_room (closed_rings ns s) in
       let n = length (closed_rings ns s) in
-      let q2 = not-refused (ltb most_coordinates (total length (closed_rings ns s))) Coordinates _ past_lengths.1 in
-      let q3 = not-refused (ltb scratch (2 * most) || (ltb origin_scratch most || ltb order most)) Scratch _ q2.1 in
-      let q4 = not-refused (ltb out (2 * all) || (ltb lens n || ltb out_origins all)) Output _ q3.1 in
+      let q2 = not-refused (ltb most_coordinates (total length (closed_rings ns s))) Coordinates _ room past_lengths.1 in
+      let q3 = not-refused (ltb scratch (2 * most) || (ltb origin_scratch most || ltb order most)) Scratch _ room q2.1 in
+      let q4 = not-refused (ltb out (2 * all) || (ltb lens n || ltb out_origins all)) Output _ room q3.1 in
       let ts = none-of_three (ltb scratch (2 * most)) (ltb origin_scratch most) (ltb order most) q3.0 in
       let to = none-of_three (ltb out (2 * all)) (ltb lens n) (ltb out_origins all) q4.0 in (
         record {
@@ -95,6 +96,7 @@ module _ (ns : List ℕ) (s : List Float) (scratch origin_scratch order out lens
           scratch-room = ltb-false origin_scratch most ts.1;
           output-room = omega (arith, ltb-false out_origins all to.2);
         },
+        cc q4.1,
       )
 
 -- where there is room everywhere, there is in the parts of the outputs that 22 asks for
@@ -167,21 +169,9 @@ padded-front zero new part old room h e =
     let none : drop room (take room old) ≡ [] = drop_of_length-le (take room old) k in
     rw (e, l, none, append-nil, append_assoc)
 
--- ---- what a check tells with its room
-
-pub fails_told : (check : Check) (asked : ℕ) (r : RoomCheck) (refusal : Refusal) → r ≡ with_room check asked → r ≡ Rooms.Fails refusal
-    → check ≡ Fails refusal
-fails_told (Fails refusal') asked r refusal told e = cc
-fails_told Passes asked r refusal told e = absurd (let z : ◌≡◌ {A = ℕ} 0 1 = cc in omega arith)
-
-passes-told : (check : Check) (asked : ℕ) (r : RoomCheck) (room : ℕ) → r ≡ with_room check asked → r ≡ Rooms.Passes room
-    → (check ≡ Passes) × (room ≡ asked)
-passes-told (Fails refusal) asked r room told e = absurd (let z : ◌≡◌ {A = ℕ} 0 1 = cc in omega arith)
-passes-told Passes asked r room told e = (refl, cc)
-
 -- the call is not refused, and 22 asks for room for so many coordinates and origins
 pub record Passed (ns : List ℕ) (s : List Float) (scratch origin_scratch order out lens out_origins room : ℕ) : Type 0 where
-  pub passes : check_polygon s ns scratch origin_scratch order out lens out_origins ≡ Passes
+  pub passes : check_polygon s ns scratch origin_scratch order out lens out_origins ≡ Ok room
   pub asked : room ≡ total ring_room (closed_rings ns s)
   pub polygon-room : PolygonRoom ns s scratch order out lens
   pub origin-room : LentOriginsRoom ns s origin_scratch out_origins none_placed
@@ -189,19 +179,17 @@ pub record Passed (ns : List ℕ) (s : List Float) (scratch origin_scratch order
   pub origins-within : room ≤ out_origins
   pub small : room ≤ most_rings * (8 * most_coordinates)
 
-pub passed_checks : (ns : List ℕ) (s : List Float) (scratch origin_scratch order out lens out_origins : ℕ) (r : RoomCheck) (room : ℕ)
-    → r ≡ with_room (check_polygon s ns scratch origin_scratch order out lens out_origins) (slice_call_origin_room (closed_rings ns s))
-    → r ≡ Rooms.Passes room → Passed ns s scratch origin_scratch order out lens out_origins room
-unfolding slice_call_origin_room
-passed_checks ns s scratch origin_scratch order out lens out_origins r room told e =
-    let t = passes-told (check_polygon s ns scratch origin_scratch order out lens out_origins) _ r room told e in
-    let p = passes-room ns s scratch origin_scratch order out lens out_origins t.0 in
+pub passed_checks : (ns : List ℕ) (s : List Float) (scratch origin_scratch order out lens out_origins room : ℕ)
+    → check_polygon s ns scratch origin_scratch order out lens out_origins ≡ Ok room
+    → Passed ns s scratch origin_scratch order out lens out_origins room
+passed_checks ns s scratch origin_scratch order out lens out_origins room e =
+    let p = passes-room ns s scratch origin_scratch order out lens out_origins room e in
     record {
-      passes = t.0;
-      asked = t.1;
+      passes = e;
+      asked = p.2;
       polygon-room = p.0;
       origin-room = p.1;
-      within = omega (arith, t.1, p.0.output-room);
-      origins-within = omega (arith, t.1, p.1.output-room);
-      small = omega (arith, t.1, (few_rooms ns s p.0.measurable).1);
+      within = omega (arith, p.2, p.0.output-room);
+      origins-within = omega (arith, p.2, p.1.output-room);
+      small = omega (arith, p.2, (few_rooms ns s p.0.measurable).1);
     }

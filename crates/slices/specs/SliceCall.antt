@@ -1,26 +1,28 @@
 -- The slice call (document 01, "Frames", amended by document 02, Points 4, 1 and 12): what it answers, and what each lent slice holds
 -- afterwards. Definitions only.
 use Rattle.std.specs.Prelude.{Bool, not, cond, ◌&&◌, ◌||◌, List, ℕ, ◌+◌, ◌*◌, ◌^◌, ltb, leb, eqb, Float, length, replicate}
-use Rattle.std.specs.Prelude.{ℤ, pos, negsuc, neg_ℤ}
+use Rattle.std.specs.Prelude.{ℤ, pos, negsuc, neg_ℤ, Result, Ok, Err}
 use Rattle.binary64.specs.Slices.{zeros, over, plus_zero, padded}
 use Rattle.tile.specs.declared.Coord.{Coord}
 use Rattle.tile.specs.declared.TileBounds.{TileBounds}
 use Rattle.tile.specs.Bounds.{buffered}
 use Rattle.sutherland_hodgman.specs.Growth.{most_coordinates}
+use Rattle.ring_calls.specs.declared.Refusal.{Refusal}
 use Rattle.ring_calls.specs.declared.Refusal.TheVariants.{Lengths, Coordinates, Scratch, Output}
-use Rattle.ring_calls.specs.declared.Check.{Check}
-use Rattle.ring_calls.specs.declared.Check.TheVariants.{Fails, Passes}
-use Rattle.ring_calls.specs.RingCall.{refusal_number, fails_if}
+use Rattle.ring_calls.specs.RingCall.{refusal_number}
 use Rattle.rings.specs.LentRings.{most_rings, sum, closed_rings, total, largest, ring_room}
 use Rattle.clip.specs.declared.polygon.Flags.{Flags}
 use Rattle.clip.specs.declared.polygon.PolygonAnswer.{PolygonAnswer}
 use Rattle.clip.specs.Polygon.{Routed, route, answer_of, told}
 use Rattle.clip.specs.Origins.{routed_origins}
 use Rattle.polygon_rings.specs.WrittenRings.{written_rings, numbers_of, lengths_of, origins_of}
-use Rattle.slices.specs.declared.call.SliceAnswer.{SliceAnswer}
-use Rattle.slices.specs.declared.call.SliceAnswer.TheVariants.{Refused, Answered}
+use Rattle.slices.specs.declared.call.Answered.{Answered}
 
 -- ---- refusals
+
+-- a refusal where its test says so, else what the later tests say
+abbrev pub refused_if : Bool → Refusal → Result ℕ Refusal → Result ℕ Refusal
+refused_if test refusal later = cond test (Err refusal) later
 
 -- where this is false, 19: "no ring, over 64 rings, or lengths (in coordinates) whose sum times 2 is not the count of numbers lent"
 unfoldable pub lengths_fit : ℕ → List ℕ → Bool
@@ -37,20 +39,20 @@ slice_call_origin_room rings = total ring_room rings
 -- 21 and 22, of closed rings and the lengths of the scratch slice, that of the origins, the order slice, the output, the second length
 -- slice and the output of the origins: "when, S being its largest B, .. scratch .. is under 2 × S numbers or the order slice .. under S",
 -- where "21 speaks of the one slice", and "a u16 scratch slice of S as well"; "when the output is under 2 × the sum of its B numbers, or
--- the second length slice under its ring count", and what Point 12 adds to 22
-unfoldable pub check_room : List (List Coord) → ℕ → ℕ → ℕ → ℕ → ℕ → ℕ → Check
+-- the second length slice under its ring count", and what Point 12 adds to 22; past these, how many origins 22 asks
+unfoldable pub check_room : List (List Coord) → ℕ → ℕ → ℕ → ℕ → ℕ → ℕ → Result ℕ Refusal
 check_room rings scratch origin_scratch order out out_lengths out_origins =
     let S = largest ring_room rings in
-    fails_if (ltb scratch (2 * S) || (ltb origin_scratch S || ltb order S)) Scratch
-    (fails_if (ltb out (slice_call_room rings) || (ltb out_lengths (length rings) || ltb out_origins (slice_call_origin_room rings)))
-    Output Passes)
+    refused_if (ltb scratch (2 * S) || (ltb origin_scratch S || ltb order S)) Scratch
+    (refused_if (ltb out (slice_call_room rings) || (ltb out_lengths (length rings) || ltb out_origins (slice_call_origin_room rings)))
+    Output (Ok (slice_call_origin_room rings)))
 
 -- 19 to 22, "tested in that order": "Ring lengths are taken after closing in B and 20."
-unfoldable pub check_polygon : List Float → List ℕ → ℕ → ℕ → ℕ → ℕ → ℕ → ℕ → Check
+unfoldable pub check_polygon : List Float → List ℕ → ℕ → ℕ → ℕ → ℕ → ℕ → ℕ → Result ℕ Refusal
 check_polygon coords lengths scratch origin_scratch order out out_lengths out_origins =
     let rings = closed_rings lengths coords in
-    fails_if (not (lengths_fit (length coords) lengths)) Lengths
-    (fails_if (ltb most_coordinates (total length rings)) Coordinates
+    refused_if (not (lengths_fit (length coords) lengths)) Lengths
+    (refused_if (ltb most_coordinates (total length rings)) Coordinates
     (check_room rings scratch origin_scratch order out out_lengths out_origins))
 
 -- ---- the lent slices
@@ -75,8 +77,8 @@ polygon_slices scratch origin_scratch order out out_lengths out_origins = record
   out_origins = out_origins;
 }
 
--- the refusal of a slice call, if there is one
-abbrev pub slice_call_check : List Float → List ℕ → PolygonSlices → Check
+-- the refusal of a slice call, if there is one, else how many origins 22 asks
+abbrev pub slice_call_check : List Float → List ℕ → PolygonSlices → Result ℕ Refusal
 slice_call_check coords lengths lent =
     check_polygon coords lengths (length lent.scratch) (length lent.origin_scratch) (length lent.order) (length lent.output)
     (length lent.out_lengths) (length lent.out_origins)
@@ -93,11 +95,11 @@ origins_lent flags bounds buffer coords lengths =
     routed_origins (route_lent flags bounds buffer coords lengths) (buffered bounds buffer) (closed_rings lengths coords)
 
 -- the answer has its guard count beside it: "a guard count in the answer"
-abbrev pub slice_answered : Check → Routed → SliceAnswer
-slice_answered (Fails refusal) outcome = Refused refusal
-slice_answered Passes outcome = Answered (answer_of outcome) (told (answer_of outcome)).guards
+abbrev pub slice_answered : Result ℕ Refusal → Routed → Result Answered Refusal
+slice_answered (Err refusal) outcome = Err refusal
+slice_answered (Ok room) outcome = Ok (record { answer = answer_of outcome; guards = (told (answer_of outcome)).guards })
 
-unfoldable pub slice_call_answer : Flags → TileBounds → Float → List Float → List ℕ → PolygonSlices → SliceAnswer
+unfoldable pub slice_call_answer : Flags → TileBounds → Float → List Float → List ℕ → PolygonSlices → Result Answered Refusal
 slice_call_answer flags bounds buffer coords lengths lent =
     slice_answered (slice_call_check coords lengths lent) (route_lent flags bounds buffer coords lengths)
 
@@ -106,9 +108,9 @@ slice_call_answer flags bounds buffer coords lengths lent =
 -- "A refusal changes no lent buffer. A success fills scratch and order with zeros and leaves .. the second length slice past the answer
 -- unchanged"; "the output past the answer, up to what 22 asks, then holds zeros on every success, overlay and nothing included"; the u16
 -- output "past the answer follows the output's rule". `rings` are the lent ones, closed, and `origins` those of the outcome's rings.
-abbrev pub polygon_slices_after : Check → List (List Coord) → Routed → List (List ℕ) → PolygonSlices → PolygonSlices
-polygon_slices_after (Fails refusal) rings outcome origins lent = lent
-polygon_slices_after Passes rings outcome origins lent =
+abbrev pub polygon_slices_after : Result ℕ Refusal → List (List Coord) → Routed → List (List ℕ) → PolygonSlices → PolygonSlices
+polygon_slices_after (Err refusal) rings outcome origins lent = lent
+polygon_slices_after (Ok room) rings outcome origins lent =
     polygon_slices (zeros (length lent.scratch)) (replicate (length lent.origin_scratch) 0) (replicate (length lent.order) 0)
     (padded plus_zero (numbers_of (written_rings outcome)) (slice_call_room rings) lent.output)
     (over (lengths_of (written_rings outcome)) lent.out_lengths)
@@ -130,14 +132,14 @@ answer_code answer =
     (told answer).number + 2 ^ 8 * reason.number + 2 ^ 16 * ((told answer).rings + reason.first) + 2 ^ 40 * reason.second
 
 -- minus the refusal's number, or the answer's code
-abbrev pub slice_call_code : SliceAnswer → ℤ
-slice_call_code (Refused refusal) = neg_ℤ (pos (refusal_number refusal))
-slice_call_code (Answered answer guards) = pos (answer_code answer)
+abbrev pub slice_call_code : Result Answered Refusal → ℤ
+slice_call_code (Err refusal) = neg_ℤ (pos (refusal_number refusal))
+slice_call_code (Ok answered) = pos (answer_code answered.answer)
 
 -- the guard count of an answer; 0 for a refusal
-abbrev pub slice_call_guards : SliceAnswer → ℕ
-slice_call_guards (Refused refusal) = 0
-slice_call_guards (Answered answer guards) = guards
+abbrev pub slice_call_guards : Result Answered Refusal → ℕ
+slice_call_guards (Err refusal) = 0
+slice_call_guards (Ok answered) = answered.guards
 
 -- the guard count that the number alone tells: 1 where the number is 1, else 0
 abbrev pub guards_in : ℤ → ℕ

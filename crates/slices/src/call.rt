@@ -1,5 +1,5 @@
 // The slice call: one polygon as lent slices. It is open to callers and refuses what it can't cut.
-ghost use Rattle.std.specs.Prelude.{◌≡◌, ◌*◌, ◌^◌, ◌<◌, length, replicate};
+ghost use Rattle.std.specs.Prelude.{◌≡◌, ◌*◌, ◌^◌, ◌<◌, length};
 ghost use Rattle.binary64.specs.Slices.{padded};
 ghost use Rattle.rings.specs.LentRings.{closed_rings};
 ghost use Rattle.rings.specs.Internal.{Measurable};
@@ -7,20 +7,18 @@ ghost use Rattle.clip.specs.Polygon as Polygon;
 ghost use Rattle.clip.specs.Origins as Origins;
 ghost use Rattle.polygon_rings.specs.WrittenRings.{origins_of};
 ghost use Rattle.polygon_rings.specs.Internal.{none_placed, LentOriginsRoom, PolygonRoom};
-ghost use Rattle.slices.specs.SliceCall.{lengths_fit, check_room, check_polygon, slice_call_origin_room, polygon_slices};
+ghost use Rattle.slices.specs.SliceCall.{lengths_fit, check_room, check_polygon, polygon_slices};
 ghost use Rattle.slices.specs.SliceCall.{slice_call_answer, slice_call_slices, answer_code};
-ghost use Rattle.slices.specs.Internal.{with_room, FilledWhole};
+ghost use Rattle.slices.specs.Internal.{FilledWhole};
 
-use binary64::slices::clear;
 use clip::polygon::{
-    CUT, DROPPED, Flags, NOTHING, OVERLAY, PolygonAnswer, Reason, UNCHANGED, guard_count,
-    reason_detail,
+    CUT, DROPPED, Flags, NOTHING, OVERLAY, PolygonAnswer, Reason, ReasonDetail, UNCHANGED,
+    guard_count,
 };
 use polygon_rings::clip_polygon;
 use ring_calls::Refusal;
 use rings::lent::{MOST_RINGS, closed_sum, lent_count, room_of};
 use sutherland_hodgman::growth::MOST_COORDINATES;
-use sutherland_hodgman::origins::clear_origins;
 use tile::TileBounds;
 
 // By what an answer's number multiplies the reason; a cut's rings or an overlay's first position; an overlay's second position.
@@ -30,18 +28,11 @@ pub const FIRST_PLACE: u64 = 65_536;
 
 const SECOND_PLACE: u64 = 1_099_511_627_776;
 
-// The answer of a slice call: a refusal, or what becomes of the polygon and its guard count.
+// What a slice call answers where it refuses nothing: what becomes of the polygon, and its guard count.
 #[derive(Clone, Copy)]
-pub enum SliceAnswer {
-    Refused(Refusal),
-    Answered(PolygonAnswer, usize),
-}
-
-// Whether there is a refusal; if there is none, for how many coordinates, and origins, 22 asks room in the outputs.
-#[derive(Clone, Copy)]
-enum RoomCheck {
-    Fails(Refusal),
-    Passes(usize),
+pub struct Answered {
+    pub answer: PolygonAnswer,
+    pub guards: usize,
 }
 
 // Refusal 19: no ring, too many, or lengths that don't fit the numbers lent.
@@ -57,7 +48,7 @@ fn lengths_fit(coords: &[f64], lengths: &[u32]) -> bool
     2 * lent_count(lengths) == coords.len()
 }
 
-// Refusals 21 and 22, of rings that fit: by the lengths of the scratch slice, that of the origins, the order slice, the output, the second
+// Refusals 21 and 22, of rings that fit; if there is none, for how many coordinates, and origins, 22 asks room in the outputs: by the lengths of the scratch slice, that of the origins, the order slice, the output, the second
 // length slice and the output of the origins.
 fn check_room(
     coords: &[f64],
@@ -68,36 +59,34 @@ fn check_room(
     out: usize,
     out_lengths: usize,
     out_origins: usize,
-) -> RoomCheck
+) -> Result<usize, Refusal>
     requires { Measurable lengths.now coords.now }
-    ensures { result ≡ with_room
-        (check_room (closed_rings lengths.now coords.now) scratch origin_scratch order out out_lengths
-        out_origins) (slice_call_origin_room (closed_rings lengths.now coords.now)) }
+    ensures { result ≡ check_room (closed_rings lengths.now coords.now) scratch origin_scratch order out out_lengths out_origins }
 {
     let room = room_of(coords, lengths);
     if scratch < 2 * room.largest {
-        return RoomCheck::Fails(Refusal::Scratch);
+        return Err(Refusal::Scratch);
     }
     if origin_scratch < room.largest {
-        return RoomCheck::Fails(Refusal::Scratch);
+        return Err(Refusal::Scratch);
     }
     if order < room.largest {
-        return RoomCheck::Fails(Refusal::Scratch);
+        return Err(Refusal::Scratch);
     }
     let asked = room.all;
     if out < 2 * asked {
-        return RoomCheck::Fails(Refusal::Output);
+        return Err(Refusal::Output);
     }
     if out_lengths < lengths.len() {
-        return RoomCheck::Fails(Refusal::Output);
+        return Err(Refusal::Output);
     }
     if out_origins < asked {
-        return RoomCheck::Fails(Refusal::Output);
+        return Err(Refusal::Output);
     }
-    RoomCheck::Passes(asked)
+    Ok(asked)
 }
 
-// The refusals of a slice call, in their order.
+// The refusals of a slice call, in their order; if there is none, what `check_room` answers.
 fn check_polygon(
     coords: &[f64],
     lengths: &[u32],
@@ -107,16 +96,14 @@ fn check_polygon(
     out: usize,
     out_lengths: usize,
     out_origins: usize,
-) -> RoomCheck
-    ensures { result ≡ with_room
-        (check_polygon coords.now lengths.now scratch origin_scratch order out out_lengths out_origins)
-        (slice_call_origin_room (closed_rings lengths.now coords.now)) }
+) -> Result<usize, Refusal>
+    ensures { result ≡ check_polygon coords.now lengths.now scratch origin_scratch order out out_lengths out_origins }
 {
     if !lengths_fit(coords, lengths) {
-        return RoomCheck::Fails(Refusal::Lengths);
+        return Err(Refusal::Lengths);
     }
     if MOST_COORDINATES < closed_sum(coords, lengths) {
-        return RoomCheck::Fails(Refusal::Coordinates);
+        return Err(Refusal::Coordinates);
     }
     check_room(
         coords,
@@ -168,20 +155,9 @@ fn clip_padded(
     );
     let used = clipped.coordinates;
     let numbers = 2 * used;
-    clear(&mut out[numbers..]);
-    clear_origins(&mut out_origins[used..]);
+    out[numbers..].fill(0.0);
+    out_origins[used..].fill(0);
     clipped.answer
-}
-
-// Fills the whole slice with 0.
-fn clear_order(s: &mut [u32])
-    ensures { s.new ≡ replicate (length s.old) 0 }
-{
-    let mut i = 0usize;
-    while i < s.len() {
-        s[i] = 0;
-        i += 1;
-    }
 }
 
 // What becomes of one polygon, whose rings it closes. A refusal changes nothing lent. Any other answer fills the scratch and order slices
@@ -200,7 +176,7 @@ pub fn polygon(
     out: &mut [f64],
     out_lengths: &mut [u32],
     out_origins: &mut [u16],
-) -> SliceAnswer
+) -> Result<Answered, Refusal>
     ensures answer { result ≡ slice_call_answer flags bounds buffer coords.now lengths.now
         (polygon_slices scratch.old origin_scratch.old order.old out.old
         out_lengths.old out_origins.old) }
@@ -210,7 +186,7 @@ pub fn polygon(
         (polygon_slices scratch.old origin_scratch.old order.old out.old
         out_lengths.old out_origins.old) }
 {
-    match check_polygon(
+    let origin_room = check_polygon(
         coords,
         lengths,
         scratch.len(),
@@ -219,36 +195,32 @@ pub fn polygon(
         out.len(),
         out_lengths.len(),
         out_origins.len(),
-    ) {
-        RoomCheck::Fails(refusal) => SliceAnswer::Refused(refusal),
-        RoomCheck::Passes(origin_room) => {
-            let room = 2 * origin_room;
-            let answer = clip_padded(
-                flags,
-                bounds.buffered(buffer),
-                coords,
-                lengths,
-                scratch,
-                origin_scratch,
-                order,
-                &mut out[..room],
-                out_lengths,
-                &mut out_origins[..origin_room],
-            );
-            clear(scratch);
-            clear_origins(origin_scratch);
-            clear_order(order);
-            let guards = guard_count(answer);
-            SliceAnswer::Answered(answer, guards)
-        }
-    }
+    )?;
+    let room = 2 * origin_room;
+    let answer = clip_padded(
+        flags,
+        bounds.buffered(buffer),
+        coords,
+        lengths,
+        scratch,
+        origin_scratch,
+        order,
+        &mut out[..room],
+        out_lengths,
+        &mut out_origins[..origin_room],
+    );
+    scratch.fill(0.0);
+    origin_scratch.fill(0);
+    order.fill(0);
+    let guards = guard_count(answer);
+    Ok(Answered { answer, guards })
 }
 
 fn overlay_code(reason: Reason) -> u64
     requires { answer_code (PolygonAnswer.Overlay reason) < 2 ^ 64 }
     ensures { result ≡ answer_code (PolygonAnswer.Overlay reason) }
 {
-    let detail = reason_detail(reason);
+    let detail = ReasonDetail::from(reason);
     OVERLAY as u64
         + REASON_PLACE * detail.number as u64
         + FIRST_PLACE * detail.first as u64
@@ -257,6 +229,7 @@ fn overlay_code(reason: Reason) -> u64
 
 // An answer as one number: what it is, 2^8 times the reason of an overlay, 2^16 times the count of a cut's rings or an overlay's first
 // position, 2^40 times its second position.
+// Stays a function: that the number fits is for callers to show, and a From can't require it.
 pub fn answer_code(answer: PolygonAnswer) -> u64
     requires { answer_code answer < 2 ^ 64 }
     ensures { result ≡ answer_code answer }

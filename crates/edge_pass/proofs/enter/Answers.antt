@@ -31,7 +31,6 @@ room c =
 pub returns-then-m-next-clause-rest : goal.returns-then-m-next-clause-rest
 returns-then-m-next-clause-rest c = let s = c.args.ring.now in
     let m = c.args.m in
-    let os = c.args.origins.now in
     let e = c.skip_outside-next.ensures in
     let p = past_end s m c.requires.walk_room.0 _ c.if-m-next.true in (
       search rules,
@@ -62,7 +61,6 @@ put_with_origin-requires-2 c = let r = room (goal.at.put_with_origin-requires-2 
 pub returns-clause-rest : goal.returns-clause-rest
 returns-clause-rest c = let s = c.args.ring.now in
     let m = c.args.m in
-    let os = c.args.origins.now in
     let next = c.skip_outside-next.result in
     let e = c.skip_outside-next.ensures in
     let h = c.if-m-next.false in

@@ -32,12 +32,9 @@ room c =
 pub returns-then-m-to-clause-rest : goal.returns-then-m-to-clause-rest
 returns-then-m-to-clause-rest c = let s = c.args.ring.now in
     let m = c.args.m in
-    let os = c.args.origins.now in
     let e = c.copy_inside-to.ensures in
     let p = past_end s m c.requires.walk_room.0 _ c.if-m-to.true in
-    let g = origins_copied c.args.edge c.args.bounds (coords (take (2 * m) s)) os _ _ _ _ c.args.out_origins.now _
-    e.origins.1 e.rest.0 (omega (arith, e.rest.1, c.requires.origin_walk_room.0)) e.origins.0
-    c.copy_origins.ensures in (
+    (
       search rules,
       search rules,
       rest_then c.args.edge c.args.bounds (coords (take (2 * m) s)) e.rest.3 (rest_end c.args.edge c.args.bounds
@@ -67,13 +64,9 @@ put_with_origin-requires c = let r = room (goal.at.put_with_origin-requires c).E
 pub returns-clause-rest : goal.returns-clause-rest
 returns-clause-rest c = let s = c.args.ring.now in
     let m = c.args.m in
-    let os = c.args.origins.now in
     let to = c.copy_inside-to.result in
     let e = c.copy_inside-to.ensures in
     let h = c.if-m-to.false in
-    let g = origins_copied c.args.edge c.args.bounds (coords (take (2 * m) s)) os _ _ _ _ c.args.out_origins.now _
-    e.origins.1 e.rest.0 (omega (arith, e.rest.1, c.requires.origin_walk_room.0)) e.origins.0
-    c.copy_origins.ensures in
     let p = c.put_with_origin.ensures in (
       search rules,
       search rules,

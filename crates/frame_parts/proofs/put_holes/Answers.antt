@@ -2,7 +2,7 @@
 -- write is all that was to be written. Assumes nothing.
 use mathlib.Core.Path.{◌≡◌, refl, ◌∙◌}
 use mathlib.Core.List.{[]}
-use Prim.Native.Nat.{◌+◌, ◌*◌}
+use Prim.Native.Nat.{◌+◌, ◌*◌, ◌-◌, ◌<◌}
 use native.Mathlib.Omega.{arith}
 use lib.ListN.{drop}
 use Rattle.tile.specs.Ring.{close}
@@ -14,71 +14,78 @@ use Rattle.frame_parts.proofs.Cutting.{hole_room, hole_origin-room, cut_put, cut
 use Rattle.frame_parts.proofs.put_holes.Goals as goal
 
 pub count_at-n-requires : goal.count_at-n-requires
-count_at-n-requires c = let l = c.loop-left in omega (
-  arith,
-  hole_whole c.args.bounds c.args.frame.now l.at l.left _ _ _ c.loop-left-test.true l.invariant.0,
-)
+count_at-n-requires c = let l = c.loop in
+    let k = c.args.holes - l.counter in omega (
+      arith,
+      hole_whole c.args.bounds c.args.frame.now l.at k _ _ _ (omega arith) l.invariant.0,
+    )
 
 pub decode_ring-next-requires : goal.decode_ring-next-requires
-decode_ring-next-requires c = let l = c.loop-left in
+decode_ring-next-requires c = let l = c.loop in
+    let k = c.args.holes - l.counter in
     let f = c.args.frame.now in
     let n = c.count_at-n.ensures.0 in
     let w = hole_whole c.args.bounds f l.at
-    l.left _ _ _ c.loop-left-test.true l.invariant.0 in
+    k _ _ _ (omega arith) l.invariant.0 in
     let r = hole_lent c.args.bounds f l.at
-    l.left _ _ _ c.loop-left-test.true l.invariant.0 l.ring refl in (omega (arith, n, w), omega (arith, n, r))
+    k _ _ _ (omega arith) l.invariant.0 l.ring refl in (omega (arith, n, w), omega (arith, n, r))
 
 pub clip_hole-m-requires-clause-ring_room : goal.clip_hole-m-requires-clause-ring_room
-clip_hole-m-requires-clause-ring_room c = let l = c.loop-left in
+clip_hole-m-requires-clause-ring_room c = let l = c.loop in
+    let k = c.args.holes - l.counter in
     let f = c.args.frame.now in
     let bounds = c.args.bounds in
-    let h = c.loop-left-test.true in rw (
+    let h : 0 < k = omega arith in rw (
       c.decode_ring-next.ensures.1,
       c.count_at-n.ensures.0,
-    ) (hole_room bounds f l.at l.left _ _ _ h l.invariant.0 l.ring refl)
+    ) (hole_room bounds f l.at k _ _ _ h l.invariant.0 l.ring refl)
 
 pub clip_hole-m-requires-clause-ring_origin_room : goal.clip_hole-m-requires-clause-ring_origin_room
-clip_hole-m-requires-clause-ring_origin_room c = let l = c.loop-left in
+clip_hole-m-requires-clause-ring_origin_room c = let l = c.loop in
+    let k = c.args.holes - l.counter in
     let f = c.args.frame.now in
     let bounds = c.args.bounds in
-    let h = c.loop-left-test.true in rw (
+    let h : 0 < k = omega arith in rw (
       c.decode_ring-next.ensures.1,
       c.count_at-n.ensures.0,
-    ) (hole_origin-room bounds f l.at l.left _ _ _ h l.invariant.0 l.ring refl)
+    ) (hole_origin-room bounds f l.at k _ _ _ h l.invariant.0 l.ring refl)
 
 pub put_cut_ring-written-requires : goal.put_cut_ring-written-requires
-put_cut_ring-written-requires c = let l = c.loop-left in
+put_cut_ring-written-requires c = let l = c.loop in
+    let k = c.args.holes - l.counter in
     let a = c.args in
     let cut = c.clip_hole-m.ensures in
-    let p = cut_put a.bounds a.frame.now l.at l.left _ _ _ c.loop-left-test.true
+    let p = cut_put a.bounds a.frame.now l.at k _ _ _ (omega arith)
     l.invariant.0 _ l.ring _
     c.count_at-n.ensures.0 c.decode_ring-next.ensures.1 refl _ _ _ cut.cut
     cut.origins in (p.0, p.1, p.2, omega (arith, l.invariant.1))
 
-pub loop-left-preserved : goal.loop-left-preserved
-loop-left-preserved c = let l = c.loop-left in
+pub loop-preserved : goal.loop-preserved
+loop-preserved c = let l = c.loop in
+    let k = c.args.holes - l.counter in
     let f = c.args.frame.now in
     let bounds = c.args.bounds in
-    let h = c.loop-left-test.true in
+    let h : 0 < k = omega arith in
     let n = c.count_at-n.ensures.0 in
     let decode = c.decode_ring-next in
     let clip = c.clip_hole-m in
     let here = close (coords_of (count_of (drop l.at f)) (drop (l.at + 2) f)) in
     let put : PutRings (unless_none (hole_vertices bounds here) []) _ _ _ _ =
-    rw (cut-ring bounds f l.at l.left _ _ _ h l.invariant.0 _ l.ring _ n decode.ensures.1 refl _ _ _ clip.ensures.cut
+    rw (cut-ring bounds f l.at k _ _ _ h l.invariant.0 _ l.ring _ n decode.ensures.1 refl _ _ _ clip.ensures.cut
     clip.ensures.origins) at c.put_cut_ring-written.ensures in
-    let next = next_room bounds f l.at l.left _ _ _ h l.invariant.0 _ _ _ put in
-    let ahead = ahead_hole bounds f l.at l.left _ _ _ h l.invariant.0 _ _ _ put in
+    let next = next_room bounds f l.at k _ _ _ h l.invariant.0 _ _ _ put in
+    let ahead = ahead_hole bounds f l.at k _ _ _ h l.invariant.0 _ _ _ put in
     let kr = c.decode_ring-next.auto.ring in
     let ka = c.clip_hole-m.auto.scratch in
     let kao = c.clip_hole-m.auto.origin_scratch in
     let kb = c.clip_hole-m.auto.out in
     let kbo = c.clip_hole-m.auto.out_origins in
     let ko = c.put_cut_ring-written.auto.out in
+    let less : c.args.holes - (l.counter + 1) ≡ k - 1 = omega arith in
     let at : decode.result ≡ l.at + 2 + 16 * count_of (drop l.at f) = decode.ensures.0 ∙ rw n in (
-      rw (at, same-lengths kr ka kao kb kbo, ko) next,
+      rw (at, less, same-lengths kr ka kao kb kbo, ko) next,
       omega (arith, l.invariant.1, put.rings-after, unless_count (hole_vertices bounds here)),
-      rw at (ahead_then l.invariant.2 ahead),
+      rw (at, less) (ahead_then l.invariant.2 ahead),
       kr ∙ l.invariant.3,
       ka ∙ l.invariant.4,
       kao ∙ l.invariant.5,
@@ -88,5 +95,6 @@ loop-left-preserved c = let l = c.loop-left in
     )
 
 pub returns : goal.returns
-returns c = let l = c.loop-left in
-    let a = c.args in ahead_none _ _ _ _ _ (rw (holes_end a.bounds a.frame.now l.at l.left c.loop-left-test.false) at l.invariant.2)
+returns c = let l = c.loop in
+    let k = c.args.holes - l.counter in
+    let a = c.args in ahead_none _ _ _ _ _ (rw (holes_end a.bounds a.frame.now l.at k (omega arith)) at l.invariant.2)

@@ -6,7 +6,6 @@ use Rattle.sutherland_hodgman.proofs.clip_ring.Goals as goal
 
 pub clip_top-requires-clause-numbers_room : goal.clip_top-requires-clause-numbers_room
 clip_top-requires-clause-numbers_room c = let p = c.requires.cutter_room in
-    let q = c.requires.origin_room in
     let k = c.clip_three_edges-len.auto in
     let t = c.clip_three_edges-len.ensures.ring in last-room c.args.bounds c.args.ring.now c.args.n _ _ t (record {
       vertices = p.vertices;
@@ -33,4 +32,4 @@ returns-clause-ring c = let e = c.clip_three_edges-len.ensures in
 pub returns-clause-origins : goal.returns-clause-origins
 returns-clause-origins c = let e = c.clip_three_edges-len.ensures in
     let t = c.clip_top.ensures in
-    let doubles = c.shared_slice_known-1.given in last-origins c.args.bounds c.args.ring.now c.args.n _ _ e.ring _ _ e.origins t.origins
+    last-origins c.args.bounds c.args.ring.now c.args.n _ _ e.ring _ _ e.origins t.origins

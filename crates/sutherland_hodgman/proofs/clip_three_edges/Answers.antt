@@ -14,8 +14,7 @@ put_positions-requires c = (le_trans (le-B c.args.n) c.requires.origin_room.outp
 
 pub clip_ring_against_edge-left-requires-clause-pass_room : goal.clip_ring_against_edge-left-requires-clause-pass_room
 clip_ring_against_edge-left-requires-clause-pass_room c = let s0 = stage_start c.args.n c.args.ring.now c.requires.cutter_room.vertices in
-    let k = c.put_positions.auto in
-    let p = c.requires.origin_room in (c.requires.cutter_room.vertices, (stage_room _ _ (omega arith) c.requires.cutter_room.scratch-room c.requires.cutter_room.scratch-room s0).1)
+    (c.requires.cutter_room.vertices, (stage_room _ _ (omega arith) c.requires.cutter_room.scratch-room c.requires.cutter_room.scratch-room s0).1)
 
 pub clip_ring_against_edge-left-requires-clause-pass_origin_room : goal.clip_ring_against_edge-left-requires-clause-pass_origin_room
 clip_ring_against_edge-left-requires-clause-pass_origin_room c = let s0 = stage_start c.args.n c.args.ring.now c.requires.cutter_room.vertices in
@@ -25,10 +24,8 @@ clip_ring_against_edge-left-requires-clause-pass_origin_room c = let s0 = stage_
 
 pub clip_ring_against_edge-right-requires-clause-pass_room : goal.clip_ring_against_edge-right-requires-clause-pass_room
 clip_ring_against_edge-right-requires-clause-pass_room c = let p = c.requires.cutter_room in
-    let q = c.requires.origin_room in
     let s0 = stage_start c.args.n c.args.ring.now p.vertices in
     let s1 = stage_next Left c.args.bounds _ _ _ s0 c.clip_ring_against_edge-left.ensures.written in
-    let k0 = c.put_positions.auto in
     let k1 = c.clip_ring_against_edge-left.auto in stage_room _ _ (omega arith) (omega (arith, p.scratch-room, k1)) p.output-room s1
 
 pub clip_ring_against_edge-right-requires-clause-pass_origin_room : goal.clip_ring_against_edge-right-requires-clause-pass_origin_room
@@ -42,11 +39,9 @@ clip_ring_against_edge-right-requires-clause-pass_origin_room c = let p = c.requ
 
 pub clip_ring_against_edge-bottom-requires-clause-pass_room : goal.clip_ring_against_edge-bottom-requires-clause-pass_room
 clip_ring_against_edge-bottom-requires-clause-pass_room c = let p = c.requires.cutter_room in
-    let q = c.requires.origin_room in
     let s0 = stage_start c.args.n c.args.ring.now p.vertices in
     let s1 = stage_next Left c.args.bounds _ _ _ s0 c.clip_ring_against_edge-left.ensures.written in
     let s2 = stage_next Right c.args.bounds _ _ _ s1 c.clip_ring_against_edge-right.ensures.written in
-    let k0 = c.put_positions.auto in
     let k1 = c.clip_ring_against_edge-left.auto in
     let k2 = c.clip_ring_against_edge-right.auto in stage_room _ _ (omega arith) (omega (arith, p.output-room, k2)) (omega (arith, p.scratch-room, k1)) s2
 
@@ -71,10 +66,7 @@ returns-clause-ring c = let b = c.args.bounds in
     let s1 = stage_next Left b _ _ _ s0 e1.written in
     let s2 = stage_next Right b _ _ _ s1 e2.written in
     let s3 = stage_next Bottom b _ _ _ s2 e3.written in
-    let o0 = numbered c.args.n _ _ c.put_positions.ensures in
-    let o1 = origins_next Left b _ _ _ _ _ _ s0.stands o0 e1.written e1.origins in
-    let o2 = origins_next Right b _ _ _ _ _ _ s1.stands o1 e2.written e2.origins in
-    let o3 = origins_next Bottom b _ _ _ _ _ _ s2.stands o2 e3.written e3.origins in s3.stands
+    s3.stands
 
 pub returns-clause-origins : goal.returns-clause-origins
 unfolding three_passes three_passes_origins
@@ -85,7 +77,6 @@ returns-clause-origins c = let b = c.args.bounds in
     let e3 = c.clip_ring_against_edge-bottom.ensures in
     let s1 = stage_next Left b _ _ _ s0 e1.written in
     let s2 = stage_next Right b _ _ _ s1 e2.written in
-    let s3 = stage_next Bottom b _ _ _ s2 e3.written in
     let o0 = numbered c.args.n _ _ c.put_positions.ensures in
     let o1 = origins_next Left b _ _ _ _ _ _ s0.stands o0 e1.written e1.origins in
     let o2 = origins_next Right b _ _ _ _ _ _ s1.stands o1 e2.written e2.origins in

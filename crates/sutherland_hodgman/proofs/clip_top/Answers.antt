@@ -14,21 +14,18 @@ finish-requires-clause-numbers_room c = let s = c.args.scratch.now in
     let k = c.clip_ring_against_edge-top.auto in
     let p = top_room c.args.bounds (coords (take (2 * c.args.n) s)) c.args.n _ in
     let r = p _ (length_front s c.args.n c.requires.numbers_room.0) e.written.count c.requires.numbers_room.1 c.requires.numbers_room.2 in
-    let t = p (2 * length c.args.out_origins.now) (length_front s c.args.n c.requires.numbers_room.0) e.written.count (omega
-    (arith, c.requires.origins_room.1)) (λ h. omega (arith, c.requires.origins_room.2 h)) in (omega (arith, r.0, k), λ h. omega (arith, r.1 h, k))
+    (omega (arith, r.0, k), λ h. omega (arith, r.1 h, k))
 
 pub finish-requires-clause-origins_room : goal.finish-requires-clause-origins_room
 finish-requires-clause-origins_room c = let s = c.args.scratch.now in
     let e = c.clip_ring_against_edge-top.ensures in
     let k = c.clip_ring_against_edge-top.auto in
     let p = top_room c.args.bounds (coords (take (2 * c.args.n) s)) c.args.n _ in
-    let r = p _ (length_front s c.args.n c.requires.numbers_room.0) e.written.count c.requires.numbers_room.1 c.requires.numbers_room.2 in
     let t = p (2 * length c.args.out_origins.now) (length_front s c.args.n c.requires.numbers_room.0) e.written.count (omega
     (arith, c.requires.origins_room.1)) (λ h. omega (arith, c.requires.origins_room.2 h)) in (omega (arith, t.0, k), λ h. omega (arith, t.1 h, k))
 
 pub returns-clause-ring : goal.returns-clause-ring
-returns-clause-ring c = let r = coords (take (2 * c.args.n) c.args.scratch.now) in
-    let e = c.clip_ring_against_edge-top.ensures in
+returns-clause-ring c = let e = c.clip_ring_against_edge-top.ensures in
     let f = c.finish.ensures in written_stands (rw (written-front e.written) at f.ring)
 
 pub returns-clause-origins : goal.returns-clause-origins

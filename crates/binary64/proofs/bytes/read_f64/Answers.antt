@@ -5,4 +5,4 @@ use lib.Ieee.{binary64, of_bits}
 use Rattle.binary64.proofs.bytes.read_f64.Goals as goal
 
 pub returns : goal.returns
-returns c = c.from_bits.ensures ∙ ap (λ (n : ℕ). of_bits binary64 n) c.read_u64.ensures
+returns c = c.from_bits.ensures ∙ ap (λ (n : ℕ). of_bits binary64 n) c.read_number.ensures.0

@@ -2,4 +2,4 @@
 use Rattle.binary64.proofs.bytes.write_f64.Goals as goal
 
 pub returns : goal.returns
-returns c = rw (← c.to_bits.ensures) c.write_u64.ensures
+returns c = rw (← c.to_bits.ensures) c.write_number.ensures

@@ -6,7 +6,7 @@ use Rattle.edge_pass.proofs.origins.copy_origins.Goals as goal
 
 pub loop-k-preserved : goal.loop-k-preserved
 loop-k-preserved c = let l = c.loop-k in
-    let h = c.loop-k-test.true in (
+    (
       simp length-set l.invariant.0,
       rw l.invariant.1 (copied_more c.args.origins.now c.args.out_origins.now c.args.i c.args.len l.k (omega
           (arith, c.requires.0))),

@@ -12,6 +12,3 @@ use Rattle.frame_bytes.proofs.encode.put_ring.Given as goal
 abbrev pub invariant-loop-i : goal.invariant-loop-i
 invariant-loop-i l = (l.i ≤ l.n) × (length l.out ≡ length l.initial.out) × (sets l.initial.out l.first (each answer_coord_bytes (front_answer_coords l.ring l.origins l.n)) ≡ sets l.out
     (l.first + answer_coord_size * l.i) (each answer_coord_bytes (drop l.i (front_answer_coords l.ring l.origins l.n))))
-
-abbrev pub decreases-loop-i : goal.decreases-loop-i
-decreases-loop-i l = l.n - l.i

@@ -13,6 +13,3 @@ use Rattle.frame_bytes.proofs.measure.box_with_coords.Given as goal
 abbrev pub invariant-loop-i : goal.invariant-loop-i
 invariant-loop-i l = Numbers l.west l.south l.east l.north × (with_ring (Rects.Box l.w l.s l.e l.n) (coords_of l.count (drop l.at l.frame)) ≡ with_ring
     (Rects.Box l.west l.south l.east l.north) (left l.frame l.at l.count l.i))
-
-abbrev pub decreases-loop-i : goal.decreases-loop-i
-decreases-loop-i l = l.count - l.i

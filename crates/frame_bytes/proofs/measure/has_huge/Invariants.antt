@@ -9,6 +9,3 @@ use Rattle.frame_bytes.proofs.measure.has_huge.Given as goal
 
 abbrev pub invariant-loop-i : goal.invariant-loop-i
 invariant-loop-i l = (l.i ≤ l.n) × (any_huge (coords_of l.n (drop l.at l.frame)) ≡ any_huge (left l.frame l.at l.n l.i))
-
-abbrev pub decreases-loop-i : goal.decreases-loop-i
-decreases-loop-i l = l.n - l.i

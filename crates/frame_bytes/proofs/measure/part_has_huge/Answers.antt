@@ -1,7 +1,7 @@
 -- `part_has_huge` meets its contract. The invariant: the verdict on the part is that on the rings that are left. Assumes nothing.
 use mathlib.Core.Path.{◌≡◌, sym, ◌∙◌}
 use mathlib.Core.Bool.{true, false}
-use Prim.Native.Nat.{◌+◌}
+use Prim.Native.Nat.{◌+◌, ◌-◌}
 use native.Mathlib.Omega.{arith}
 use lib.ListN.{drop}
 use Rattle.rings.specs.Representable.{any_huge}
@@ -10,36 +10,36 @@ use Rattle.frame_bytes.proofs.PartRings.{part-rings}
 use Rattle.frame_bytes.proofs.Measures.{huge_start, huge_next, huge_end}
 use Rattle.frame_bytes.proofs.measure.part_has_huge.Goals as goal
 
-pub count_at-left-requires : goal.count_at-left-requires
-count_at-left-requires c = (part-rings c.args.frame.now c.args.at c.requires.0 c.requires.1).whole
+pub count_at-rings-requires : goal.count_at-rings-requires
+count_at-rings-requires c = (part-rings c.args.frame.now c.args.at c.requires.0 c.requires.1).whole
 
-pub loop-left-init : goal.loop-left-init
-loop-left-init c = rw c.count_at-left.ensures.0 (huge_start c.args.frame.now c.args.at c.requires.0 c.requires.1)
+pub loop-init : goal.loop-init
+loop-init c = let all : c.count_at-rings.result - 0 ≡ c.count_at-rings.result = omega arith in rw (all, c.count_at-rings.ensures.0) (huge_start c.args.frame.now c.args.at c.requires.0 c.requires.1)
 
 pub count_at-n-requires : goal.count_at-n-requires
 count_at-n-requires c = let a = c.args in
-    let l = c.loop-left in omega (arith, (huge_next a.frame.now a.at l.next l.left c.loop-left-test.true l.invariant).whole)
+    let l = c.loop in let k = c.count_at-rings.result - l.counter in omega (arith, (huge_next a.frame.now a.at l.next k (omega arith) l.invariant).whole)
 
 pub has_huge-requires : goal.has_huge-requires
 has_huge-requires c = let a = c.args in
-    let l = c.loop-left in
-    let n = c.count_at-n.ensures.0 in omega (arith, (huge_next a.frame.now a.at l.next l.left c.loop-left-test.true l.invariant).whole)
+    let l = c.loop in let k = c.count_at-rings.result - l.counter in
+    let n = c.count_at-n.ensures.0 in omega (arith, (huge_next a.frame.now a.at l.next k (omega arith) l.invariant).whole)
 
 pub returns-then-has_huge : goal.returns-then-has_huge
 returns-then-has_huge c = let a = c.args in
     let f = c.args.frame.now in
-    let l = c.loop-left in
+    let l = c.loop in let k = c.count_at-rings.result - l.counter in
     let e : any_huge (coords_of (count_of (drop l.next f)) (drop (l.next + 2) f)) ≡ true =
-    sym (rw c.count_at-n.ensures.0 at c.has_huge.ensures) ∙ c.if-has_huge.true in sym ((huge_next f a.at l.next l.left c.loop-left-test.true l.invariant).ahead.sum ∙ rw e)
+    sym (rw c.count_at-n.ensures.0 at c.has_huge.ensures) ∙ c.if-has_huge.true in sym ((huge_next f a.at l.next k (omega arith) l.invariant).ahead.sum ∙ rw e)
 
-pub loop-left-preserved : goal.loop-left-preserved
-loop-left-preserved c = let a = c.args in
+pub loop-preserved : goal.loop-preserved
+loop-preserved c = let next : c.count_at-rings.result - (c.loop.counter + 1) ≡ c.count_at-rings.result - c.loop.counter - 1 = omega arith in let a = c.args in
     let f = c.args.frame.now in
-    let l = c.loop-left in
+    let l = c.loop in let k = c.count_at-rings.result - l.counter in
     let e : any_huge (coords_of (count_of (drop l.next f)) (drop (l.next + 2) f)) ≡ false =
-    sym (rw c.count_at-n.ensures.0 at c.has_huge.ensures) ∙ c.if-has_huge.false in rw c.count_at-n.ensures.0 (rw e
-    at (huge_next f a.at l.next l.left c.loop-left-test.true l.invariant).ahead)
+    sym (rw c.count_at-n.ensures.0 at c.has_huge.ensures) ∙ c.if-has_huge.false in rw (next, c.count_at-n.ensures.0) (rw e
+    at (huge_next f a.at l.next k (omega arith) l.invariant).ahead)
 
 pub returns : goal.returns
 returns c = let a = c.args in
-    let l = c.loop-left in sym (huge_end a.frame.now a.at l.next l.left c.loop-left-test.false l.invariant)
+    let l = c.loop in let k = c.count_at-rings.result - l.counter in sym (huge_end a.frame.now a.at l.next k (omega arith) l.invariant)

@@ -3,7 +3,7 @@ use mathlib.Core.Path.{ap}
 use Prim.Native.Nat.{◌+◌, ◌*◌, ◌≤◌}
 use native.Mathlib.Omega.{arith}
 use lib.ListN.{length, drop, length-drop}
-use Rattle.frame_bytes.specs.declared.reader.FrameWalk.TheVariants.{Reaches}
+use Rattle.std.specs.Prelude.{Ok}
 use Rattle.frame_bytes.specs.Frame.{count_of}
 use Rattle.frame_bytes.proofs.Walks.{ring_without_count, ring_too_long, ring_truncated, ring-whole}
 use Rattle.frame_bytes.proofs.reader.pass_ring.Goals as goal
@@ -31,4 +31,4 @@ returns c = let a = c.args in
     let d = length-drop a.at f in
     let w : 2 + 16 * count_of l ≤ length l = rw (← n) (omega arith) in
     let e = length-drop (2 + 16 * count_of l) l in rw (ring-whole l (rw (← n) (omega arith)) w)
-    (ap Reaches (omega arith))
+    (ap Ok (omega arith))

@@ -12,6 +12,3 @@ use Rattle.frame_bytes.proofs.ring.decode_ring.Given as goal
 abbrev pub invariant-loop-i : goal.invariant-loop-i
 invariant-loop-i l = (l.i ≤ l.n) × (length l.ring ≡ length l.initial.ring) × (sets l.initial.ring 0 (flat (coords_of l.n (drop l.at l.frame))) ≡ sets l.ring (2 * l.i)
     (flat (left l.frame l.at l.n l.i)))
-
-abbrev pub decreases-loop-i : goal.decreases-loop-i
-decreases-loop-i l = l.n - l.i

@@ -1,6 +1,6 @@
 -- `frame_room` meets its contract. The invariant: the room so far, with the room of what is left, is the whole room. Assumes nothing.
-use mathlib.Core.Path.{refl, sym, ap}
-use Prim.Native.Nat.{ℕ, ◌+◌}
+use mathlib.Core.Path.{◌≡◌, refl, sym, ap}
+use Prim.Native.Nat.{ℕ, ◌+◌, ◌-◌}
 use native.Mathlib.Omega.{arith}
 use mathlib.Core.List.{List}
 use borrow.Author.Rules.{rules}
@@ -22,45 +22,41 @@ whole frame =
           (left read_part (part_room answer_coord_size) frame head_bytes (part_count_of frame)).next;
     }
 
-pub count_at-left-requires : goal.count_at-left-requires
-count_at-left-requires c = omega (arith, frame_head c.args.frame.now c.requires)
+pub count_at-parts-requires : goal.count_at-parts-requires
+count_at-parts-requires c = omega (arith, frame_head c.args.frame.now c.requires)
 
-pub loop-left-init : goal.loop-left-init
-loop-left-init c = let f = c.args.frame.now in rw c.count_at-left.ensures.0 (
-  omega arith,
-  record {
-    within = frame_head f c.requires;
-    accepted = frame_parts f c.requires;
-    sum =
-        refl;
-    end = refl;
-  },
-)
+pub loop-init : goal.loop-init
+loop-init c = let f = c.args.frame.now in let all : c.count_at-parts.result - 0 ≡ c.count_at-parts.result = omega arith in rw (all, c.count_at-parts.ensures.0) (
+    record {
+      within = frame_head f c.requires;
+      accepted = frame_parts f c.requires;
+      sum =
+          refl;
+      end = refl;
+    }
+    )
 
 pub part_room-part-requires : goal.part_room-part-requires
-part_room-part-requires c = let l = c.loop-left in (
-  l.invariant.1.within,
+part_room-part-requires c = let l = c.loop in let k = c.count_at-parts.result - l.counter in (
+  l.invariant.within,
   sum-here read_part (part_room answer_coord_size) c.args.frame.now l.at
-      l.left c.loop-left-test.true l.invariant.1.accepted,
+      k (omega arith) l.invariant.accepted,
 )
 
 pub overflow_add-room : goal.overflow_add-room
 overflow_add-room c = let f = c.args.frame.now in
-    let l = c.loop-left in
-    let s = sum_step read_part (part_room answer_coord_size) f part_reads _ l.room l.at l.left c.part_room-part.result
-    c.loop-left-test.true c.part_room-part.ensures l.invariant.1 in
+    let l = c.loop in let k = c.count_at-parts.result - l.counter in
+    let s = sum_step read_part (part_room answer_coord_size) f part_reads _ l.room l.at k c.part_room-part.result
+    (omega arith) c.part_room-part.ensures l.invariant in
     let e = s.sum in
     let few = frame_few f c.requires in omega (arith, parts-le (length f) (part_count_of f) (drop head_bytes f) (frame_parts f c.requires))
 
-pub loop-left-preserved : goal.loop-left-preserved
-loop-left-preserved c = let f = c.args.frame.now in
-    let l = c.loop-left in (
-      search rules,
-      sum_step read_part (part_room answer_coord_size) f part_reads _ l.room l.at l.left
-          c.part_room-part.result c.loop-left-test.true c.part_room-part.ensures l.invariant.1,
-    )
+pub loop-preserved : goal.loop-preserved
+loop-preserved c = let next : c.count_at-parts.result - (c.loop.counter + 1) ≡ c.count_at-parts.result - c.loop.counter - 1 = omega arith in let f = c.args.frame.now in
+    let l = c.loop in let k = c.count_at-parts.result - l.counter in rw next (sum_step read_part (part_room answer_coord_size) f part_reads _ l.room l.at k
+    c.part_room-part.result (omega arith) c.part_room-part.ensures l.invariant)
 
 pub returns : goal.returns
 returns c = let f = c.args.frame.now in
-    let l = c.loop-left in
-    let e = sum_end read_part (part_room answer_coord_size) f (whole f) l.room l.at l.left c.loop-left-test.false l.invariant.1 in rw (frame_passed f c.requires) (sym (ap (λ (p : MeasuredRoom). p.room) e))
+    let l = c.loop in let k = c.count_at-parts.result - l.counter in
+    let e = sum_end read_part (part_room answer_coord_size) f (whole f) l.room l.at k (omega arith) l.invariant in rw (frame_passed f c.requires) (sym (ap (λ (p : MeasuredRoom). p.room) e))

@@ -1,5 +1,5 @@
 -- `frame_room` meets its contract. The invariant: the room so far, with the room of what is left, is the whole room. Assumes nothing.
-use Prim.Native.Nat.{ℕ, ◌+◌, ◌≤◌}
+use Prim.Native.Nat.{ℕ, ◌+◌, ◌-◌}
 use mathlib.Core.List.{List}
 use Rattle.frame_bytes.specs.declared.room.MeasuredRoom.{MeasuredRoom}
 use Rattle.frame_bytes.specs.Frame.{head_bytes, part_count_of, read_part}
@@ -16,8 +16,5 @@ whole frame =
           (left read_part (part_room answer_coord_size) frame head_bytes (part_count_of frame)).next;
     }
 
-abbrev pub invariant-loop-left : goal.invariant-loop-left
-invariant-loop-left l = (l.left ≤ part_count_of l.frame) × Summed read_part (part_room answer_coord_size) l.frame (whole l.frame) l.room l.at l.left
-
-abbrev pub decreases-loop-left : goal.decreases-loop-left
-decreases-loop-left l = l.left
+abbrev pub invariant-loop : goal.invariant-loop
+invariant-loop l = Summed read_part (part_room answer_coord_size) l.frame (whole l.frame) l.room l.at (l.parts - l.counter)

@@ -30,7 +30,7 @@ returns-then-is_degenerate c = let a = c.args in
     let e : c.is_degenerate.result ≡ degenerate (coord_of (drop (a.at + 16 * l.k) a.frame.now))
     (coord_of (drop (a.at + 16 * (l.k + 1)) a.frame.now)) = c.is_degenerate.ensures
     ∙ ap₂ degenerate l.invariant.2 c.coord_at-q.ensures in sym (l.invariant.3 ∙ repeated-next a.frame.now a.at a.n l.k
-    (rw (← c.requires.1) c.loop-k-test.true)
+    (rw (← c.requires.1) (omega (arith, c.loop-k-test.true)))
     ∙ rw (← e, c.if-is_degenerate.true))
 
 pub loop-k-preserved : goal.loop-k-preserved
@@ -43,11 +43,10 @@ loop-k-preserved c = let a = c.args in
       l.invariant.1,
       c.coord_at-q.ensures,
       l.invariant.3
-          ∙ repeated-next a.frame.now a.at a.n l.k (rw (← c.requires.1)
-          c.loop-k-test.true) ∙ rw (← e, c.if-is_degenerate.false),
+          ∙ repeated-next a.frame.now a.at a.n l.k (rw (← c.requires.1) (omega (arith, c.loop-k-test.true))) ∙ rw (← e, c.if-is_degenerate.false),
     )
 
 pub returns : goal.returns
 returns c = let a = c.args in
     let l = c.loop-k in sym (l.invariant.3 ∙ repeated_end a.frame.now a.at a.n l.k
-    (rw (← c.requires.1) c.loop-k-test.false))
+    (rw (← c.requires.1) (omega (arith, c.loop-k-test.false))))

@@ -11,6 +11,3 @@ use Rattle.frame_bytes.proofs.simple.has_repeated.Given as goal
 abbrev pub invariant-loop-k : goal.invariant-loop-k
 invariant-loop-k l = (l.k ≤ l.count) × (l.count ≤ l.n + 1) × (l.p ≡ coord_of (drop (l.at + 16 * l.k) l.frame))
     × (repeated (close (coords_of l.n (drop l.at l.frame))) ≡ repeated (drop l.k (close (coords_of l.n (drop l.at l.frame)))))
-
-abbrev pub decreases-loop-k : goal.decreases-loop-k
-decreases-loop-k l = l.count - l.k

@@ -17,6 +17,3 @@ invariant-loop-i l = PartsRoom l.frame l.at (l.parts - l.i) (lengths_of l.ring l
     (list_parts l.flags l.bounds l.i (parts_from l.frame l.at (l.parts - l.i))) l.listing l.out
     × (length l.ring ≡ length l.initial.ring) × (length l.a ≡ length l.initial.a) × (length l.a_origins ≡ length l.initial.a_origins) × (length l.b ≡ length l.initial.b)
     × (length l.b_origins ≡ length l.initial.b_origins) × (length l.order ≡ length l.initial.order) × (length l.out ≡ length l.initial.out)
-
-abbrev pub decreases-loop-i : goal.decreases-loop-i
-decreases-loop-i l = l.parts - l.i

@@ -1,4 +1,4 @@
--- `digit_values` meets its contract: the table's rule is a test at each of its entries, which is computed. Assumes nothing.
+-- The table keeps the rule of its type: that rule is a test at each of its entries, which is computed. Assumes nothing.
 use mathlib.Core.List.{List, ◌∷◌, ◌++◌}
 use mathlib.Core.Bool.{Bool}
 use Prim.Native.Nat.{ℕ}
@@ -18,6 +18,6 @@ values =
 right : ℕ → ℕ → Bool
 right k x = eqb x (digit k)
 
-pub returns : goal.returns
+pub invariant_of-result : goal.invariant_of-result
 unfolding values right digit
-returns c = λ b h. eqb→eq (get_or values b 0) (digit b) (at right values tt b h)
+invariant_of-result c = record { known = λ b h. eqb→eq (get_or values b 0) (digit b) (at right values tt b h); }

@@ -1,7 +1,7 @@
 -- `finish` meets its contract. Assumes nothing.
 use mathlib.Core.Path.{refl, sym, ◌∙◌, ap}
 use native.Mathlib.Omega.{arith}
-use Rattle.lines.specs.declared.feed.Finished.TheVariants.{Wrote}
+use Rattle.std.proofs.Common.{Ok}
 use Rattle.lines.proofs.Feeding.{lent-lengths, is-lent, ends_begun, ends-not_begun}
 use Rattle.lines.proofs.feed.finish.Goals as goal
 
@@ -23,7 +23,7 @@ returns-clause-answer c = let a = c.args in
     let byte = c.shared_slice_known-1.given in
     let begun = ends_begun a.line a.kept.now (λ i. omega (arith, byte i)) (lent-lengths a.kept.now a.out.now ready).0
     (sym c.is_not_begun.ensures.answer ∙ c.if-is_not_begun.false) in
-    let e = c.answer_line.ensures in rw (ready, begun) (ap Wrote e.answer)
+    let e = c.answer_line.ensures in rw (ready, begun) (ap Ok e.answer)
 
 pub returns-clause-output : goal.returns-clause-output
 returns-clause-output c = let a = c.args in

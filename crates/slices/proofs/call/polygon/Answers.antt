@@ -3,101 +3,76 @@
 use mathlib.Core.Path.{sym, ◌∙◌}
 use Prim.Native.Nat.{◌*◌}
 use native.Mathlib.Omega.{arith}
+use lib.Ieee.{of_bits}
 use lib.Seq.{length-take-le}
+use Rattle.std.proofs.lemmas.Result.{err_from_is_err_and}
 use Rattle.binary64.specs.Slices.{plus_zero}
-use Rattle.ring_calls.proofs.Offered.{cleared}
 use Rattle.rings.specs.LentRings.{closed_rings}
 use Rattle.clip.specs.Polygon.{route}
 use Rattle.clip.specs.Origins.{routed_origins}
 use Rattle.polygon_rings.specs.WrittenRings.{written_rings, numbers_of, origins_of}
-use Rattle.slices.specs.SliceCall.{slice_call_origin_room, polygon_slices, slice_call_check, route_lent, origins_lent}
+use Rattle.slices.specs.SliceCall.{route_lent, origins_lent}
 use Rattle.slices.specs.SliceCall.{slice_call_answer, slice_call_slices}
 use Rattle.slices.proofs.Checks.{passed_checks, part_room, part-origin-room, padded-front}
-use Rattle.slices.proofs.Answers.{refused, answered, written}
+use Rattle.slices.proofs.Answers.{answered, written, cleared}
 use Rattle.slices.proofs.call.polygon.Goals as goal
 
 pub overflow_mul-room : goal.overflow_mul-room
-overflow_mul-room c = let p = passed_checks _ _ _ _ _ _ _ _ _ _ c.check_polygon.ensures c.in-Passes.is in omega (arith, p.small)
+overflow_mul-room c = let p = (passed_checks _ _ _ _ _ _ _ _ _ (sym c.check_polygon.ensures ∙ c.in_ok-origin_room.was)) in omega (arith, p.small)
 
 pub slice_bounds-clip_padded-end : goal.slice_bounds-clip_padded-end
-slice_bounds-clip_padded-end c = (passed_checks _ _ _ _ _ _ _ _ _ _ c.check_polygon.ensures c.in-Passes.is).within
+slice_bounds-clip_padded-end c = (passed_checks _ _ _ _ _ _ _ _ _ (sym c.check_polygon.ensures ∙ c.in_ok-origin_room.was)).within
 
-pub slice_bounds-clip_padded-end-in-Passes : goal.slice_bounds-clip_padded-end-in-Passes
-slice_bounds-clip_padded-end-in-Passes c = sym (length-take-le _ _ (passed_checks _ _ _ _ _ _ _ _ _ _ c.check_polygon.ensures c.in-Passes.is).within)
+pub slice_bounds-clip_padded-end-2 : goal.slice_bounds-clip_padded-end-2
+slice_bounds-clip_padded-end-2 c = sym (length-take-le _ _ (passed_checks _ _ _ _ _ _ _ _ _ (sym c.check_polygon.ensures ∙ c.in_ok-origin_room.was)).within)
 
-pub slice_bounds-clip_padded-end-in-Passes-2 : goal.slice_bounds-clip_padded-end-in-Passes-2
-slice_bounds-clip_padded-end-in-Passes-2 c = (passed_checks _ _ _ _ _ _ _ _ _ _ c.check_polygon.ensures c.in-Passes.is).origins-within
+pub slice_bounds-clip_padded-end-3 : goal.slice_bounds-clip_padded-end-3
+slice_bounds-clip_padded-end-3 c = (passed_checks _ _ _ _ _ _ _ _ _ (sym c.check_polygon.ensures ∙ c.in_ok-origin_room.was)).origins-within
 
-pub slice_bounds-clip_padded-end-in-Passes-3 : goal.slice_bounds-clip_padded-end-in-Passes-3
-slice_bounds-clip_padded-end-in-Passes-3 c = sym (length-take-le _ _ (passed_checks _ _ _ _ _ _ _ _ _ _ c.check_polygon.ensures c.in-Passes.is
-    ).origins-within)
+pub slice_bounds-clip_padded-end-4 : goal.slice_bounds-clip_padded-end-4
+slice_bounds-clip_padded-end-4 c = sym (length-take-le _ _ (passed_checks _ _ _ _ _ _ _ _ _ (sym c.check_polygon.ensures ∙ c.in_ok-origin_room.was)).origins-within)
 
 pub clip_padded-answer-requires-clause-polygon_room : goal.clip_padded-answer-requires-clause-polygon_room
 clip_padded-answer-requires-clause-polygon_room c = let a = c.args in
-    let ns = c.args.lengths.now in
-    let s = c.args.coords.now in
-    let p = passed_checks ns s _ _ _ _ _ _ _ _ c.check_polygon.ensures c.in-Passes.is in
+    let p = passed_checks a.lengths.now a.coords.now _ _ _ _ _ _ _ (sym c.check_polygon.ensures ∙ c.in_ok-origin_room.was) in
     let l = length-take-le _ a.out.now p.within in
-    let o = length-take-le _ a.out_origins.now p.origins-within in part_room ns s _ _ _ _ _ (omega (arith, l, p.asked)) p.polygon-room
+    part_room a.lengths.now a.coords.now _ _ _ _ _ (omega (arith, l, p.asked)) p.polygon-room
 
 pub clip_padded-answer-requires-clause-lent_origins_room : goal.clip_padded-answer-requires-clause-lent_origins_room
 clip_padded-answer-requires-clause-lent_origins_room c = let a = c.args in
-    let ns = c.args.lengths.now in
-    let s = c.args.coords.now in
-    let p = passed_checks ns s _ _ _ _ _ _ _ _ c.check_polygon.ensures c.in-Passes.is in
-    let l = length-take-le _ a.out.now p.within in
-    let o = length-take-le _ a.out_origins.now p.origins-within in part-origin-room ns s _ _ _ (omega (arith, o, p.asked)) p.origin-room
+    let p = passed_checks a.lengths.now a.coords.now _ _ _ _ _ _ _ (sym c.check_polygon.ensures ∙ c.in_ok-origin_room.was) in
+    let o = length-take-le _ a.out_origins.now p.origins-within in
+    part-origin-room a.lengths.now a.coords.now _ _ _ (omega (arith, o, p.asked)) p.origin-room
 
-pub returns-in-Fails-clause-answer : goal.returns-in-Fails-clause-answer
-unfolding slice_call_answer slice_call_slices
-returns-in-Fails-clause-answer c = let a = c.args in
-    let ns = c.args.lengths.now in
-    let s = c.args.coords.now in
-    let lent = polygon_slices a.scratch.now a.origin_scratch.now a.order.now a.out.now a.out_lengths.now
-    a.out_origins.now in let all = refused (slice_call_check s ns lent) (slice_call_origin_room (closed_rings ns s)) (closed_rings ns s)
-    (route_lent a.flags a.bounds a.buffer s ns) (origins_lent a.flags a.bounds a.buffer s ns) lent _ _
-    c.check_polygon.ensures c.in-Fails.is in all.0
+pub returns-in_err-origin_room-clause-answer : goal.returns-in_err-origin_room-clause-answer
+unfolding slice_call_answer
+returns-in_err-origin_room-clause-answer c = let p = err_from_is_err_and c.from_residual.result c.from_residual.ensures.1 in
+    rw (p.1, p.2, ← c.check_polygon.ensures, c.in_err-origin_room.was)
 
-pub returns-in-Fails-clause-lent : goal.returns-in-Fails-clause-lent
-unfolding slice_call_answer slice_call_slices
-returns-in-Fails-clause-lent c = let a = c.args in
-    let ns = c.args.lengths.now in
-    let s = c.args.coords.now in
-    let lent = polygon_slices a.scratch.now a.origin_scratch.now a.order.now a.out.now a.out_lengths.now
-    a.out_origins.now in let all = refused (slice_call_check s ns lent) (slice_call_origin_room (closed_rings ns s)) (closed_rings ns s)
-    (route_lent a.flags a.bounds a.buffer s ns) (origins_lent a.flags a.bounds a.buffer s ns) lent _ _
-    c.check_polygon.ensures c.in-Fails.is in all.1
+pub returns-in_err-origin_room-clause-lent : goal.returns-in_err-origin_room-clause-lent
+unfolding slice_call_slices
+returns-in_err-origin_room-clause-lent c = rw (← c.check_polygon.ensures, c.in_err-origin_room.was)
 
-pub returns-in-Passes-clause-answer : goal.returns-in-Passes-clause-answer
-unfolding slice_call_answer slice_call_slices route_lent origins_lent
-returns-in-Passes-clause-answer c = let a = c.args in
-    let origin-room = c.in-Passes.origin_room in
-    let p = passed_checks a.lengths.now a.coords.now _ _ _ _ _ _ _ _ c.check_polygon.ensures
-    c.in-Passes.is in
+pub returns-clause-answer : goal.returns-clause-answer
+unfolding slice_call_answer route_lent
+returns-clause-answer c = answered _ _ _ (sym c.check_polygon.ensures ∙ c.in_ok-origin_room.was) _ _
+    (c.clip_padded-answer.ensures.answer ∙ rw c.buffered.ensures) c.guard_count-guards.ensures
+
+pub returns-clause-lent : goal.returns-clause-lent
+unfolding slice_call_slices route_lent origins_lent of_bits
+returns-clause-lent c = let a = c.args in
+    let room = c.in_ok-origin_room.origin_room in
+    let p = passed_checks a.lengths.now a.coords.now _ _ _ _ _ _ _ (sym c.check_polygon.ensures ∙ c.in_ok-origin_room.was) in
     let clipped = c.clip_padded-answer in
-    let kept = c.clip_padded-answer.auto.scratch in
     let b = c.buffered.ensures in
     let bounds = c.buffered.result in
     let rings = closed_rings a.lengths.now a.coords.now in
-    let to = route a.flags bounds rings in answered _ _ p.passes _ _ (clipped.ensures.answer ∙ rw b) c.guard_count-guards.ensures
-
-pub returns-in-Passes-clause-lent : goal.returns-in-Passes-clause-lent
-unfolding slice_call_answer slice_call_slices route_lent origins_lent
-returns-in-Passes-clause-lent c = let a = c.args in
-    let origin-room = c.in-Passes.origin_room in
-    let p = passed_checks a.lengths.now a.coords.now _ _ _ _ _ _ _ _ c.check_polygon.ensures
-    c.in-Passes.is in
-    let clipped = c.clip_padded-answer in
-    let kept = c.clip_padded-answer.auto.scratch in
-    let b = c.buffered.ensures in
-    let bounds = c.buffered.result in
-    let rings = closed_rings a.lengths.now a.coords.now in
-    let to = route a.flags bounds rings in rw (← b)
-    (written _ to p.passes rings (routed_origins to bounds rings) _ origin-room p.asked _ _ _ _ _ _
-    (cleared plus_zero _ _ _ c.clear.ensures kept)
-    (cleared 0 _ _ _ c.clear_origins.ensures c.clip_padded-answer.auto.origin_scratch)
-    (cleared 0 _ _ _ c.clear_order.ensures c.clip_padded-answer.auto.order)
-    (padded-front plus_zero (numbers_of (written_rings to)) _ a.out.now (2 * origin-room) p.within clipped.ensures.written.output)
+    let to = route a.flags bounds rings in
+    rw (← b)
+    (written _ to room p.passes rings (routed_origins to bounds rings) _ p.asked _ _ _ _ _ _
+    (cleared plus_zero _ _ _ (c.fill.ensures.after (λ y h. h)) clipped.auto.scratch)
+    (cleared 0 _ _ _ (c.fill-2.ensures.after (λ y h. h)) clipped.auto.origin_scratch)
+    (cleared 0 _ _ _ (c.fill-3.ensures.after (λ y h. h)) clipped.auto.order)
+    (padded-front plus_zero (numbers_of (written_rings to)) _ a.out.now (2 * room) p.within clipped.ensures.written.output)
     clipped.ensures.written.lengths
-    (padded-front 0 (origins_of (routed_origins to bounds rings)) _ a.out_origins.now origin-room p.origins-within
-    clipped.ensures.origins))
+    (padded-front 0 (origins_of (routed_origins to bounds rings)) _ a.out_origins.now room p.origins-within clipped.ensures.origins))
