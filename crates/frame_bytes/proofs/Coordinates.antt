@@ -5,7 +5,7 @@ use mathlib.Core.List.{List, [], ◌∷◌}
 use Prim.Native.Nat.{ℕ, zero, suc, ◌+◌, ◌*◌, ◌-◌, ◌<◌, ◌≤◌}
 use native.Mathlib.Omega.{arith}
 use lib.Ieee.{Float}
-use lib.ListN.{length, take, drop}
+use lib.ListN.{length, get_or, take, drop}
 use lib.Seq.{sets, sets-eq, drop-drop}
 use Rattle.tile.specs.declared.Coord.{Coord}
 use Rattle.tile.specs.Ring.{coords, flat, same, last, closed, close}
@@ -16,6 +16,15 @@ pub length-coords_of : (n : ℕ) (l : List ℕ) → length (coords_of n l) ≡ n
 unfolding coords_of
 length-coords_of zero l = refl
 length-coords_of (suc n) l = ap suc (length-coords_of n (drop 16 l))
+
+-- a coordinate by its place
+pub coords_of-at : (i n : ℕ) (l : List ℕ) (z : Coord) → i < n → get_or (coords_of n l) i z ≡ coord_of (drop (16 * i) l)
+unfolding coords_of
+coords_of-at i zero l z h = absurd (omega arith)
+coords_of-at zero (suc n) l z h = refl
+coords_of-at (suc i) (suc n) l z h =
+    let e : 16 * suc i ≡ 16 + 16 * i = omega arith in
+    coords_of-at i n (drop 16 l) z (omega arith) ∙ rw (e, ← drop-drop (16 * i) 16 l)
 
 last-coords_of : (n : ℕ) (l : List ℕ) → last (coord_of l) (coords_of n (drop 16 l)) ≡ coord_of (drop (16 * n) l)
 unfolding last coords_of

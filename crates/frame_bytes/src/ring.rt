@@ -1,12 +1,12 @@
 // Counts, coordinates and rings at a position of a frame.
 ghost use Rattle.std.specs.Prelude.{◌≡◌, ◌+◌, ◌*◌, ◌^◌, ◌<◌, ◌≤◌, length, drop};
 ghost use Rattle.std.proofs.lemmas.List.Edits.{sets};
-ghost use Rattle.tile.specs.Ring.{flat, closed, close};
+ghost use Rattle.tile.specs.Ring.{flat};
 ghost use Rattle.frame_bytes.specs.Frame as Frames;
 
 use binary64::bytes::{read_f64, read_u16};
 use tile::Coord;
-use tile::ring::put;
+use tile::ring::{Coords, put};
 
 // The bytes of a count and of a coordinate.
 pub const COUNT: usize = 2;
@@ -31,27 +31,25 @@ pub fn coord_at(frame: &[u8], at: usize) -> Coord
     }
 }
 
-// Whether the ring of n coordinates at `at` is closed.
-fn is_closed(frame: &[u8], at: usize, n: usize) -> bool
-    requires { at + 16 * n ≤ length frame.now }
-    ensures { result ≡ closed (Frames.coords_of n (drop at frame.now)) }
-{
-    if n == 0 {
-        return true;
-    }
-    let first = coord_at(frame, at);
-    first.equals(coord_at(frame, at + COORD * (n - 1)))
+// The n coordinates of a ring, as they stand in a frame from `at` on.
+#[derive(Clone, Copy)]
+pub struct RingBytes<'a> {
+    pub frame: &'a [u8],
+    pub at: usize,
+    pub n: usize,
+    ghost fits: { at + 16 * n ≤ length frame.now },
 }
 
-// How many coordinates the ring of n at `at` has when closed.
-pub fn closed_count(frame: &[u8], at: usize, n: usize) -> usize
-    requires { at + 16 * n ≤ length frame.now }
-    ensures { result ≡ length (close (Frames.coords_of n (drop at frame.now))) }
-{
-    if is_closed(frame, at, n) {
-        return n;
+impl<'a> Coords for RingBytes<'a> {
+    ghost coords = { λ ring. Frames.coords_of ring.n (drop ring.at ring.frame.now) };
+
+    fn count(&self) -> usize {
+        self.n
     }
-    n + 1
+
+    fn coord(&self, i: usize) -> Coord {
+        coord_at(self.frame, self.at + COORD * i)
+    }
 }
 
 // Writes the n coordinates at position `at` of the frame, not closed, to the front of `ring`, and answers where the next ring starts.

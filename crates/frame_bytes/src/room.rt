@@ -8,8 +8,9 @@ ghost use Rattle.frame_bytes.specs.Room as OutputRoom;
 use super::encode::{ANSWER_COORD, PART};
 use super::head::{HEAD, PART_COUNT};
 use super::reader::{FrameRefusal, check_frame};
-use super::ring::{COORD, COUNT, closed_count, count_at};
+use super::ring::{COORD, COUNT, RingBytes, count_at};
 use sutherland_hodgman::growth::room_for;
+use tile::ring::closed_count;
 
 // The bytes of an answer that lists nothing.
 pub const LEAST_ROOM: usize = 5;
@@ -31,8 +32,13 @@ fn ring_room(frame: &[u8], at: usize) -> MeasuredRoom
 {
     let n = count_at(frame, at);
     let coords = at + COUNT;
+    let ring = RingBytes {
+        frame,
+        at: coords,
+        n,
+    };
     MeasuredRoom {
-        room: room_for(closed_count(frame, coords, n)),
+        room: room_for(closed_count(ring)),
         next: coords + COORD * n,
     }
 }

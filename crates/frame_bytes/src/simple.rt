@@ -6,8 +6,9 @@ ghost use Rattle.frame_bytes.specs.Frame as Frames;
 ghost use Rattle.frame_bytes.specs.Internal as Internal;
 ghost use Rattle.frame_bytes.specs.Internal.{sound_if_simple};
 
-use super::ring::{COORD, COUNT, closed_count, coord_at, count_at};
+use super::ring::{COORD, COUNT, RingBytes, coord_at, count_at};
 use box_pairs::cross::is_degenerate;
+use tile::ring::closed_count;
 
 // Whether two neighbours of the ring of n coordinates at `at`, closed to `count`, are near each other, the last segment excepted. Each
 // coordinate is read once.
@@ -33,7 +34,11 @@ pub fn is_sound_if_simple(frame: &[u8], at: usize) -> bool
 {
     let n = count_at(frame, at + COUNT);
     let coords = at + COUNT + COUNT;
-    let count = closed_count(frame, coords, n);
+    let count = closed_count(RingBytes {
+        frame,
+        at: coords,
+        n,
+    });
     if count < 4 {
         return false;
     }

@@ -20,8 +20,8 @@ pub count_at-n-requires : goal.count_at-n-requires
 count_at-n-requires c = let a = c.args in
     let l = c.loop in let k = c.count_at-rings.result - l.counter in omega (arith, (huge_next a.frame.now a.at l.next k (omega arith) l.invariant).whole)
 
-pub has_huge-requires : goal.has_huge-requires
-has_huge-requires c = let a = c.args in
+pub invariant_of-ring : goal.invariant_of-ring
+invariant_of-ring c = let a = c.args in
     let l = c.loop in let k = c.count_at-rings.result - l.counter in
     let n = c.count_at-n.ensures.0 in omega (arith, (huge_next a.frame.now a.at l.next k (omega arith) l.invariant).whole)
 

@@ -16,14 +16,14 @@ pub count_at-n-requires : goal.count_at-n-requires
 count_at-n-requires c = let a = c.args in
     let l = c.loop in let k = c.count_at-rings.result - l.counter in omega (arith, (rect_next a.frame.now a.at a.rect l.whole l.next k (omega arith) l.invariant).whole)
 
-pub with_coords-whole-requires : goal.with_coords-whole-requires
-with_coords-whole-requires c = let a = c.args in
+pub invariant_of-with_ring : goal.invariant_of-with_ring
+invariant_of-with_ring c = let a = c.args in
     let l = c.loop in let k = c.count_at-rings.result - l.counter in
     let n = c.count_at-n.ensures.0 in omega (arith, (rect_next a.frame.now a.at a.rect l.whole l.next k (omega arith) l.invariant).whole)
 
 pub loop-preserved : goal.loop-preserved
 loop-preserved c = let next : c.count_at-rings.result - (c.loop.counter + 1) ≡ c.count_at-rings.result - c.loop.counter - 1 = omega arith in let a = c.args in
-    let l = c.loop in let k = c.count_at-rings.result - l.counter in rw (next, c.with_coords-whole.ensures, c.count_at-n.ensures.0) (rect_next a.frame.now a.at a.rect l.whole l.next
+    let l = c.loop in let k = c.count_at-rings.result - l.counter in rw (next, c.with_ring-whole.ensures, c.count_at-n.ensures.0) (rect_next a.frame.now a.at a.rect l.whole l.next
     k (omega arith) l.invariant).ahead
 
 pub returns : goal.returns

@@ -8,8 +8,8 @@ use Rattle.frame_bytes.proofs.room.ring_room.Goals as goal
 pub count_at-n-requires : goal.count_at-n-requires
 count_at-n-requires c = omega (arith, ring-fits c.args.frame.now c.args.at c.requires.0 c.requires.1)
 
-pub closed_count-requires : goal.closed_count-requires
-closed_count-requires c = let n = c.count_at-n.ensures.0 in omega (arith, ring-fits c.args.frame.now c.args.at c.requires.0 c.requires.1)
+pub invariant_of-ring : goal.invariant_of-ring
+invariant_of-ring c = let n = c.count_at-n.ensures.0 in omega (arith, ring-fits c.args.frame.now c.args.at c.requires.0 c.requires.1)
 
 pub room_for-requires : goal.room_for-requires
 room_for-requires c = rw c.closed_count.ensures (closed-few _ _ (rw c.count_at-n.ensures.0

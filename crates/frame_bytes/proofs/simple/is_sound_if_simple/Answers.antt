@@ -10,8 +10,8 @@ pub count_at-n-requires : goal.count_at-n-requires
 count_at-n-requires c = let a = c.args in
     let w = (first_ring a.frame.now a.at c.requires.0 c.requires.1).whole in omega (arith, w)
 
-pub closed_count-count-requires : goal.closed_count-count-requires
-closed_count-count-requires c = let a = c.args in rw c.count_at-n.ensures.0 (first_ring a.frame.now a.at c.requires.0 c.requires.1).whole
+pub invariant_of-closed_count : goal.invariant_of-closed_count
+invariant_of-closed_count c = let a = c.args in record { fits = rw c.count_at-n.ensures.0 (first_ring a.frame.now a.at c.requires.0 c.requires.1).whole }
 
 pub returns-then-count-lt4 : goal.returns-then-count-lt4
 returns-then-count-lt4 c = let a = c.args in sym (sound_short a.frame.now a.at c.requires.1 c.requires.0
