@@ -33,8 +33,7 @@ pub returns-then-m-to-clause-rest : goal.returns-then-m-to-clause-rest
 returns-then-m-to-clause-rest c = let s = c.args.ring.now in
     let m = c.args.m in
     let e = c.copy_inside-to.ensures in
-    let p = past_end s m c.requires.walk_room.0 _ c.if-m-to.true in
-    (
+    let p = past_end s m c.requires.walk_room.0 _ c.if-m-to.true in (
       search rules,
       search rules,
       rest_then c.args.edge c.args.bounds (coords (take (2 * m) s)) e.rest.3 (rest_end c.args.edge c.args.bounds
