@@ -36,6 +36,7 @@ pub struct Answered {
 }
 
 // Refusal 19: no ring, too many, or lengths that don't fit the numbers lent.
+#[tactic(auto, unfolding(crate::specs::SliceCall::lengths_fit))]
 fn lengths_fit(coords: &[f64], lengths: &[u32]) -> bool
     ensures { result ≡ lengths_fit (length coords.now) lengths.now }
 {
@@ -50,6 +51,7 @@ fn lengths_fit(coords: &[f64], lengths: &[u32]) -> bool
 
 // Refusals 21 and 22, of rings that fit; if there is none, for how many coordinates, and origins, 22 asks room in the outputs: by the lengths of the scratch slice, that of the origins, the order slice, the output, the second
 // length slice and the output of the origins.
+#[tactic(auto, unfolding(crate::specs::SliceCall::check_room, crate::specs::SliceCall::slice_call_room, crate::specs::SliceCall::slice_call_origin_room))]
 fn check_room(
     coords: &[f64],
     lengths: &[u32],
@@ -87,6 +89,7 @@ fn check_room(
 }
 
 // The refusals of a slice call, in their order; if there is none, what `check_room` answers.
+#[tactic(auto, unfolding(crate::specs::SliceCall::check_polygon))]
 fn check_polygon(
     coords: &[f64],
     lengths: &[u32],

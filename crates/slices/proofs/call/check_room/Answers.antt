@@ -9,50 +9,11 @@ use Rattle.slices.proofs.call.check_room.Goals as goal
 pub overflow_mul-room : goal.overflow_mul-room
 overflow_mul-room c = omega (arith, (few_rooms _ _ c.requires).0, c.room_of-room.ensures.largest-room)
 
-pub returns-then-scratch-room : goal.returns-then-scratch-room
-unfolding check_room slice_call_room
-returns-then-scratch-room c = rw (← c.room_of-room.ensures.largest-room, lt-ltb _ _ c.if-scratch-room.true)
-
-pub returns-then-origin_scratch-room : goal.returns-then-origin_scratch-room
-unfolding check_room slice_call_room
-returns-then-origin_scratch-room c = let room = c.room_of-room in rw (
-  ← room.ensures.largest-room,
-  le-ltb _ _ c.if-scratch-room.false,
-  lt-ltb c.args.origin_scratch room.result.largest (omega (
-    arith,
-    c.if-origin_scratch-room.true,
-  )),
-)
-
-pub returns-then-order-room : goal.returns-then-order-room
-unfolding check_room slice_call_room
-returns-then-order-room c = let room = c.room_of-room in rw (
-  ← room.ensures.largest-room,
-  le-ltb _ _ c.if-scratch-room.false,
-  le-ltb c.args.origin_scratch room.result.largest
-      (omega (arith, c.if-origin_scratch-room.false)),
-  lt-ltb c.args.order room.result.largest (omega (
-    arith,
-    c.if-order-room.true,
-  )),
-)
-
 pub overflow_mul-asked : goal.overflow_mul-asked
 overflow_mul-asked c = omega (
   arith,
   (few_rooms _ _ c.requires).1,
   c.room_of-room.ensures.whole_room,
-)
-
-pub returns-then-out-asked : goal.returns-then-out-asked
-unfolding check_room slice_call_room slice_call_origin_room
-returns-then-out-asked c = let room = c.room_of-room.ensures in rw (
-  ← room.largest-room,
-  ← room.whole_room,
-  le-ltb _ _ c.if-scratch-room.false,
-  le-ltb _ _ c.if-origin_scratch-room.false,
-  le-ltb _ _ c.if-order-room.false,
-  lt-ltb _ _ c.if-out-asked.true,
 )
 
 pub returns-then-out_lengths-lengths : goal.returns-then-out_lengths-lengths
@@ -67,21 +28,6 @@ returns-then-out_lengths-lengths c = let room = c.room_of-room.ensures in
       le-ltb _ _ c.if-out-asked.false,
       length-closed a.lengths.now a.coords.now,
       lt-ltb _ _ c.if-out_lengths-lengths.true,
-    )
-
-pub returns-then-out_origins-asked : goal.returns-then-out_origins-asked
-unfolding check_room slice_call_room slice_call_origin_room
-returns-then-out_origins-asked c = let room = c.room_of-room.ensures in
-    let a = c.args in rw (
-      ← room.largest-room,
-      ← room.whole_room,
-      le-ltb _ _ c.if-scratch-room.false,
-      le-ltb _ _ c.if-origin_scratch-room.false,
-      le-ltb _ _ c.if-order-room.false,
-      le-ltb _ _ c.if-out-asked.false,
-      length-closed a.lengths.now a.coords.now,
-      le-ltb _ _ c.if-out_lengths-lengths.false,
-      lt-ltb _ _ c.if-out_origins-asked.true,
     )
 
 pub returns : goal.returns
