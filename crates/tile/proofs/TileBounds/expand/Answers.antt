@@ -1,5 +1,0 @@
--- `TileBounds::expand` meets its contract, by those of `minimum` and `maximum`. Assumes nothing.
-use Rattle.tile.proofs.TileBounds.expand.Goals as goal
-
-pub returns : goal.returns
-returns c = cc
