@@ -1,7 +1,6 @@
 -- `box_with_coords` meets its contract. The invariant: the four numbers so far are no NaN, and their rectangle with the coordinates that
 -- are left is that of all. Assumes nothing.
 use mathlib.Core.Path.{◌≡◌}
-use Prim.Native.Nat.{◌-◌}
 use lib.ListN.{drop}
 use Rattle.rings.specs.declared.rectangle.Rect.TheVariants as Rects
 use Rattle.rings.specs.Rectangle.{with_ring}

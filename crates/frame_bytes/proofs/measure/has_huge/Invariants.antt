@@ -1,6 +1,6 @@
 -- `has_huge` meets its contract. The invariant: the verdict on all is that on the coordinates that are left. Assumes nothing.
 use mathlib.Core.Path.{◌≡◌}
-use Prim.Native.Nat.{◌-◌, ◌≤◌}
+use Prim.Native.Nat.{◌≤◌}
 use lib.ListN.{drop}
 use Rattle.rings.specs.Representable.{any_huge}
 use Rattle.frame_bytes.specs.Frame.{coords_of}
