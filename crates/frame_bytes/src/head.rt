@@ -14,6 +14,7 @@ pub const HEAD: usize = 44;
 // The bounds are as read: not buffered yet. `parts` is the count of parts.
 #[derive(Clone, Copy)]
 pub struct Head {
+    // Stays a number: `read_head` promises the byte of any 44 bytes, also one that is no kind, and `check_frame` asks it before.
     pub kind: u8,
     pub assume_simple: bool,
     pub skip_boundary_fallback: bool,

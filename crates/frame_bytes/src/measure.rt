@@ -48,6 +48,7 @@ pub fn part_rect(frame: &[u8], at: usize, rect: Rect) -> Measured
 }
 
 // The rectangle of all parts.
+// Stays beside `part_rect`, and that beside `part_has_huge`: they share the step to the next ring or part, and each keeps something else.
 pub fn whole_rect(frame: &[u8]) -> Rect
     requires { Internal.Accepted (Frames.read_frame frame.now) }
     ensures { result ≡ frame_rect (Frames.read_frame frame.now) }

@@ -44,6 +44,7 @@ fn ring_room(frame: &[u8], at: usize) -> MeasuredRoom
 }
 
 // The room, in coordinates, of `rings` rings, the first of which begins at `start`.
+// Stays beside `frame_room`: one loop for both would ask that no sum passes a usize, which the limits of rings and of parts show apart.
 fn rings_room(frame: &[u8], start: usize, rings: usize) -> MeasuredRoom
     requires { (start ≤ length frame.now) × (rings ≤ most_rings)
         × Internal.Accepted (Frames.read_many Frames.read_ring rings (drop start frame.now)) }

@@ -1,7 +1,7 @@
 -- `put_ring` meets its contract. The invariant: what is left, written over what stands there, is all coordinates written behind the count.
 -- Assumes nothing.
 use mathlib.Core.Path.{◌≡◌}
-use Prim.Native.Nat.{◌+◌, ◌*◌, ◌-◌, ◌≤◌}
+use Prim.Native.Nat.{◌+◌, ◌*◌, ◌≤◌}
 use lib.ListN.{length, drop}
 use lib.Seq.{sets}
 use Rattle.frame_bytes.specs.Encoding.{each, answer_coord_bytes}

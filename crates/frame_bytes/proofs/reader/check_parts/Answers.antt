@@ -1,5 +1,4 @@
 -- `check_parts` meets its contract: the walk stops, ends before the frame's end, or ends with it. Assumes nothing.
-use mathlib.Core.Path.{sym, ◌∙◌}
 use borrow.Author.Rules.{rules, of_calls}
 use borrow.Author.Tests.{lt-ltb, le-ltb}
 use Rattle.std.proofs.lemmas.Result.{err_from_is_err_and}

@@ -5,9 +5,6 @@ use Rattle.std.proofs.lemmas.Result.{err_from_is_err_and}
 use Rattle.frame_bytes.proofs.Walks.{step_may, steps_may, steps_on, steps_stop, steps_end}
 use Rattle.frame_bytes.proofs.reader.pass_many.Goals as goal
 
-pub loop-init : goal.loop-init
-loop-init g c = let e : c.args.count - 0 ≡ c.args.count = omega arith in rw e (c.requires, λ r p. p)
-
 pub pass-requires : goal.pass-requires
 pass-requires g c =
     let p = step_may _ _ (c.args.count - c.loop.counter) c.loop.at (omega arith) c.loop.invariant.0 in

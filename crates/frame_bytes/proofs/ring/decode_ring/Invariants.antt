@@ -1,7 +1,7 @@
 -- `decode_ring` meets its contract. The invariant: what is left, written over what stands there, is the whole written over what stood
 -- there. Assumes nothing.
 use mathlib.Core.Path.{◌≡◌}
-use Prim.Native.Nat.{◌*◌, ◌-◌, ◌≤◌}
+use Prim.Native.Nat.{◌*◌, ◌≤◌}
 use lib.ListN.{length, drop}
 use lib.Seq.{sets}
 use Rattle.tile.specs.Ring.{flat}

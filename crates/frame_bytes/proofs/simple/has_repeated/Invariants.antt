@@ -1,7 +1,7 @@
 -- `has_repeated` meets its contract: the verdict on the ring is that on what is left of it, and p is the first coordinate of that. Assumes
 -- nothing.
 use mathlib.Core.Path.{◌≡◌}
-use Prim.Native.Nat.{◌+◌, ◌*◌, ◌-◌, ◌≤◌}
+use Prim.Native.Nat.{◌+◌, ◌*◌, ◌≤◌}
 use lib.ListN.{drop}
 use Rattle.tile.specs.Ring.{close}
 use Rattle.box_pairs.specs.Internal.{repeated}
