@@ -10,19 +10,19 @@ use Rattle.frame_bytes.specs.declared.reader.FrameRefusal.{FrameRefusal}
 use Rattle.frame_bytes.specs.Frame.{Reading, refused, read, Frame, frame_refusal_number, read_frame}
 use Rattle.frame_bytes.specs.Room.{read_call}
 use Rattle.frame_bytes.proofs.MostRoom.{has_room}
-use Rattle.frames.specs.declared.entry.FrameAnswer.TheVariants.{Refused, Answered}
+use Rattle.std.specs.Prelude.{Ok, Err}
 use Rattle.frames.specs.Output.{output_of, frame_call_output}
 use Rattle.frames.specs.FrameCall.{answer_of_reading, frame_call_answer}
 use Rattle.lines.specs.Lines.{newline, lower_hex, hex_line, refusal_bytes, reading_bytes, frame_answer}
 use Rattle.lines.specs.LineStep.{answer_room}
 use Rattle.lines.proofs.Hexadecimal.{length-lower_hex}
 
-refused_reading : (x : Reading Frame) (r : FrameRefusal) (out : List ℕ) → answer_of_reading x ≡ Refused r
+refused_reading : (x : Reading Frame) (r : FrameRefusal) (out : List ℕ) → answer_of_reading x ≡ Err r
     → (refusal_bytes (frame_refusal_number r) ≡ reading_bytes x) × (output_of x out ≡ out)
 refused_reading (refused s) r out e = let same : s ≡ r = cc in (rw same, refl)
 refused_reading (read f rest) r out e = absurd (let z : ◌≡◌ {A = ℕ} 0 1 = cc in omega arith)
 
-answered_reading : (x : Reading Frame) (n : ℕ) (out : List ℕ) → answer_of_reading x ≡ Answered n → (n ≡ length (reading_bytes x))
+answered_reading : (x : Reading Frame) (n : ℕ) (out : List ℕ) → answer_of_reading x ≡ Ok n → (n ≡ length (reading_bytes x))
     × (output_of x out ≡ over (reading_bytes x) out)
 answered_reading (refused s) n out e = absurd (let z : ◌≡◌ {A = ℕ} 0 1 = cc in omega arith)
 answered_reading (read f rest) n out e = (cc, refl)
@@ -31,12 +31,12 @@ module _ (frame out : List ℕ) (room : answer_room ≤ length out) where
   not_short : read_call frame (length out) ≡ read_frame frame
   not_short = has_room frame (length out) (omega (arith, room))
 
-  pub call-refused : (r : FrameRefusal) → frame_call_answer frame out ≡ Refused r
+  pub call-refused : (r : FrameRefusal) → frame_call_answer frame out ≡ Err r
       → (refusal_bytes (frame_refusal_number r) ≡ frame_answer frame) × (frame_call_output frame out ≡ out)
   unfolding frame_answer
   call-refused r e = rw not_short (refused_reading (read_frame frame) r out (rw not_short at e))
 
-  pub call_answered : (n : ℕ) → frame_call_answer frame out ≡ Answered n → (n ≡ length (frame_answer frame))
+  pub call_answered : (n : ℕ) → frame_call_answer frame out ≡ Ok n → (n ≡ length (frame_answer frame))
       × (frame_call_output frame out ≡ over (frame_answer frame) out)
   unfolding frame_answer
   call_answered n e = rw not_short (answered_reading (read_frame frame) n out (rw not_short at e))

@@ -8,8 +8,8 @@ ghost use Rattle.lines.specs.Lines as Lines;
 
 use super::digits::to_line;
 use super::line::Line;
-use frame_bytes::reader::{FrameRefusal, LONGEST, refusal_number};
-use frames::entry::{FrameAnswer, frame};
+use frame_bytes::reader::{FrameRefusal, LONGEST};
+use frames::entry::frame;
 use frames::parts::put_alone;
 
 // Document 01's refusal 10.
@@ -35,8 +35,8 @@ fn answer_frame(bytes: &[u8], out: &mut [u8]) -> usize
     ensures output { out.new ≡ over (Lines.frame_answer bytes.now) out.old }
 {
     match frame(bytes, out) {
-        FrameAnswer::Refused(refusal) => refuse(out, refusal_number(refusal)),
-        FrameAnswer::Answered(count) => count,
+        Err(refusal) => refuse(out, u8::from(refusal)),
+        Ok(count) => count,
     }
 }
 
@@ -57,7 +57,7 @@ fn answer(line: Line, kept: &[u8], out: &mut [u8]) -> usize
             if odd {
                 return refuse(out, NOT_PAIRS);
             }
-            refuse(out, refusal_number(FrameRefusal::Size))
+            refuse(out, u8::from(FrameRefusal::Size))
         }
         Line::NotDigits => refuse(out, NOT_PAIRS),
         Line::Half(_, _) => refuse(out, NOT_PAIRS),

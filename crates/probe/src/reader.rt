@@ -5,7 +5,7 @@ ghost use Rattle.frame_bytes.specs.Internal.{check_of, frame_room};
 ghost use Rattle.frame_bytes.specs.Room.{answer_coord_size, read_call};
 ghost use Rattle.probe.specs.Reader as Reader;
 
-use frame_bytes::reader::{FrameCheck, check_frame, refusal_number};
+use frame_bytes::reader::check_frame;
 use frame_bytes::room::{check_call, frame_room};
 
 // The refusal's number; 0 where there is none.
@@ -14,8 +14,8 @@ pub extern "C" fn probe_check_call(frame: &[u8], out: usize) -> u8
     ensures { result ≡ Reader.check_code (check_of (read_call frame.now out)) }
 {
     match check_call(frame, out) {
-        FrameCheck::Fails(refusal) => refusal_number(refusal),
-        FrameCheck::Passes => 0,
+        Err(refusal) => u8::from(refusal),
+        Ok(()) => 0,
     }
 }
 
@@ -25,7 +25,7 @@ pub extern "C" fn probe_frame_room(frame: &[u8]) -> usize
     ensures { result ≡ frame_room answer_coord_size (read_frame frame.now) }
 {
     match check_frame(frame) {
-        FrameCheck::Fails(_) => 0,
-        FrameCheck::Passes => frame_room(frame),
+        Err(_) => 0,
+        Ok(()) => frame_room(frame),
     }
 }

@@ -14,7 +14,7 @@ ghost use Rattle.ringcut_calls.specs.Flags.{is_set, flags_of};
 ghost use Rattle.ringcut_calls.specs.Version.{version};
 
 use clip::polygon::Flags;
-use slices::call::{SliceAnswer, answer_code};
+use slices::call::answer_code;
 use tile::TileBounds;
 
 // The code of a refusal, by its number: minus that.
@@ -115,7 +115,7 @@ pub extern "C" fn ringcut_polygon(
         out_origins,
     ) {
         Err(refusal) => refusal_code(u8::from(refusal)),
-        SliceAnswer::Answered(answer, guards) => answer_code(answer) as i64,
+        Ok(answered) => answer_code(answered.answer) as i64,
     }
 }
 

@@ -6,20 +6,20 @@ use Rattle.probe.proofs.probe_clip_ring.Goals as goal
 
 pub clip_ring-requires-clause-cutter_room : goal.clip_ring-requires-clause-cutter_room
 clip_ring-requires-clause-cutter_room c = let a = c.args in let all = lent-room a.ring.now (ring_slices a.scratch.now a.origin_scratch.now a.out.now a.out_origins.now)
-    (sym c.check_ring.ensures ∙ c.in-Passes.is) in all.0
+    (sym c.check_ring.ensures ∙ c.in-Ok.is) in all.0
 
 pub clip_ring-requires-clause-origin_room : goal.clip_ring-requires-clause-origin_room
 clip_ring-requires-clause-origin_room c = let a = c.args in let all = lent-room a.ring.now (ring_slices a.scratch.now a.origin_scratch.now a.out.now a.out_origins.now)
-    (sym c.check_ring.ensures ∙ c.in-Passes.is) in all.1
+    (sym c.check_ring.ensures ∙ c.in-Ok.is) in all.1
 
-pub returns-in-Passes-clause-ring : goal.returns-in-Passes-clause-ring
-returns-in-Passes-clause-ring c = let a = c.args in
+pub returns-in-Ok-clause-ring : goal.returns-in-Ok-clause-ring
+returns-in-Ok-clause-ring c = let a = c.args in
     let lent = ring_slices a.scratch.now a.origin_scratch.now a.out.now a.out_origins.now in
     let b = c.bounds_at.ensures in
     let e = c.clip_ring.ensures in λ p. rw (← b, ← lent-whole a.ring.now lent p) e.ring
 
-pub returns-in-Passes-clause-origins : goal.returns-in-Passes-clause-origins
-returns-in-Passes-clause-origins c = let a = c.args in
+pub returns-in-Ok-clause-origins : goal.returns-in-Ok-clause-origins
+returns-in-Ok-clause-origins c = let a = c.args in
     let lent = ring_slices a.scratch.now a.origin_scratch.now a.out.now a.out_origins.now in
     let b = c.bounds_at.ensures in
     let e = c.clip_ring.ensures in λ p. rw (← b, ← lent-whole a.ring.now lent p) e.origins
