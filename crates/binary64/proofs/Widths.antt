@@ -2,7 +2,7 @@
 use mathlib.Core.Path.{◌≡◌, refl, ap}
 use mathlib.Core.List.{List, [], ◌∷◌, ◌++◌, reverse-reverse}
 use Prim.Native.Nat.{ℕ, zero, suc, ◌+◌, ◌*◌, ◌/◌, ◌^◌, ◌≤◌, ◌<◌}
-use native.Mathlib.Nat.{zero-add, add-zero, suc-add, add-suc, mul_assoc, pow-suc, pow-succ', div-one, mod-add-div, div-div-eq-div-mul}
+use native.Mathlib.Nat.{zero-add, add-zero, suc-add, add-suc, pow-suc, pow-succ', div-one, mod-add-div, div-div-eq-div-mul}
 use native.Mathlib.Nat.{div-lt_iff_lt-mul}
 use native.Mathlib.Numerals.{add-one}
 use native.Mathlib.Omega.{arith}
@@ -11,8 +11,8 @@ use lib.Ieee.{Float, nan, binary64, fits, to_bits}
 use lib.Ieee.Bits.{of_bits-to_bits, to_bits-lt}
 use Rattle.std.proofs.Math.Pow.{pow_mono}
 use Rattle.std.proofs.Common.{◌-◌, ◌%◌, pow-add}
-use lib.ListN.{length, take, drop, get_or, set, length-drop}
-use lib.Seq.{sets, drop-cons, take-add, drop-drop, length-take-le}
+use lib.ListN.{length, take, drop, get_or, set}
+use lib.Seq.{sets, drop-cons}
 use Rattle.binary64.specs.Bytes.{Order, Little, Big, from_low, to_low, number_of, bytes_of, double, double_bytes}
 
 -- ---- reading
@@ -45,10 +45,6 @@ read_step l at N i n room some inside byte r =
           let p : 2 ^ (8 + 8 * (N - i)) ≡ 2 ^ 8 * 2 ^ (8 * (N - i)) = pow-add 2 8 (8 * (N - i)) in
           rw (e, p) (omega (arith, r.below));
     }
-
-pub read_end : (l : List ℕ) (at N i n : ℕ) → i ≤ 0 → Reading l at N i n → (n ≡ from_low (take N (drop at l))) × (n < 2 ^ (8 * N))
-read_end l at N zero n e r = let z : N - 0 ≡ N = omega arith in (rw (z, add-zero at) at r.here, rw z at r.below)
-read_end l at N (suc i) n e r = absurd (omega arith)
 
 -- ---- writing
 

@@ -90,8 +90,9 @@ fn note_lows(ring: &[f64], work: &mut [f64], edges: usize)
     }
 }
 
-// The first slot whose edge crosses one in a later slot, if two edges cross: by a sweep over the first `edges` edges in the order of their
-// lowest x, which stand in `lows`, as far as a pair that crosses. Past the first edge that starts beyond an edge's end no other meets it.
+// A slot before which no edge crosses one in a later slot, or None exactly where no two edges cross: by a sweep over the first `edges`
+// edges in the order of their lowest x, which stand in `lows`, as far as a pair that crosses. Past the first edge that starts beyond an
+// edge's end no other meets it.
 fn sweep_sorted(ring: &[f64], lows: &[f64], order: &[u32], edges: usize) -> Option<usize>
     requires has_edges { HasEdges edges ring.now × (edges ≤ length lows.now) }
     requires swept { Swept edges (front ring.now (edges + 1)) lows.now order.now }

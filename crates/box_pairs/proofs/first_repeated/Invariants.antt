@@ -1,6 +1,6 @@
 -- `first_repeated` meets its contract: the first place in the ring is that in what is left of it. Assumes nothing.
 use mathlib.Core.Path.{◌≡◌}
-use Prim.Native.Nat.{◌-◌, ◌≤◌}
+use Prim.Native.Nat.{◌≤◌}
 use lib.ListN.{drop}
 use Rattle.box_pairs.specs.Internal.{front}
 use Rattle.box_pairs.specs.Issue.{repeated_from}

@@ -1,6 +1,6 @@
 -- `bytes::read_number` meets its contract: the bytes from place i on are read. Assumes nothing.
 use Rattle.std.proofs.Common.{arith}
-use Rattle.binary64.proofs.Widths.{read_start, read_fits, read_step, read_end}
+use Rattle.binary64.proofs.Widths.{read_start, read_fits, read_step}
 use Rattle.binary64.proofs.bytes.read_number.Goals as goal
 
 pub loop-i-init : goal.loop-i-init
@@ -21,6 +21,3 @@ overflow_add-n-in-loop-i g c = record {
 pub loop-i-preserved : goal.loop-i-preserved
 loop-i-preserved g c = let l = c.loop-i in
     read_step c.args.b.now c.args.at g.row.N l.i l.n c.requires.0 c.loop-i-test.true l.auto.i (c.type_inv.b _).fits l.invariant
-
-pub returns : goal.returns
-returns g c = let l = c.loop-i in read_end c.args.b.now c.args.at g.row.N l.i l.n c.loop-i-test.false l.invariant

@@ -1,5 +1,4 @@
 -- `bytes::write_number` meets its contract: the lowest i bytes are written. Assumes nothing.
-use Rattle.std.proofs.Common.{◌≡◌, arith}
 use Rattle.binary64.proofs.Widths.{write_start, write_step}
 use Rattle.binary64.proofs.bytes.write_number.Goals as goal
 
@@ -8,8 +7,3 @@ loop-i-init g c = write_start c.args.out.now c.args.at c.args.n
 
 pub loop-i-preserved : goal.loop-i-preserved
 loop-i-preserved g c = let l = c.loop-i in write_step c.args.out.now c.args.at c.args.n l.i l.rest l.out l.invariant
-
-pub returns : goal.returns
-returns g c = let l = c.loop-i in
-    let e : l.i ≡ g.row.N = omega (arith, l.auto.i-end, c.loop-i-test.false) in
-    rw e at l.invariant.here

@@ -1,6 +1,6 @@
 -- `pairs::least_at_slot` meets its contract. The loop keeps a number of a crossing pair that is at most that of each crossing pair passed;
 -- where it breaks off, none follows. Assumes nothing.
-use Prim.Native.Nat.{◌+◌, ◌-◌}
+use Prim.Native.Nat.{◌+◌}
 use Rattle.box_pairs.specs.Internal.{front}
 use Rattle.box_pairs.specs.Pairs.{edges_cross}
 use Rattle.box_pairs.proofs.First.{Row}

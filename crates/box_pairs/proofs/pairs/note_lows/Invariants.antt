@@ -1,5 +1,5 @@
 -- `pairs::note_lows` meets its contract. Assumes nothing.
-use Prim.Native.Nat.{◌+◌, ◌-◌}
+use Prim.Native.Nat.{◌+◌}
 use Rattle.box_pairs.specs.Internal.{front}
 use Rattle.box_pairs.proofs.Edges.{Noting}
 use Rattle.box_pairs.proofs.pairs.note_lows.Given as goal

@@ -7,7 +7,6 @@ use Prim.Native.Nat.{ℕ, ◌+◌, ◌<◌}
 use native.Mathlib.Omega.{arith}
 use lib.Ieee.{Float, nan, lt}
 use lib.ListN.{get_or}
-use borrow.Author.Tests.{lt-ltb, le-ltb}
 use Rattle.binary64.specs.Internal.{key}
 use Rattle.tile.specs.declared.Coord.{Coord}
 use Rattle.box_pairs.specs.Internal.{front, edges_at, low_x, Clear, at_slots}
@@ -70,8 +69,7 @@ loop-q-preserved c = let l = c.loop-q in
     elim c.if-may_meet_in_y.branch [
       | then-may_meet_in_y+else-edges_cross w ↦ sym is ∙ (sym w.edges_cross.ensures ∙ w.if-edges_cross.false)
       | else-may_meet_in_y w ↦ sym is ∙ never_meet _ _ _ (sym c.may_meet_in_y.ensures ∙ w.if-may_meet_in_y.false)
-    ] in
-    (
+    ] in (
       l.invariant.0,
       inner_next (at_slots (edges_cross (ring_of c.args.ring.now c.args.edges)) c.args.order.now) c.args.edges c.pairs.p l.q
           c.loop-q-test.true l.invariant.1 miss,
@@ -86,8 +84,7 @@ pairs-preserved c = let l = c.loop-q in
           c.args.order.now c.requires.swept.positions c.requires.swept.sorted
           c.pairs.p l.q l.invariant.1.after w.loop-q-test.true l.invariant.1.clear
           (sym (stop-test (goal.at.pairs-preserved c).At-loop-q l.q w.loop-q-test.true) ∙ w.if-lows-j.true)
-    ] in
-    (
+    ] in (
       l.invariant.0,
       outer_next (at_slots (edges_cross (ring_of c.args.ring.now c.args.edges)) c.args.order.now) c.args.edges c.pairs.p
           c.pairs-test.true c.pairs.invariant.1 rest,
@@ -97,13 +94,6 @@ pub returns-after-pairs-clause-verdict : goal.returns-after-pairs-clause-verdict
 returns-after-pairs-clause-verdict c = let none = sweep_done (λ i. key (low_x (ring_of c.args.ring.now c.args.edges) i)) c.args.edges (stops (ring_of c.args.ring.now c.args.edges)) (edges_cross (ring_of c.args.ring.now c.args.edges)) (sweeps (goal.at.returns-after-pairs-clause-verdict c).At-pairs)
     c.args.order.now c.requires.swept.positions c.requires.swept.sorted c.pairs.p c.pairs-test.false c.pairs.invariant.1 in
     rw c.pairs.invariant.0 (sym (crossing-front c.args.ring.now c.args.edges c.requires.has_edges.0 ∙ none))
-
-pub returns-after-pairs-clause-inside : goal.returns-after-pairs-clause-inside
-returns-after-pairs-clause-inside c = rw c.pairs.invariant.0 tt
-
-pub returns-after-pairs-clause-passed : goal.returns-after-pairs-clause-passed
-returns-after-pairs-clause-passed c = let e : c.pairs.p ≡ c.args.edges = omega (arith, c.pairs-test.false) in
-    rw c.pairs.invariant.0 (rw e at c.pairs.invariant.1)
 
 pub returns-then-edges_cross-clause-verdict : goal.returns-then-edges_cross-clause-verdict
 returns-then-edges_cross-clause-verdict c = let l = c.loop-q in
