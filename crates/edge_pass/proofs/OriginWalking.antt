@@ -182,9 +182,6 @@ module _ (l : Edge) (b : TileBounds) (s : List Float) (m : ℕ) (fits : 2 * m �
         origins-step l b (coords (take (2 * m) s)) os false true i (coord_at s i) in-ring the-vertex f k d (k + 2) d₂ refl (h₂ ∙ rw
         (h₁, ho, add-one))
 
-pub copied_none : (l : Edge) (b : TileBounds) (ring : List Coord) (i : ℕ) → CopiedOrigins l b ring i i
-copied_none l b ring i os n = let e : i - i ≡ 0 = omega arith in rw e
-
 -- a run of vertices that are in, and their origins copied
 pub origins_copied : (l : Edge) (b : TileBounds) (ring : List Coord) (os : List ℕ) (i j k k' : ℕ) (d d' : List ℕ)
     → CopiedOrigins l b ring i j → i ≤ j → j ≤ length os → k' + i ≡ k + j

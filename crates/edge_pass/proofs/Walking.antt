@@ -23,9 +23,6 @@ use Rattle.edge_pass.specs.Growth.{half_growth}
 use Rattle.edge_pass.proofs.PassGrowth.{pass_grows}
 
 module _ (l : Edge) (b : TileBounds) (ring : List Coord) where
-  pub rest-here : (v : Bool) (i k : ℕ) (d : List Float) → SameRest l b ring v i k d v i k d
-  rest-here v i k d = record { count = refl; numbers = refl }
-
   pub rest_then : {v v' v'' : Bool} {i i' i'' k k' k'' : ℕ} {d d' d'' : List Float} → SameRest l b ring v i k d v' i' k' d'
       → SameRest l b ring v' i' k' d' v'' i'' k'' d''
       → SameRest l b ring v i k d v'' i'' k'' d''

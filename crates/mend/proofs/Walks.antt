@@ -68,9 +68,6 @@ module _ (s : List Float) (end : ℕ) (fits : 2 * end ≤ length s) where
       let f = length_front s end fits in
       get_or-append (coords (take (2 * end) s)) (closing ∷ []) none i (omega (arith, f)) ∙ front_at s end i none fits h
 
-  pub dropped_start : (k : ℕ) → k < end → Dropped s end k (k + 1)
-  dropped_start k h = record { later = omega arith; most = omega arith; rest = λ closing. refl }
-
   module _ (k i : ℕ) (w : Dropped s end k i) where
     pub dropped-near : i < end → degenerate (coord_at s k) (coord_at s i) ≡ true → Dropped s end k (i + 1)
     dropped-near h e = record {
@@ -193,9 +190,6 @@ pub record Writing (s : List Float) (end : ℕ) (closing : Coord) (before d : Li
   pub count : kept + length (mend (drop k (closed_by s end closing))) ≡ length (mend (closed_by s end closing))
   pub numbers : sets d (2 * kept) (flat (mend (drop k (closed_by s end closing)))) ≡ sets before 0 (flat (mend (closed_by s end closing)))
 
-pub writing_start : (s : List Float) (end : ℕ) (closing : Coord) (d : List Float) → Writing s end closing d d 0 0
-writing_start s end closing d = record { inside = omega arith; count = omega arith; numbers = refl }
-
 two_more : (k : ℕ) → 2 * (k + 1) ≡ suc (suc (2 * k))
 two_more k = omega arith
 
@@ -215,9 +209,6 @@ module _ {s : List Float} {end : ℕ} {closing : Coord} {before d : List Float} 
   writing_room fits h = omega (arith, writing_same, writing_fits fits)
 
   module _ (p : Coord) (d' : List Float) (put : d' ≡ sets d (2 * kept) (p.x ∷ p.y ∷ [])) where
-    pub writing_length : length d' ≡ length before
-    writing_length = ap length put ∙ length-sets d (2 * kept) (p.x ∷ p.y ∷ []) ∙ writing_same
-
     pub writing_on : (r : ℕ) → p ≡ coord_at s k → NextKept s end k r → Writing s end closing before d' (kept + 1) r
     unfolding flat
     writing_on r at n =
