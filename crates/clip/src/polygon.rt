@@ -50,16 +50,17 @@ pub enum Route {
     Overlay(Reason),
 }
 
-// Document 01's numbers of what becomes of a polygon.
-pub const NOTHING: u8 = 0;
-
-pub const DROPPED: u8 = 1;
-
-pub const UNCHANGED: u8 = 2;
-
-pub const CUT: u8 = 4;
-
-pub const OVERLAY: u8 = 5;
+// What an answer says of a polygon, of a part or of a whole, by document 01's numbers. `Listed` is said of a whole whose parts are told
+// one by one.
+#[derive(Clone, Copy)]
+pub enum AnswerKind {
+    Nothing = 0,
+    Dropped = 1,
+    Unchanged = 2,
+    Listed = 3,
+    Cut = 4,
+    Overlay = 5,
+}
 
 // What becomes of a polygon; of a cut, how many rings it has.
 #[derive(Clone, Copy)]

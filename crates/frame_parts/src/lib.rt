@@ -12,7 +12,7 @@ ghost use Rattle.frame_bytes.specs.Room as OutputRoom;
 ghost use Rattle.frame_parts.specs.Internal as Internal;
 ghost use Rattle.frame_parts.specs.Part as Parts;
 
-use clip::polygon::{CUT, Flags, OVERLAY, Reason, Route, clip_hole, reason_detail, route_exterior};
+use clip::polygon::{AnswerKind, Flags, Reason, Route, clip_hole, reason_detail, route_exterior};
 use frame_bytes::encode::{PART, put_count, put_part, put_ring};
 use frame_bytes::measure::part_has_huge;
 use frame_bytes::ring::{COORD, COUNT, count_at, decode_ring};
@@ -136,7 +136,7 @@ fn put_cut(
         out,
         exterior,
     );
-    put_part(out, to, index, CUT, 0);
+    put_part(out, to, index, AnswerKind::Cut as u8, 0);
     put_count(out, to + PART, all.rings);
     all.next
 }
@@ -161,7 +161,7 @@ fn overlay_or_dropped(
         return PartAnswer::Dropped;
     }
     let detail = reason_detail(reason);
-    put_part(out, to, index, OVERLAY, detail.number);
+    put_part(out, to, index, AnswerKind::Overlay as u8, detail.number);
     let first_at = to + PART;
     put_count(out, first_at, detail.first as usize);
     put_count(out, first_at + COUNT, detail.second as usize);

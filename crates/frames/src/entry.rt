@@ -8,7 +8,7 @@ ghost use Rattle.frames.specs.Internal as Internal;
 ghost use Rattle.frames.specs.FrameCall.{frame_call_answer};
 
 use super::parts::{answer_in, put_alone};
-use clip::polygon::{DROPPED, NOTHING, UNCHANGED};
+use clip::polygon::AnswerKind;
 use frame_bytes::head::{HEAD, Head, read_head};
 use frame_bytes::measure::whole_rect;
 use frame_bytes::reader::{FrameRefusal, MULTIPOLYGON};
@@ -104,10 +104,10 @@ fn answer_measured(frame: &[u8], head: Head, rect: Rect, out: &mut [u8]) -> usiz
 {
     let bounds = head.bounds.buffered(head.buffer);
     if !intersects_bounds(rect, bounds) {
-        return put_alone(out, NOTHING, 0);
+        return put_alone(out, AnswerKind::Nothing as u8, 0);
     }
     if is_unchanged_at_once(frame, head, rect, bounds) {
-        return put_alone(out, UNCHANGED, 0);
+        return put_alone(out, AnswerKind::Unchanged as u8, 0);
     }
     answer_sized(frame, head, rect, bounds, out)
 }
@@ -122,8 +122,8 @@ fn answer(frame: &[u8], out: &mut [u8]) -> usize
 {
     let head = read_head(frame);
     match whole_rect(frame) {
-        Rect::Nothing => put_alone(out, NOTHING, 0),
-        Rect::NotFinite => put_alone(out, DROPPED, 1),
+        Rect::Nothing => put_alone(out, AnswerKind::Nothing as u8, 0),
+        Rect::NotFinite => put_alone(out, AnswerKind::Dropped as u8, 1),
         Rect::Box(w, s, e, n) => {
             let rect = Rect::Box(w, s, e, n);
             answer_measured(frame, head, rect, out)

@@ -9,7 +9,7 @@ ghost use Rattle.frame_parts.specs.Internal as PartInternal;
 ghost use Rattle.frames.specs.Answer as Answers;
 ghost use Rattle.frames.specs.Internal as Internal;
 
-use clip::polygon::{DROPPED, Flags, NOTHING, UNCHANGED};
+use clip::polygon::{AnswerKind, Flags};
 use frame_bytes::encode::{PART, put_header, put_part};
 use frame_bytes::head::{HEAD, Head};
 use frame_bytes::measure::part_rect;
@@ -18,9 +18,6 @@ use frame_bytes::room::LEAST_ROOM;
 use frame_parts::{PartAnswer, route_part};
 use rings::rectangle::{Rect, intersects_bounds, is_fully_inside};
 use tile::TileBounds;
-
-// Document 01's number of a whole that is listed; those of a polygon stand for the others.
-const LISTED: u8 = 3;
 
 // What is listed so far: the guard count, how many parts, and where the next stands in the output.
 #[derive(Clone, Copy)]
@@ -45,7 +42,7 @@ fn list_part(answer: PartAnswer, index: usize, out: &mut [u8], before: ListedSoF
         },
         PartAnswer::Unchanged => {
             let at = before.next;
-            put_part(out, at, index, UNCHANGED, 0);
+            put_part(out, at, index, AnswerKind::Unchanged as u8, 0);
             ListedSoFar {
                 guard: before.guard,
                 parts: before.parts + 1,
@@ -143,10 +140,10 @@ fn finish(listing: ListedSoFar, out: &mut [u8]) -> usize
         × (out.new ≡ sets out.old 0 (Internal.finished_header listing)) }
 {
     if listing.parts == 0 {
-        put_header(out, NOTHING, listing.guard, 0);
+        put_header(out, AnswerKind::Nothing as u8, listing.guard, 0);
         return LEAST_ROOM;
     }
-    put_header(out, LISTED, listing.guard, listing.parts);
+    put_header(out, AnswerKind::Listed as u8, listing.guard, listing.parts);
     listing.next
 }
 
@@ -166,11 +163,11 @@ fn finish_polygon(answer: PartAnswer, out: &mut [u8]) -> usize
         × (out.new ≡ sets out.old 0 (Internal.polygon_header answer)) }
 {
     match answer {
-        PartAnswer::Nothing => put_alone(out, NOTHING, 0),
-        PartAnswer::Dropped => put_alone(out, DROPPED, 1),
-        PartAnswer::Unchanged => put_alone(out, UNCHANGED, 0),
+        PartAnswer::Nothing => put_alone(out, AnswerKind::Nothing as u8, 0),
+        PartAnswer::Dropped => put_alone(out, AnswerKind::Dropped as u8, 1),
+        PartAnswer::Unchanged => put_alone(out, AnswerKind::Unchanged as u8, 0),
         PartAnswer::Listed(next) => {
-            put_header(out, LISTED, 0, 1);
+            put_header(out, AnswerKind::Listed as u8, 0, 1);
             next
         }
     }

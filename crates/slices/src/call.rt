@@ -11,10 +11,7 @@ ghost use Rattle.slices.specs.SliceCall.{lengths_fit, check_room, check_polygon,
 ghost use Rattle.slices.specs.SliceCall.{slice_call_answer, slice_call_slices, answer_code};
 ghost use Rattle.slices.specs.Internal.{FilledWhole};
 
-use clip::polygon::{
-    CUT, DROPPED, Flags, NOTHING, OVERLAY, PolygonAnswer, Reason, ReasonDetail, UNCHANGED,
-    guard_count,
-};
+use clip::polygon::{AnswerKind, Flags, PolygonAnswer, Reason, ReasonDetail, guard_count};
 use polygon_rings::clip_polygon;
 use ring_calls::Refusal;
 use rings::lent::{MOST_RINGS, closed_sum, lent_count, room_of};
@@ -224,7 +221,7 @@ fn overlay_code(reason: Reason) -> u64
     ensures { result ≡ answer_code (PolygonAnswer.Overlay reason) }
 {
     let detail = ReasonDetail::from(reason);
-    OVERLAY as u64
+    AnswerKind::Overlay as u64
         + REASON_PLACE * detail.number as u64
         + FIRST_PLACE * detail.first as u64
         + SECOND_PLACE * detail.second as u64
@@ -238,10 +235,10 @@ pub fn answer_code(answer: PolygonAnswer) -> u64
     ensures { result ≡ answer_code answer }
 {
     match answer {
-        PolygonAnswer::Nothing => NOTHING as u64,
-        PolygonAnswer::Dropped => DROPPED as u64,
-        PolygonAnswer::Unchanged => UNCHANGED as u64,
-        PolygonAnswer::Cut(rings) => CUT as u64 + FIRST_PLACE * rings as u64,
+        PolygonAnswer::Nothing => AnswerKind::Nothing as u64,
+        PolygonAnswer::Dropped => AnswerKind::Dropped as u64,
+        PolygonAnswer::Unchanged => AnswerKind::Unchanged as u64,
+        PolygonAnswer::Cut(rings) => AnswerKind::Cut as u64 + FIRST_PLACE * rings as u64,
         PolygonAnswer::Overlay(reason) => overlay_code(reason),
     }
 }
