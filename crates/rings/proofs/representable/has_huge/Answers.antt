@@ -30,7 +30,7 @@ loop-i-preserved c = let s = c.args.ring.now in
     let m = length_front s n c.requires in
     let e = sym (c.is_huge_coord.ensures
     ∙ ap huge_coord (c.coord_at.ensures
-    ∙ sym (front_at s n l.i none c.requires (omega arith)))) ∙ c.if-is_huge_coord.false in 
+    ∙ sym (front_at s n l.i none c.requires (omega arith)))) ∙ c.if-is_huge_coord.false in
     l.invariant ∙ huge-later (coords (take (2 * n) s)) l.i none (omega arith) e
 
 pub returns : goal.returns
