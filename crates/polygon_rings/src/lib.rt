@@ -180,7 +180,7 @@ fn overlay_or_dropped(coords: &[f64], lengths: &[u32], reason: Reason) -> Polygo
 
 // What becomes of a polygon whose exterior has this route; a cut exterior stands at the front of the output, and its origins at the front
 // of theirs.
-#[tactic(auto, unfolding(crate::specs::WrittenRings::numbers_of, crate::specs::WrittenRings::lengths_of, crate::specs::WrittenRings::origins_of))]
+#[tactic(auto, unfolding(crate::specs::WrittenRings::numbers_of, crate::specs::WrittenRings::lengths_of))]
 fn answer_route(
     route: Route,
     bounds: TileBounds,
@@ -242,7 +242,7 @@ fn answer_route(
 
 // What becomes of a polygon that has room everywhere; the bounds are buffered. The outputs serve for every second pass: but for a cut's
 // rings and their origins at the fronts, what they hold is left open, as are the scratch and order slices.
-#[tactic(auto, unfolding(clip::specs::Polygon::route, clip::specs::Polygon::route_rect, crate::specs::WrittenRings::numbers_of, crate::specs::WrittenRings::lengths_of, crate::specs::WrittenRings::origins_of))]
+#[tactic(auto, unfolding(clip::specs::Polygon::route, clip::specs::Polygon::route_rect))]
 pub fn clip_polygon(
     flags: Flags,
     bounds: TileBounds,

@@ -46,9 +46,9 @@ fn lengths_fit(coords: &[f64], lengths: &[u32]) -> bool
     2 * lent_count(lengths) == coords.len()
 }
 
-// Refusals 21 and 22, of rings that fit; if there is none, for how many coordinates, and origins, 22 asks room in the outputs: by the lengths of the scratch slice, that of the origins, the order slice, the output, the second
-// length slice and the output of the origins.
-#[tactic(auto, unfolding(crate::specs::SliceCall::check_room, crate::specs::SliceCall::slice_call_room, crate::specs::SliceCall::slice_call_origin_room))]
+// Refusals 21 and 22, of rings that fit: by the lengths of the scratch slice, that of the origins, the order slice, the output, the second
+// length slice and the output of the origins. Where there is none, for how many coordinates, and origins, 22 asks room in the outputs.
+#[tactic(auto, unfolding(crate::specs::SliceCall::check_room, crate::specs::SliceCall::slice_call_origin_room))]
 fn check_room(
     coords: &[f64],
     lengths: &[u32],

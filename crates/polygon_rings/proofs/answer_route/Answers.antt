@@ -5,6 +5,14 @@ use Rattle.polygon_rings.specs.WrittenRings.{numbers_of, lengths_of, origins_of}
 use Rattle.polygon_rings.proofs.Routes.{overlay_filled}
 use Rattle.polygon_rings.proofs.answer_route.Goals as goal
 
+pub returns-in-Nothing-clause-origins : goal.returns-in-Nothing-clause-origins
+unfolding numbers_of lengths_of origins_of
+returns-in-Nothing-clause-origins c = rw c.in-Nothing.is (record { count = refl; output = refl })
+
+pub returns-in-Unchanged-clause-origins : goal.returns-in-Unchanged-clause-origins
+unfolding numbers_of lengths_of origins_of
+returns-in-Unchanged-clause-origins c = rw c.in-Unchanged.is (record { count = refl; output = refl })
+
 pub returns-in-Overlay-clause-written : goal.returns-in-Overlay-clause-written
 returns-in-Overlay-clause-written c = rw c.in-Overlay.is ((overlay_filled c.args.bounds (closed_rings c.args.lengths.now c.args.coords.now) c.in-Overlay.reason c.args.out.now
     c.args.out_lengths.now c.args.out_origins.now).0)

@@ -46,6 +46,22 @@ answer_route-requires-clause-lent_route_origin_room c = let s = c.args.coords.no
     let rooms = same-room kept c.route_exterior-route.auto.origin_scratch c.route_exterior-route.auto.out refl c.route_exterior-route.auto.out_origins (r, p.lent_origins_room) in
     let e = exterior-here ns s p.polygon_room.some in record { rings = rooms.1; stands = rw e route.ensures.origins }
 
+pub returns-in-Nothing-clause-written : goal.returns-in-Nothing-clause-written
+unfolding route route_rect numbers_of lengths_of origins_of
+returns-in-Nothing-clause-written c = rw (← c.polygon_rect_all_rings-rect.ensures, c.in-Nothing.is) (record { count = refl; output = refl; lengths = refl })
+
+pub returns-in-Nothing-clause-origins : goal.returns-in-Nothing-clause-origins
+unfolding route route_rect numbers_of lengths_of origins_of
+returns-in-Nothing-clause-origins c = rw (← c.polygon_rect_all_rings-rect.ensures, c.in-Nothing.is) (record { count = refl; output = refl })
+
+pub returns-in-NotFinite-clause-written : goal.returns-in-NotFinite-clause-written
+unfolding route route_rect numbers_of lengths_of origins_of
+returns-in-NotFinite-clause-written c = rw (← c.polygon_rect_all_rings-rect.ensures, c.in-NotFinite.is) (record { count = refl; output = refl; lengths = refl })
+
+pub returns-in-NotFinite-clause-origins : goal.returns-in-NotFinite-clause-origins
+unfolding route route_rect numbers_of lengths_of origins_of
+returns-in-NotFinite-clause-origins c = rw (← c.polygon_rect_all_rings-rect.ensures, c.in-NotFinite.is) (record { count = refl; output = refl })
+
 pub returns-in-Box-clause-answer : goal.returns-in-Box-clause-answer
 unfolding route route_rect
 returns-in-Box-clause-answer c = let e = exterior-here c.args.lengths.now c.args.coords.now c.requires.polygon_room.some in rw (
