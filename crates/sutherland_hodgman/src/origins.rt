@@ -1,6 +1,5 @@
-// Origins of vertices, 16 bits each, in slices beside the vertices: the positions that a cut starts from, the closing vertex's origin, and
-// zeros.
-ghost use Rattle.std.specs.Prelude.{◌≡◌, ◌++◌, ◌+◌, ◌*◌, ◌≤◌, length, take, drop, replicate};
+// Origins of vertices, 16 bits each, in slices beside the vertices: the positions that a cut starts from, and the closing vertex's origin.
+ghost use Rattle.std.specs.Prelude.{◌≡◌, ◌++◌, ◌+◌, ◌*◌, ◌≤◌, length, take, drop};
 ghost use Rattle.tile.specs.Ring.{coords, close};
 ghost use Rattle.tile.specs.Internal.{Written};
 ghost use Rattle.sutherland_hodgman.specs.Growth.{most_coordinates};
@@ -32,11 +31,4 @@ pub fn close_with_origins(ring: &mut [f64], origins: &mut [u16], n: usize) -> us
     let first = origins[0];
     origins[n] = first;
     len
-}
-
-// Fills the whole slice with 0.
-pub fn clear_origins(origins: &mut [u16])
-    ensures { origins.new ≡ replicate (length origins.old) 0 }
-{
-    origins.fill(0);
 }

@@ -3,13 +3,13 @@
 
 ghost use Rattle.std.specs.Prelude.{◌≡◌};
 ghost use Rattle.tile.specs.Bounds as Bounds;
-ghost use Rattle.tile.specs.Ring.{same};
 
 use binary64::compare::{maximum, minimum};
 
 pub mod ring;
 
-// A vertex: longitude and latitude.
+// A vertex: longitude and latitude. Equal as IEEE 754 compares: -0.0 equals 0.0, and a coordinate that holds a NaN equals nothing, not even
+// itself.
 #[derive(Clone, Copy, PartialEq)]
 pub struct Coord {
     pub x: f64,
@@ -32,15 +32,6 @@ pub enum Edge {
     Right,
     Bottom,
     Top,
-}
-
-impl Coord {
-    // Equal as IEEE 754 compares: -0.0 equals 0.0, and a coordinate that holds a NaN equals nothing, not even itself.
-    pub fn equals(self, other: Coord) -> bool
-        ensures { result ≡ same self other }
-    {
-        self == other
-    }
 }
 
 impl TileBounds {
