@@ -1,55 +1,23 @@
 -- A list compared from its front, element by element: what is left to compare gives the answer. Assumes nothing.
-use mathlib.Core.Path.{◌≡◌, refl, ◌∙◌, ap}
-use mathlib.Core.Bool.{true, false, ◌&&◌, and-false}
-use mathlib.Core.List.{List, [], ◌∷◌}
-use Prim.Native.Nat.{ℕ, zero, suc, ◌+◌, ◌<◌, ◌≤◌}
+use mathlib.Core.Path.{◌≡◌, refl, sym, ◌∙◌, ap}
+use mathlib.Core.Bool.{Bool, true, false, ◌&&◌, and-false}
+use mathlib.Core.List.{List, [], ◌∷◌, map}
+use Prim.Native.Nat.{ℕ, ◌+◌, ◌<◌, ◌≤◌}
 use native.Mathlib.Numerals.{add-one}
 use native.Mathlib.Omega.{arith}
 use lib.Dec.{eqb}
-use lib.Ieee.{Float, nan, binary64, to_bits}
 use lib.ListN.{length, get_or, drop, drop_of_length-le}
 use lib.Seq.{drop-cons}
-use Rattle.replay.specs.Lent.{bits, are_all, holds}
+use Rattle.std.specs.List.{list_all}
+use Rattle.std.proofs.lemmas.List.{length-map, get_or-map, drop-map}
+use Rattle.std.proofs.lemmas.List.Folds.{list_all-map}
+use Rattle.replay.specs.Lent.{are_all, holds}
 
--- numbers by their bits
-pub length-bits : (l : List Float) → length (bits l) ≡ length l
-unfolding bits
-length-bits [] = refl
-length-bits (x ∷ l) = ap suc (length-bits l)
-
-pub drop_bits : (i : ℕ) (l : List Float) → drop i (bits l) ≡ bits (drop i l)
-unfolding bits
-drop_bits zero l = refl
-drop_bits (suc i) [] = refl
-drop_bits (suc i) (x ∷ l) = drop_bits i l
-
-pub get_d_bits : (l : List Float) (i : ℕ) → i < length l → get_or (bits l) i 0 ≡ to_bits binary64 (get_or l i nan)
-unfolding bits
-get_d_bits [] i h = absurd (omega arith)
-get_d_bits (x ∷ l) zero h = refl
-get_d_bits (x ∷ l) (suc i) h = get_d_bits l i (omega arith)
-
--- whether all are x
-pub record AllFrom (l : List ℕ) (x i : ℕ) : Type 0 where
-  pub read : i ≤ length l
-  pub left : are_all l x ≡ are_all (drop i l) x
-
-pub all_start : (l : List ℕ) (x : ℕ) → AllFrom l x 0
-all_start l x = record { read = omega arith; left = refl }
-
-all-at : (l : List ℕ) (x i : ℕ) → i < length l → are_all (drop i l) x ≡ eqb (get_or l i 0) x && are_all (drop (i + 1) l) x
+-- whether all have the bits of x
+pub all_mapped : {A : Type 0} (bits : A → ℕ) (bs : List ℕ) (l : List A) (x : A) (b : ℕ) (r : Bool) → bs ≡ map bits l → bits x ≡ b
+    → r ≡ list_all (λ y. eqb (bits y) (bits x)) l → are_all bs b ≡ r
 unfolding are_all
-all-at l x i h = rw (add-one i, drop-cons l i 0 h)
-
-pub all-step : (l : List ℕ) (x i : ℕ) → i < length l → eqb (get_or l i 0) x ≡ true → AllFrom l x i → AllFrom l x (i + 1)
-all-step l x i h e p = record { read = omega arith; left = p.left ∙ all-at l x i h ∙ rw e }
-
-pub all_miss : (l : List ℕ) (x i : ℕ) → i < length l → eqb (get_or l i 0) x ≡ false → AllFrom l x i → are_all l x ≡ false
-all_miss l x i h e p = p.left ∙ all-at l x i h ∙ rw e
-
-pub all_end : (l : List ℕ) (x i : ℕ) → length l ≤ i → AllFrom l x i → are_all l x ≡ true
-unfolding are_all
-all_end l x i h p = p.left ∙ rw (drop_of_length-le l h)
+all_mapped bits bs l x b r e h p = rw (e, ← h) (list_all-map (λ y. eqb y (bits x)) bits l ∙ sym p)
 
 -- whether a list holds these at its front
 pub record HoldsFrom (m : ℕ) (f l : List ℕ) (i : ℕ) : Type 0 where
@@ -83,3 +51,27 @@ unfolding holds
 holds_end m f l i h p =
     let e : i ≡ length f = omega (arith, p.read) in
     p.left ∙ rw (drop_of_length-le f h, e)
+
+-- by the bits of numbers
+module _ {A : Type 0} (bits : A → ℕ) (m : ℕ) (f l : List A) where
+  pub short_mapped : length l < length f → holds m (map bits f) (map bits l) ≡ false
+  short_mapped h = holds_short m (map bits f) (map bits l) (rw (length-map l bits, length-map f bits) h)
+
+  module _ (i : ℕ) (x y : A) (h : i < length f) (k : i < length l) (at-l : x ≡ get_or l i x) (at-f : y ≡ get_or f i y)
+      (before : HoldsFrom m (map bits f) (map bits l) i) where
+    pub miss_mapped : eqb (bits x) (bits y) ≡ false → holds m (map bits f) (map bits l) ≡ false
+    miss_mapped p =
+        holds_miss m (map bits f) (map bits l) i (rw (length-map f bits) h) (rw (length-map l bits) k)
+        (rw (get_or-map bits l i x 0 k ∙ ap bits (sym at-l), get_or-map bits f i y 0 h ∙ ap bits (sym at-f)) p) before
+
+    pub step_mapped : eqb (bits x) (bits y) ≡ true → HoldsFrom m (map bits f) (map bits l) (i + 1)
+    step_mapped p =
+        holds-step m (map bits f) (map bits l) i (rw (length-map f bits) h) (rw (length-map l bits) k)
+        (rw (get_or-map bits l i x 0 k ∙ ap bits (sym at-l), get_or-map bits f i y 0 h ∙ ap bits (sym at-f)) p) before
+
+  pub end_mapped : (i : ℕ) (r : Bool) → length f ≤ i → HoldsFrom m (map bits f) (map bits l) i
+      → r ≡ list_all (λ y. eqb (bits y) m) (drop (length f) l) → holds m (map bits f) (map bits l) ≡ r
+  unfolding are_all
+  end_mapped i r h before p =
+      holds_end m (map bits f) (map bits l) i (rw (length-map f bits) h) before
+      ∙ rw (length-map f bits, drop-map bits (length f) l) (list_all-map (λ y. eqb y m) bits (drop (length f) l) ∙ sym p)

@@ -6,13 +6,13 @@ use Prim.Native.Nat.{ℕ, zero, suc, ◌≤◌}
 use native.Mathlib.Omega.{arith}
 use borrow.Author.Tests.{leb-true}
 use lib.Dec.{leb}
-use lib.Ieee.{Float}
+use lib.Ieee.{Float, binary64, of_bits}
 use lib.ListN.{length, take, replicate, length-replicate}
 use lib.Seq.{length-take-le}
 use Rattle.binary64.proofs.Booleans.{both}
 use Rattle.replay.specs.declared.ring_vectors.RingVector.{RingVector}
 use Rattle.replay.specs.declared.slice_vectors.SliceVector.{SliceVector}
-use Rattle.replay.specs.Lent.{marks, whole_marks, origin_marks, most_lent}
+use Rattle.replay.specs.Lent.{mark, whole_mark, origin_mark, marks, whole_marks, origin_marks, most_lent}
 use Rattle.ring_calls.specs.RingCall.{ring_slices}
 use Rattle.slices.specs.SliceCall.{polygon_slices}
 use Rattle.replay.specs.Calls.{ring_fits, ring_lent, slice_fits, slice_lent}
@@ -33,15 +33,15 @@ replicated m n x e h =
     let w : n ≤ length m = rw (e, length-replicate most_lent x) h in
     record { within = w; here = sym (length-take-le n m w); is = rw e (take-replicate n most_lent x h) }
 
-pub front : (m : List Float) (n : ℕ) → m ≡ marks most_lent → n ≤ most_lent → Front m n (marks n)
+pub front : (m : List Float) (n : ℕ) → m ≡ replicate most_lent (of_bits binary64 mark) → n ≤ most_lent → Front m n (marks n)
 unfolding marks
 front m n = replicated m n _
 
-pub whole-front : (m : List ℕ) (n : ℕ) → m ≡ whole_marks most_lent → n ≤ most_lent → Front m n (whole_marks n)
+pub whole-front : (m : List ℕ) (n : ℕ) → m ≡ replicate most_lent whole_mark → n ≤ most_lent → Front m n (whole_marks n)
 unfolding whole_marks
 whole-front m n = replicated m n _
 
-pub origin-front : (m : List ℕ) (n : ℕ) → m ≡ origin_marks most_lent → n ≤ most_lent → Front m n (origin_marks n)
+pub origin-front : (m : List ℕ) (n : ℕ) → m ≡ replicate most_lent origin_mark → n ≤ most_lent → Front m n (origin_marks n)
 unfolding origin_marks
 origin-front m n = replicated m n _
 
@@ -58,11 +58,12 @@ ring-room head e =
     let p = both (leb head.scratch most_lent) _ e in
     let q = both (leb head.origin_scratch most_lent) _ p.1 in
     let r = both (leb head.out most_lent) _ q.1 in
+    let s = both (leb head.out_origins most_lent) _ r.1 in
     record {
       scratch = leb-true _ _ p.0;
       origin-scratch = leb-true _ _ q.0;
       out = leb-true _ _ r.0;
-      out_origins = leb-true _ _ r.1;
+      out_origins = leb-true _ _ s.0;
     }
 
 -- by the answer of `has_room`
@@ -71,7 +72,7 @@ ring-fits head r e t = ring-room head (sym e ∙ t)
 
 -- so the slices that are lent are those that the call is to be made on
 pub ring-slices-lent : (head : RingVector) → RingRoom head → (scratch out : List Float) (origin_scratch out_origins : List ℕ)
-    → scratch ≡ marks most_lent → origin_scratch ≡ origin_marks most_lent → out ≡ marks most_lent → out_origins ≡ origin_marks most_lent
+    → scratch ≡ replicate most_lent (of_bits binary64 mark) → origin_scratch ≡ replicate most_lent origin_mark → out ≡ replicate most_lent (of_bits binary64 mark) → out_origins ≡ replicate most_lent origin_mark
     → ring_slices (take head.scratch scratch) (take head.origin_scratch origin_scratch) (take head.out out)
     (take head.out_origins out_origins)
     ≡ ring_lent head
@@ -100,21 +101,22 @@ slice-room head e =
     let r = both (leb head.order most_lent) _ q.1 in
     let s = both (leb head.out most_lent) _ r.1 in
     let t = both (leb head.out_lengths most_lent) _ s.1 in
+    let u = both (leb head.out_origins most_lent) _ t.1 in
     record {
       scratch = leb-true _ _ p.0;
       origin-scratch = leb-true _ _ q.0;
       order = leb-true _ _ r.0;
       out = leb-true _ _ s.0;
       out_lengths = leb-true _ _ t.0;
-      out_origins = leb-true _ _ t.1;
+      out_origins = leb-true _ _ u.0;
     }
 
 pub slice-fits : (head : SliceVector) (r : Bool) → r ≡ slice_fits head → r ≡ true → SliceRoom head
 slice-fits head r e t = slice-room head (sym e ∙ t)
 
 pub polygon-slices-lent : (head : SliceVector) → SliceRoom head → (scratch out : List Float)
-    (origin_scratch order out_lengths out_origins : List ℕ) → scratch ≡ marks most_lent → origin_scratch ≡ origin_marks most_lent
-    → order ≡ whole_marks most_lent → out ≡ marks most_lent → out_lengths ≡ whole_marks most_lent → out_origins ≡ origin_marks most_lent
+    (origin_scratch order out_lengths out_origins : List ℕ) → scratch ≡ replicate most_lent (of_bits binary64 mark) → origin_scratch ≡ replicate most_lent origin_mark
+    → order ≡ replicate most_lent whole_mark → out ≡ replicate most_lent (of_bits binary64 mark) → out_lengths ≡ replicate most_lent whole_mark → out_origins ≡ replicate most_lent origin_mark
     → polygon_slices (take head.scratch scratch) (take head.origin_scratch origin_scratch) (take head.order order) (take head.out out)
     (take head.out_lengths out_lengths) (take head.out_origins out_origins)
     ≡ slice_lent head

@@ -1,12 +1,13 @@
 -- Whether what a call answers and leaves in the lent slices, by its definition, is what was kept: the unchanged
 -- Rust's rings, with the refusals, the reasons and the zeros that the harness has for them. Definitions only.
-use Rattle.std.specs.Prelude.{Bool, true, false, ◌&&◌, List, ℕ, eqb, leb, Float}
+use Rattle.std.specs.Prelude.{Bool, true, false, ◌&&◌, List, [], ◌∷◌, ℕ, eqb, leb, Float, Option, None, Some}
+use Rattle.std.specs.List.{list_all}
 use Rattle.tile.specs.declared.TileBounds.{TileBounds}
 use Rattle.ring_calls.specs.RingCall.{RingSlices, ring_slices, ring_call_answer, ring_call_code, ring_call_slices}
 use Rattle.clip.specs.declared.polygon.Flags.{Flags}
 use Rattle.slices.specs.SliceCall.{PolygonSlices, polygon_slices, slice_call_answer, slice_call_code, slice_call_slices}
 use Rattle.replay.specs.declared.code.Outcome.{Outcome}
-use Rattle.replay.specs.declared.code.Outcome.TheVariants.{Same, Differs, Broken}
+use Rattle.replay.specs.declared.code.Outcome.TheVariants.{Same, Differs}
 use Rattle.replay.specs.declared.ring_vectors.RingVector.{RingVector}
 use Rattle.replay.specs.declared.slice_vectors.SliceVector.{SliceVector}
 use Rattle.replay.specs.Code.{bits_of, is_refusal}
@@ -39,23 +40,21 @@ slice_agrees code expected expected_lengths expected_origins flags bounds buffer
     && (slices_agree (is_refusal code) whole_mark after.order after.out_lengths expected_lengths
     && slices_agree (is_refusal code) origin_mark after.origin_scratch after.out_origins expected_origins)
 
--- ---- what becomes of a vector
+-- ---- what becomes of a vector: nothing where it is not whole
 
-abbrev pub vector_outcome : Bool → Bool → ℕ → Outcome
-vector_outcome false agrees code = Broken
-vector_outcome true false code = Differs
-vector_outcome true true code = Same code
+abbrev pub vector_outcome : Bool → Bool → ℕ → Option Outcome
+vector_outcome false agrees code = None
+vector_outcome true false code = Some Differs
+vector_outcome true true code = Some (Same code)
 
 -- whether the slices that are lent to be written have room
 unfoldable pub ring_fits : RingVector → Bool
-ring_fits head =
-    leb head.scratch most_lent && (leb head.origin_scratch most_lent
-    && (leb head.out most_lent && leb head.out_origins most_lent))
+ring_fits head = list_all (λ n. leb n most_lent) (head.scratch ∷ head.origin_scratch ∷ head.out ∷ head.out_origins ∷ [])
 
 unfoldable pub slice_fits : SliceVector → Bool
 slice_fits head =
-    leb head.scratch most_lent && (leb head.origin_scratch most_lent && (leb head.order most_lent
-    && (leb head.out most_lent && (leb head.out_lengths most_lent && leb head.out_origins most_lent))))
+    list_all (λ n. leb n most_lent)
+    (head.scratch ∷ head.origin_scratch ∷ head.order ∷ head.out ∷ head.out_lengths ∷ head.out_origins ∷ [])
 
 -- what is lent to be written
 abbrev pub ring_lent : RingVector → RingSlices
@@ -68,11 +67,11 @@ slice_lent head =
     (whole_marks head.out_lengths) (origin_marks head.out_origins)
 
 -- of a ring call, or a slice call, with what was kept of it
-unfoldable pub ring_outcome : RingVector → ℕ → List Float → List Float → List ℕ → Outcome
+unfoldable pub ring_outcome : RingVector → ℕ → List Float → List Float → List ℕ → Option Outcome
 ring_outcome head code ring expected expected_origins =
     vector_outcome (ring_fits head) (ring_agrees code expected expected_origins ring head.bounds (ring_lent head)) code
 
-unfoldable pub slice_outcome : SliceVector → ℕ → List Float → List ℕ → List Float → List ℕ → List ℕ → Outcome
+unfoldable pub slice_outcome : SliceVector → ℕ → List Float → List ℕ → List Float → List ℕ → List ℕ → Option Outcome
 slice_outcome head code coords lengths expected expected_lengths expected_origins =
     vector_outcome (slice_fits head)
     (slice_agrees code expected expected_lengths expected_origins head.flags head.bounds head.buffer coords lengths (slice_lent head))

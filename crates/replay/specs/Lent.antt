@@ -1,13 +1,13 @@
 -- What the lent slices hold before a call, and what they must hold afterwards. Definitions only.
-use Rattle.std.specs.Prelude.{Bool, true, false, cond, ◌&&◌, List, [], ◌∷◌, ℕ, ◌+◌, ◌*◌, eqb, leb, Float, replicate}
+use Rattle.std.specs.Prelude.{Bool, false, cond, ◌&&◌, List, [], ◌∷◌, ℕ, ◌+◌, ◌*◌, eqb, leb, Float, replicate, map}
+use Rattle.std.specs.List.{list_all}
 use Rattle.std.specs.Float.{binary64}
 use Rattle.std.specs.Float.Ieee.{of_bits, to_bits}
 use Rattle.rings.specs.LentRings.{sum}
 
 -- numbers by their bits; the logic has one NaN, so that a NaN's bits are free
-unfoldable pub bits : List Float → List ℕ
-bits [] = []
-bits (x ∷ l) = to_bits binary64 x ∷ bits l
+abbrev pub bits : List Float → List ℕ
+bits l = map (to_bits binary64) l
 
 -- what a slice that is lent to be written holds everywhere before a call: 7.25 by its bits, 77, or for origins 777
 abbrev pub mark : ℕ
@@ -31,8 +31,7 @@ origin_marks n = replicate n origin_mark
 
 -- whether every element is x
 unfoldable pub are_all : List ℕ → ℕ → Bool
-are_all [] x = true
-are_all (y ∷ l) x = eqb y x && are_all l x
+are_all l x = list_all (λ y. eqb y x) l
 
 -- whether a list has these at its front, and past them the mark everywhere
 unfoldable pub holds : ℕ → List ℕ → List ℕ → Bool

@@ -7,12 +7,11 @@ ghost use Rattle.replay.specs.Code.{bits_of, is_refusal, ring_numbers, rings_wri
 use ring_calls::{Refusal, RingAnswer};
 use slices::call::{FIRST_PLACE, SliceAnswer, answer_code};
 
-// What becomes of a vector: its answer is given, another one is, or the vector is not whole.
+// What becomes of a vector that is whole: its answer is given, or another one is.
 #[derive(Drop)]
 pub enum Outcome {
     Same(u64),
     Differs,
-    Broken,
 }
 
 // The largest code that is no refusal.

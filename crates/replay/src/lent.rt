@@ -1,12 +1,16 @@
 // What the lent slices hold before a call, and whether they hold afterwards what they must.
-ghost use Rattle.std.specs.Prelude.{◌≡◌, eqb, length};
+ghost use Rattle.std.specs.Prelude.{◌≡◌, ℕ, ◌+◌, ◌≤◌, List, eqb, length, map, replicate, refl};
+ghost use Rattle.std.specs.List.{list_all};
 ghost use Rattle.std.specs.Float.{binary64};
-ghost use Rattle.std.specs.Float.Ieee.{to_bits};
+ghost use Rattle.std.specs.Float.Ieee.{of_bits, to_bits};
+ghost use Rattle.std.proofs.Common.{lit≤, sym};
+ghost use Rattle.std.proofs.lemmas.List.{map-id};
 ghost use Rattle.replay.specs.Lent as Lent;
 ghost use Rattle.replay.specs.Calls as Calls;
 
 use super::code::is_refusal;
-use binary64::bytes::to_bits;
+use super::stream::{origin_at, whole_at};
+use binary64::bytes::{read_f64, to_bits};
 
 // The most numbers that a polygon or a ring is lent with: two more than a call takes.
 pub const MOST_NUMBERS: usize = 131066;
@@ -14,30 +18,147 @@ pub const MOST_NUMBERS: usize = 131066;
 // The longest slice that is lent to be written.
 pub const ROOM: usize = 4096;
 
-// Such a slice holds this everywhere before a call.
+// A slice that is lent to be written holds this everywhere before a call: a slice of doubles, of lengths or the order, of origins.
 const MARK: f64 = 7.25;
 
 const WHOLE_MARK: u32 = 77;
 
 const ORIGIN_MARK: u16 = 777;
 
-// Such slices, as long as they can be.
-pub fn marks() -> [f64; ROOM]
-    ensures { result ≡ Lent.marks Lent.most_lent }
-{
-    [MARK; ROOM]
+// A number of which a slice is lent: a double, a length of a ring or a place of the order, an origin.
+pub trait Lent: Copy {
+    // Its bits; a NaN's bits are free.
+    ghost bits: { Self → ℕ };
+
+    // What a slice that is lent to be written holds everywhere before a call.
+    ghost mark: { Self };
+
+    // The bits of some.
+    ghost all_bits: { List Self → List ℕ };
+
+    // How many bytes it has in an input.
+    ghost SIZE: { ℕ };
+
+    const SIZE: usize;
+
+    fn mark() -> Self
+        ensures { result ≡ mark };
+
+    fn zero() -> Self
+        ensures { bits result ≡ 0 };
+
+    fn is_same(self, other: Self) -> bool
+        ensures { result ≡ eqb (bits self) (bits other) };
+
+    fn read_at(bytes: &[u8], at: usize) -> Self
+        requires { at + SIZE ≤ length bytes.now };
+
+    ghost narrow: { SIZE ≤ 8 };
+
+    ghost each: { (l : List Self) → all_bits l ≡ map bits l };
 }
 
-pub fn whole_marks() -> [u32; ROOM]
-    ensures { result ≡ Lent.whole_marks Lent.most_lent }
-{
-    [WHOLE_MARK; ROOM]
+impl Lent for f64 {
+    ghost bits = { to_bits binary64 };
+
+    ghost mark = { of_bits binary64 Lent.mark };
+
+    ghost all_bits = { Lent.bits };
+
+    ghost SIZE = { 8 };
+
+    const SIZE: usize = 8;
+
+    fn mark() -> f64 {
+        MARK
+    }
+
+    fn zero() -> f64 {
+        0.0
+    }
+
+    fn is_same(self, other: f64) -> bool {
+        to_bits(self) == to_bits(other)
+    }
+
+    fn read_at(bytes: &[u8], at: usize) -> f64 {
+        read_f64(bytes, at)
+    }
+
+    ghost narrow = { lit≤ tt };
+
+    ghost each = { λ l. refl };
 }
 
-pub fn origin_marks() -> [u16; ROOM]
-    ensures { result ≡ Lent.origin_marks Lent.most_lent }
+impl Lent for u32 {
+    ghost bits = { λ x. x };
+
+    ghost mark = { Lent.whole_mark };
+
+    ghost all_bits = { λ l. l };
+
+    ghost SIZE = { 4 };
+
+    const SIZE: usize = 4;
+
+    fn mark() -> u32 {
+        WHOLE_MARK
+    }
+
+    fn zero() -> u32 {
+        0
+    }
+
+    fn is_same(self, other: u32) -> bool {
+        self == other
+    }
+
+    fn read_at(bytes: &[u8], at: usize) -> u32 {
+        whole_at(bytes, at)
+    }
+
+    ghost narrow = { lit≤ tt };
+
+    ghost each = { λ l. sym (map-id l) };
+}
+
+impl Lent for u16 {
+    ghost bits = { λ x. x };
+
+    ghost mark = { Lent.origin_mark };
+
+    ghost all_bits = { λ l. l };
+
+    ghost SIZE = { 2 };
+
+    const SIZE: usize = 2;
+
+    fn mark() -> u16 {
+        ORIGIN_MARK
+    }
+
+    fn zero() -> u16 {
+        0
+    }
+
+    fn is_same(self, other: u16) -> bool {
+        self == other
+    }
+
+    fn read_at(bytes: &[u8], at: usize) -> u16 {
+        origin_at(bytes, at)
+    }
+
+    ghost narrow = { lit≤ tt };
+
+    ghost each = { λ l. sym (map-id l) };
+}
+
+// Such a slice, as long as it can be.
+pub fn marks<T: Lent>() -> [T; ROOM]
+    ensures { result ≡ replicate Lent.most_lent T.mark }
 {
-    [ORIGIN_MARK; ROOM]
+    [T::mark(); ROOM]
 }
 
 // Room for the numbers of a polygon or a ring: a function of its own, so that no caller has the array written out in its proof.
@@ -47,109 +168,44 @@ pub fn no_numbers() -> [f64; MOST_NUMBERS]
     [0.0; MOST_NUMBERS]
 }
 
-// Whether two numbers have the same bits; a NaN's bits are free.
-fn is_same(x: f64, y: f64) -> bool
-    ensures { result ≡ eqb (to_bits binary64 x) (to_bits binary64 y) }
+// What a slice that a call clears holds afterwards everywhere.
+fn cleared_unless<T: Lent>(refused: bool) -> T
+    ensures { T.bits result ≡ Lent.cleared_unless refused (T.bits T.mark) }
 {
-    to_bits(x) == to_bits(y)
+    if refused { T::mark() } else { T::zero() }
 }
 
-// What scratch holds after a call, the order slice, and the scratch slice of the origins.
-fn scratch_after(refused: bool) -> f64
-    ensures { to_bits binary64 result ≡ Lent.cleared_unless refused Lent.mark }
+fn are_all<T: Lent>(s: &[T], x: T) -> bool
+    ensures { result ≡ list_all (λ y. eqb (T.bits y) (T.bits x)) s.now }
 {
-    if refused { MARK } else { 0.0 }
-}
-
-fn order_after(refused: bool) -> u32
-    ensures { result ≡ Lent.cleared_unless refused Lent.whole_mark }
-{
-    if refused { WHOLE_MARK } else { 0 }
-}
-
-fn origins_after(refused: bool) -> u16
-    ensures { result ≡ Lent.cleared_unless refused Lent.origin_mark }
-{
-    if refused { ORIGIN_MARK } else { 0 }
-}
-
-fn are_all(s: &[f64], x: f64) -> bool
-    ensures { result ≡ Lent.are_all (Lent.bits s.now) (to_bits binary64 x) }
-{
-    for y in s {
-        if !is_same(*y, x) {
-            return false;
-        }
-    }
-    true
-}
-
-fn are_all_wholes(s: &[u32], x: u32) -> bool
-    ensures { result ≡ Lent.are_all s.now x }
-{
-    for y in s {
-        if *y != x {
-            return false;
-        }
-    }
-    true
-}
-
-fn are_all_origins(s: &[u16], x: u16) -> bool
-    ensures { result ≡ Lent.are_all s.now x }
-{
-    for y in s {
-        if *y != x {
-            return false;
-        }
-    }
-    true
+    s.iter().all(|y| y.is_same(x))
 }
 
 // Whether a slice holds these numbers at its front, and past them what it held before the call.
-fn holds(s: &[f64], front: &[f64]) -> bool
-    ensures { result ≡ Lent.holds Lent.mark (Lent.bits front.now) (Lent.bits s.now) }
+fn holds<T: Lent>(s: &[T], front: &[T]) -> bool
+    ensures { result ≡ Lent.holds (T.bits T.mark) (map T.bits front.now) (map T.bits s.now) }
 {
     let n = front.len();
     if s.len() < n {
         return false;
     }
     for i in 0..n {
-        if !is_same(s[i], front[i]) {
+        if !s[i].is_same(front[i]) {
             return false;
         }
     }
-    are_all(&s[n..], MARK)
+    are_all(&s[n..], T::mark())
 }
 
-fn holds_wholes(s: &[u32], front: &[u32]) -> bool
-    ensures { result ≡ Lent.holds Lent.whole_mark front.now s.now }
+// Whether a call has left a slice that it clears and one that it writes to as it has to.
+pub fn slices_agree<T: Lent>(refused: bool, scratch: &[T], out: &[T], expected: &[T]) -> bool
+    ensures { result ≡ Calls.slices_agree refused (T.bits T.mark) (T.all_bits scratch.now)
+        (T.all_bits out.now) (T.all_bits expected.now) }
 {
-    let n = front.len();
-    if s.len() < n {
+    if !are_all(scratch, cleared_unless(refused)) {
         return false;
     }
-    for i in 0..n {
-        if s[i] != front[i] {
-            return false;
-        }
-    }
-    are_all_wholes(&s[n..], WHOLE_MARK)
-}
-
-fn holds_origins(s: &[u16], front: &[u16]) -> bool
-    ensures { result ≡ Lent.holds Lent.origin_mark front.now s.now }
-{
-    let n = front.len();
-    if s.len() < n {
-        return false;
-    }
-    for i in 0..n {
-        if s[i] != front[i] {
-            return false;
-        }
-    }
-    are_all_origins(&s[n..], ORIGIN_MARK)
+    holds(out, expected)
 }
 
 // Whether the code of an answer is the kept one, and the call has left the scratch slice and the output as it has to. It reads them only:
@@ -160,35 +216,5 @@ pub fn answer_agrees(given: u64, code: u64, scratch: &[f64], out: &[f64], expect
     if given != code {
         return false;
     }
-    if !are_all(scratch, scratch_after(is_refusal(code))) {
-        return false;
-    }
-    holds(out, expected)
-}
-
-// Whether a call has left the order slice and the second length slice as it has to.
-pub fn wholes_agree(refused: bool, order: &[u32], out_lengths: &[u32], expected: &[u32]) -> bool
-    ensures { result ≡ Calls.slices_agree refused Lent.whole_mark order.now out_lengths.now
-        expected.now }
-{
-    if !are_all_wholes(order, order_after(refused)) {
-        return false;
-    }
-    holds_wholes(out_lengths, expected)
-}
-
-// Whether a call has left the slices of the origins as it has to.
-pub fn origins_agree(
-    refused: bool,
-    origin_scratch: &[u16],
-    out_origins: &[u16],
-    expected: &[u16],
-) -> bool
-    ensures { result ≡ Calls.slices_agree refused Lent.origin_mark origin_scratch.now out_origins.now
-        expected.now }
-{
-    if !are_all_origins(origin_scratch, origins_after(refused)) {
-        return false;
-    }
-    holds_origins(out_origins, expected)
+    slices_agree(is_refusal(code), scratch, out, expected)
 }

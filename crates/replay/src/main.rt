@@ -16,7 +16,7 @@ use ring_vectors::replay_ring;
 use slice_vectors::replay_slice;
 use std::io;
 use std::io::Read;
-use stream::{Count, is_at_end, read_count};
+use stream::{is_at_end, read_count};
 
 // A count for each answer that is no refusal (a ring call has two, a slice call five), for each of 19 to 22, and for the calls that differ.
 const ROWS: usize = 10;
@@ -24,13 +24,6 @@ const ROWS: usize = 10;
 const REFUSALS: usize = 5;
 
 const DIFFER: usize = 9;
-
-// Which call a vector is of.
-#[derive(Clone, Copy)]
-enum Kind {
-    Ring,
-    Slice,
-}
 
 // Minus 1 is the number at the top, minus 19 the one 18 below it.
 fn refusal_row(code: u64) -> usize {
@@ -43,25 +36,67 @@ fn refusal_row(code: u64) -> usize {
     }
 }
 
-fn ring_row(code: u64) -> usize {
-    if is_refusal(code) {
-        return refusal_row(code);
-    }
-    if code == 0 { 1 } else { 0 }
+// The calls of a file.
+trait Calls {
+    fn replay<R: Read>(&self, input: &mut R) -> Option<Outcome>;
+
+    // The row of an answer that is no refusal.
+    fn row(&self, code: u64) -> usize;
+
+    // Prints these rows.
+    fn print_rows(&self, rt: &impl Print, counts: &[u64]) -> io::Result<()>
+        requires { length counts.now ≡ 10 };
 }
 
-fn slice_row(code: u64) -> usize {
+struct Ring;
+
+impl Calls for Ring {
+    fn replay<R: Read>(&self, input: &mut R) -> Option<Outcome> {
+        replay_ring(input)
+    }
+
+    fn row(&self, code: u64) -> usize {
+        if code == 0 { 1 } else { 0 }
+    }
+
+    fn print_rows(&self, rt: &impl Print, counts: &[u64]) -> io::Result<()> {
+        print_row(rt, "ring", counts[0])?;
+        print_row(rt, "empty", counts[1])
+    }
+}
+
+struct Slice;
+
+impl Calls for Slice {
+    fn replay<R: Read>(&self, input: &mut R) -> Option<Outcome> {
+        replay_slice(input)
+    }
+
+    fn row(&self, code: u64) -> usize {
+        match code % 256 {
+            0 => 0,
+            1 => 1,
+            2 => 2,
+            4 => 3,
+            5 => 4,
+            _ => DIFFER,
+        }
+    }
+
+    fn print_rows(&self, rt: &impl Print, counts: &[u64]) -> io::Result<()> {
+        print_row(rt, "nothing", counts[0])?;
+        print_row(rt, "dropped", counts[1])?;
+        print_row(rt, "unchanged", counts[2])?;
+        print_row(rt, "cut", counts[3])?;
+        print_row(rt, "overlay", counts[4])
+    }
+}
+
+fn row(calls: &impl Calls, code: u64) -> usize {
     if is_refusal(code) {
         return refusal_row(code);
     }
-    match code % 256 {
-        0 => 0,
-        1 => 1,
-        2 => 2,
-        4 => 3,
-        5 => 4,
-        _ => DIFFER,
-    }
+    calls.row(code)
 }
 
 // One more in a row; a count stays at the top.
@@ -73,46 +108,22 @@ fn add_to(counts: &mut [u64], row: usize) {
     }
 }
 
-fn replay_one<R: Read>(input: &mut R, kind: Kind) -> Outcome {
-    match kind {
-        Kind::Ring => replay_ring(input),
-        Kind::Slice => replay_slice(input),
+// Counts a vector, if it is whole.
+fn count_one<R: Read>(input: &mut R, calls: &impl Calls, counts: &mut [u64]) -> Option<()> {
+    match calls.replay(input)? {
+        Outcome::Same(code) => add_to(counts, row(calls, code)),
+        Outcome::Differs => add_to(counts, DIFFER),
     }
+    Some(())
 }
 
-fn row(kind: Kind, code: u64) -> usize {
-    match kind {
-        Kind::Ring => ring_row(code),
-        Kind::Slice => slice_row(code),
-    }
-}
-
-// Whether the vector is whole.
-fn count_one<R: Read>(input: &mut R, kind: Kind, counts: &mut [u64]) -> bool {
-    match replay_one(input, kind) {
-        Outcome::Same(code) => {
-            add_to(counts, row(kind, code));
-            true
-        }
-        Outcome::Differs => {
-            add_to(counts, DIFFER);
-            true
-        }
-        Outcome::Broken => false,
-    }
-}
-
-// Whether the vectors of a file are whole.
-fn count_all<R: Read>(input: &mut R, kind: Kind, counts: &mut [u64]) -> bool {
-    let Count::Is(n) = read_count(input) else {
-        return false;
-    };
+// Counts the vectors of a file, if they are whole.
+fn count_all<R: Read>(input: &mut R, calls: &impl Calls, counts: &mut [u64]) -> Option<()> {
+    let n = read_count(input)?;
     for _ in 0..n {
-        if !count_one(input, kind, counts) {
-            return false;
-        }
+        count_one(input, calls, counts)?;
     }
-    true
+    Some(())
 }
 
 fn print_row(rt: &impl Print, name: &str, count: u64) -> io::Result<()> {
@@ -129,42 +140,20 @@ fn print_last_rows(rt: &impl Print, counts: &[u64]) -> io::Result<()>
     print_row(rt, "differ", counts[DIFFER])
 }
 
-// The rows of the answers that are no refusals.
-fn print_first_rows(rt: &impl Print, kind: Kind, counts: &[u64]) -> io::Result<()>
-    requires { length counts.now ≡ 10 }
-{
-    match kind {
-        Kind::Ring => {
-            print_row(rt, "ring", counts[0])?;
-            print_row(rt, "empty", counts[1])
-        }
-        Kind::Slice => {
-            print_row(rt, "nothing", counts[0])?;
-            print_row(rt, "dropped", counts[1])?;
-            print_row(rt, "unchanged", counts[2])?;
-            print_row(rt, "cut", counts[3])?;
-            print_row(rt, "overlay", counts[4])
-        }
-    }
-}
-
 // Whether the vectors of a file are whole, with the rows printed.
-fn replay_all<R: Read>(rt: &impl Print, input: &mut R, kind: Kind) -> io::Result<bool> {
+fn replay_all<R: Read>(rt: &impl Print, input: &mut R, calls: &impl Calls) -> io::Result<bool> {
     let mut counts = [0u64; ROWS];
-    let whole = count_all(input, kind, &mut counts);
-    print_first_rows(rt, kind, &counts)?;
+    let whole = count_all(input, calls, &mut counts).is_some();
+    calls.print_rows(rt, &counts)?;
     print_last_rows(rt, &counts)?;
     Ok(whole)
 }
 
 fn main(rt: HostRuntime) -> io::Result<()> {
     let mut input = rt.stdin();
-    if replay_all(&rt, &mut input, Kind::Ring)? {
-        if replay_all(&rt, &mut input, Kind::Slice)? {
-            if is_at_end(&mut input) {
-                return Ok(());
-            }
-        }
+    let whole = replay_all(&rt, &mut input, &Ring)? && replay_all(&rt, &mut input, &Slice)?;
+    if whole && is_at_end(&mut input) {
+        return Ok(());
     }
     println!(rt; "the vectors are not whole")
 }

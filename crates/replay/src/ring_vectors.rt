@@ -6,12 +6,8 @@ ghost use Rattle.replay.specs.Lent.{origin_mark};
 ghost use Rattle.replay.specs.Calls.{answer_agrees, slices_agree, ring_agrees, ring_fits, ring_outcome};
 
 use super::code::{Outcome, is_refusal, numbers_of, of_ring};
-use super::lent::{
-    MOST_NUMBERS, ROOM, answer_agrees, marks, no_numbers, origin_marks, origins_agree,
-};
-use super::stream::{
-    Code, Count, count_at, fill, read_code, read_count, read_numbers, read_origins,
-};
+use super::lent::{MOST_NUMBERS, ROOM, answer_agrees, marks, no_numbers, slices_agree};
+use super::stream::{count_at, fill, read_code, read_count, read_numbers};
 use binary64::bytes::read_f64;
 use ring_calls::ring;
 use std::io::Read;
@@ -51,7 +47,7 @@ fn read_head(bytes: &[u8]) -> RingVector
 }
 
 // Whether the code of an answer is the kept one, and the call has left the lent slices as it has to.
-fn slices_agree(
+fn all_agree(
     given: u64,
     code: u64,
     scratch: &[f64],
@@ -68,7 +64,7 @@ fn slices_agree(
     if !answer_agrees(given, code, scratch, out, expected) {
         return false;
     }
-    origins_agree(
+    slices_agree(
         is_refusal(code),
         origin_scratch,
         out_origins,
@@ -91,7 +87,7 @@ fn agrees(
         (ring_slices scratch.old origin_scratch.old out.old out_origins.old) }
 {
     let answer = ring(lent, bounds, scratch, origin_scratch, out, out_origins);
-    slices_agree(
+    all_agree(
         of_ring(answer),
         code,
         scratch,
@@ -107,16 +103,13 @@ fn agrees(
 fn has_room(head: RingVector) -> bool
     ensures { result ≡ ring_fits head }
 {
-    if head.scratch > ROOM {
-        return false;
-    }
-    if head.origin_scratch > ROOM {
-        return false;
-    }
-    if head.out > ROOM {
-        return false;
-    }
-    head.out_origins <= ROOM
+    let lengths = [
+        head.scratch,
+        head.origin_scratch,
+        head.out,
+        head.out_origins,
+    ];
+    lengths.iter().all(|n| *n <= ROOM)
 }
 
 fn call(
@@ -125,20 +118,20 @@ fn call(
     lent: &[f64],
     expected: &[f64],
     expected_origins: &[u16],
-) -> Outcome
+) -> Option<Outcome>
     ensures { result ≡ ring_outcome head code lent.now expected.now expected_origins.now }
 {
     if !has_room(head) {
-        return Outcome::Broken;
+        return None;
     }
     let scratch_length = head.scratch;
     let origin_scratch_length = head.origin_scratch;
     let out_length = head.out;
     let out_origins_length = head.out_origins;
     let mut scratch = marks();
-    let mut origin_scratch = origin_marks();
+    let mut origin_scratch = marks();
     let mut out = marks();
-    let mut out_origins = origin_marks();
+    let mut out_origins = marks();
     if agrees(
         code,
         lent,
@@ -150,35 +143,27 @@ fn call(
         expected,
         expected_origins,
     ) {
-        return Outcome::Same(code);
+        return Some(Outcome::Same(code));
     }
-    Outcome::Differs
+    Some(Outcome::Differs)
 }
 
 // From the answer on. There follow: how many numbers the call writes to the output, zeros included, and half as many origins; then the
 // numbers of the ring, and its origins.
-fn replay_answer<R: Read>(input: &mut R, head: RingVector, lent: &[f64]) -> Outcome {
-    let Code::Is(code) = read_code(input) else {
-        return Outcome::Broken;
-    };
-    let Count::Is(written) = read_count(input) else {
-        return Outcome::Broken;
-    };
+fn replay_answer<R: Read>(input: &mut R, head: RingVector, lent: &[f64]) -> Option<Outcome> {
+    let code = read_code(input)?;
+    let written = read_count(input)?;
     if written > ROOM {
-        return Outcome::Broken;
+        return None;
     }
     let m = numbers_of(code);
     if m > ROOM {
-        return Outcome::Broken;
+        return None;
     }
     let mut expected = [0.0f64; ROOM];
-    if !read_numbers(input, m, &mut expected) {
-        return Outcome::Broken;
-    }
+    read_numbers(input, m, &mut expected)?;
     let mut origins = [0u16; ROOM];
-    if !read_origins(input, m / 2, &mut origins) {
-        return Outcome::Broken;
-    }
+    read_numbers(input, m / 2, &mut origins)?;
     call(
         head,
         code,
@@ -189,22 +174,18 @@ fn replay_answer<R: Read>(input: &mut R, head: RingVector, lent: &[f64]) -> Outc
 }
 
 // From the numbers of the ring on.
-fn replay_with<R: Read>(input: &mut R, head: RingVector) -> Outcome {
+fn replay_with<R: Read>(input: &mut R, head: RingVector) -> Option<Outcome> {
     let n = head.numbers;
     if n > MOST_NUMBERS {
-        return Outcome::Broken;
+        return None;
     }
     let mut lent = no_numbers();
-    if !read_numbers(input, head.stored, &mut lent) {
-        return Outcome::Broken;
-    }
+    read_numbers(input, head.stored, &mut lent)?;
     replay_answer(input, head, &lent[..n])
 }
 
-pub fn replay_ring<R: Read>(input: &mut R) -> Outcome {
+pub fn replay_ring<R: Read>(input: &mut R) -> Option<Outcome> {
     let mut bytes = [0u8; HEAD];
-    if !fill(input, &mut bytes) {
-        return Outcome::Broken;
-    }
+    fill(input, &mut bytes)?;
     replay_with(input, read_head(&bytes))
 }

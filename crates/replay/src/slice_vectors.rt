@@ -6,13 +6,8 @@ ghost use Rattle.replay.specs.Lent.{whole_mark, origin_mark, numbers_in};
 ghost use Rattle.replay.specs.Calls.{answer_agrees, slices_agree, slice_agrees, slice_fits, slice_outcome};
 
 use super::code::{Outcome, is_refusal, of_slice, rings_of};
-use super::lent::{
-    MOST_NUMBERS, ROOM, answer_agrees, marks, no_numbers, origin_marks, origins_agree, whole_marks,
-    wholes_agree,
-};
-use super::stream::{
-    Code, Count, count_at, fill, read_code, read_count, read_numbers, read_origins, read_wholes,
-};
+use super::lent::{MOST_NUMBERS, ROOM, answer_agrees, marks, no_numbers, slices_agree};
+use super::stream::{count_at, fill, read_code, read_count, read_numbers};
 use binary64::bytes::read_f64;
 use clip::polygon::Flags;
 use slices::call::polygon;
@@ -78,7 +73,7 @@ fn read_head(bytes: &[u8]) -> SliceVector
 }
 
 // Whether the code of an answer is the kept one, and the call has left the lent slices as it has to.
-fn slices_agree(
+fn all_agree(
     given: u64,
     code: u64,
     scratch: &[f64],
@@ -100,10 +95,10 @@ fn slices_agree(
         return false;
     }
     let refused = is_refusal(code);
-    if !wholes_agree(refused, order, out_lengths, expected_lengths) {
+    if !slices_agree(refused, order, out_lengths, expected_lengths) {
         return false;
     }
-    origins_agree(refused, origin_scratch, out_origins, expected_origins)
+    slices_agree(refused, origin_scratch, out_origins, expected_origins)
 }
 
 fn agrees(
@@ -139,7 +134,7 @@ fn agrees(
         out_lengths,
         out_origins,
     );
-    slices_agree(
+    all_agree(
         of_slice(answer),
         code,
         scratch,
@@ -158,22 +153,15 @@ fn agrees(
 fn has_room(head: SliceVector) -> bool
     ensures { result ≡ slice_fits head }
 {
-    if head.scratch > ROOM {
-        return false;
-    }
-    if head.origin_scratch > ROOM {
-        return false;
-    }
-    if head.order > ROOM {
-        return false;
-    }
-    if head.out > ROOM {
-        return false;
-    }
-    if head.out_lengths > ROOM {
-        return false;
-    }
-    head.out_origins <= ROOM
+    let lengths = [
+        head.scratch,
+        head.origin_scratch,
+        head.order,
+        head.out,
+        head.out_lengths,
+        head.out_origins,
+    ];
+    lengths.iter().all(|n| *n <= ROOM)
 }
 
 fn call(
@@ -184,12 +172,12 @@ fn call(
     expected: &[f64],
     expected_lengths: &[u32],
     expected_origins: &[u16],
-) -> Outcome
+) -> Option<Outcome>
     ensures { result ≡ slice_outcome head code coords.now lengths.now expected.now
         expected_lengths.now expected_origins.now }
 {
     if !has_room(head) {
-        return Outcome::Broken;
+        return None;
     }
     let scratch_length = head.scratch;
     let origin_scratch_length = head.origin_scratch;
@@ -198,11 +186,11 @@ fn call(
     let lengths_length = head.out_lengths;
     let out_origins_length = head.out_origins;
     let mut scratch = marks();
-    let mut origin_scratch = origin_marks();
-    let mut order = whole_marks();
+    let mut origin_scratch = marks();
+    let mut order = marks();
     let mut out = marks();
-    let mut out_lengths = whole_marks();
-    let mut out_origins = origin_marks();
+    let mut out_lengths = marks();
+    let mut out_origins = marks();
     if agrees(
         code,
         head,
@@ -218,9 +206,9 @@ fn call(
         expected_lengths,
         expected_origins,
     ) {
-        return Outcome::Same(code);
+        return Some(Outcome::Same(code));
     }
-    Outcome::Differs
+    Some(Outcome::Differs)
 }
 
 fn wide(x: u32) -> usize
@@ -252,25 +240,19 @@ fn replay_expected<R: Read>(
     coords: &[f64],
     lengths: &[u32],
     expected_lengths: &[u32],
-) -> Outcome {
-    let Count::Is(written) = read_count(input) else {
-        return Outcome::Broken;
-    };
+) -> Option<Outcome> {
+    let written = read_count(input)?;
     if written > ROOM {
-        return Outcome::Broken;
+        return None;
     }
     let m = numbers_in(expected_lengths);
     if m > ROOM {
-        return Outcome::Broken;
+        return None;
     }
     let mut expected = [0.0f64; ROOM];
-    if !read_numbers(input, m, &mut expected) {
-        return Outcome::Broken;
-    }
+    read_numbers(input, m, &mut expected)?;
     let mut origins = [0u16; ROOM];
-    if !read_origins(input, m / 2, &mut origins) {
-        return Outcome::Broken;
-    }
+    read_numbers(input, m / 2, &mut origins)?;
     call(
         head,
         code,
@@ -288,55 +270,41 @@ fn replay_answer<R: Read>(
     head: SliceVector,
     coords: &[f64],
     lengths: &[u32],
-) -> Outcome {
-    let Code::Is(code) = read_code(input) else {
-        return Outcome::Broken;
-    };
+) -> Option<Outcome> {
+    let code = read_code(input)?;
     let k = rings_of(code);
     if k > MOST_RINGS {
-        return Outcome::Broken;
+        return None;
     }
     let mut expected_lengths = [0u32; MOST_RINGS];
-    if !read_wholes(input, k, &mut expected_lengths) {
-        return Outcome::Broken;
-    }
+    read_numbers(input, k, &mut expected_lengths)?;
     replay_expected(input, head, code, coords, lengths, &expected_lengths[..k])
 }
 
 // From the count of numbers on.
-fn replay_numbers<R: Read>(input: &mut R, head: SliceVector, lengths: &[u32]) -> Outcome {
-    let Count::Is(n) = read_count(input) else {
-        return Outcome::Broken;
-    };
-    let Count::Is(stored) = read_count(input) else {
-        return Outcome::Broken;
-    };
+fn replay_numbers<R: Read>(input: &mut R, head: SliceVector, lengths: &[u32]) -> Option<Outcome> {
+    let n = read_count(input)?;
+    let stored = read_count(input)?;
     if n > MOST_NUMBERS {
-        return Outcome::Broken;
+        return None;
     }
     let mut coords = no_numbers();
-    if !read_numbers(input, stored, &mut coords) {
-        return Outcome::Broken;
-    }
+    read_numbers(input, stored, &mut coords)?;
     replay_answer(input, head, &coords[..n], lengths)
 }
 
-fn replay_with<R: Read>(input: &mut R, head: SliceVector) -> Outcome {
+fn replay_with<R: Read>(input: &mut R, head: SliceVector) -> Option<Outcome> {
     let k = head.rings;
     if k > MOST_RINGS {
-        return Outcome::Broken;
+        return None;
     }
     let mut lengths = [0u32; MOST_RINGS];
-    if !read_wholes(input, k, &mut lengths) {
-        return Outcome::Broken;
-    }
+    read_numbers(input, k, &mut lengths)?;
     replay_numbers(input, head, &lengths[..k])
 }
 
-pub fn replay_slice<R: Read>(input: &mut R) -> Outcome {
+pub fn replay_slice<R: Read>(input: &mut R) -> Option<Outcome> {
     let mut bytes = [0u8; HEAD];
-    if !fill(input, &mut bytes) {
-        return Outcome::Broken;
-    }
+    fill(input, &mut bytes)?;
     replay_with(input, read_head(&bytes))
 }

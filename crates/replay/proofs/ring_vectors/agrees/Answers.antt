@@ -4,4 +4,4 @@ use Rattle.replay.proofs.ring_vectors.agrees.Goals as goal
 
 pub returns : goal.returns
 unfolding ring_agrees
-returns c = let e = c.ring-answer.ensures in rw (← e.answer, ← c.of_ring.ensures, ← e.lent) c.slices_agree.ensures
+returns c = let e = c.ring-answer.ensures in rw (← e.answer, ← c.of_ring.ensures, ← e.lent) c.all_agree.ensures

@@ -21,12 +21,12 @@ slice_bounds-agrees-end c =
 pub slice_bounds-origin_scratch-end : goal.slice_bounds-origin_scratch-end
 slice_bounds-origin_scratch-end c =
     let room = ring-fits c.args.head _ c.has_room.ensures c.if-not-has_room.false in
-    (origin-front _ _ c.origin_marks-origin_scratch.ensures room.origin-scratch).within
+    (origin-front _ _ c.marks-origin_scratch.ensures room.origin-scratch).within
 
 pub slice_bounds-agrees-end-2 : goal.slice_bounds-agrees-end-2
 slice_bounds-agrees-end-2 c =
     let room = ring-fits c.args.head _ c.has_room.ensures c.if-not-has_room.false in
-    (origin-front _ _ c.origin_marks-origin_scratch.ensures room.origin-scratch).here
+    (origin-front _ _ c.marks-origin_scratch.ensures room.origin-scratch).here
 
 pub slice_bounds-out-end : goal.slice_bounds-out-end
 slice_bounds-out-end c =
@@ -41,19 +41,19 @@ slice_bounds-agrees-end-3 c =
 pub slice_bounds-out_origins-end : goal.slice_bounds-out_origins-end
 slice_bounds-out_origins-end c =
     let room = ring-fits c.args.head _ c.has_room.ensures c.if-not-has_room.false in
-    (origin-front _ _ c.origin_marks-out_origins.ensures room.out_origins).within
+    (origin-front _ _ c.marks-out_origins.ensures room.out_origins).within
 
 pub slice_bounds-agrees-end-4 : goal.slice_bounds-agrees-end-4
 slice_bounds-agrees-end-4 c =
     let room = ring-fits c.args.head _ c.has_room.ensures c.if-not-has_room.false in
-    (origin-front _ _ c.origin_marks-out_origins.ensures room.out_origins).here
+    (origin-front _ _ c.marks-out_origins.ensures room.out_origins).here
 
 pub returns-then-agrees : goal.returns-then-agrees
 unfolding Calls.ring_outcome
 returns-then-agrees c =
     let room = ring-fits c.args.head _ c.has_room.ensures c.if-not-has_room.false in
     let lent = ring-slices-lent c.args.head room _ _ _ _
-    c.marks-scratch.ensures c.origin_marks-origin_scratch.ensures c.marks-out.ensures c.origin_marks-out_origins.ensures in
+    c.marks-scratch.ensures c.marks-origin_scratch.ensures c.marks-out.ensures c.marks-out_origins.ensures in
     rw (sym c.has_room.ensures ∙ c.if-not-has_room.false, ← lent, ← c.agrees.ensures, c.if-agrees.true)
 
 pub returns : goal.returns
@@ -61,5 +61,5 @@ unfolding Calls.ring_outcome
 returns c =
     let room = ring-fits c.args.head _ c.has_room.ensures c.if-not-has_room.false in
     let lent = ring-slices-lent c.args.head room _ _ _ _
-    c.marks-scratch.ensures c.origin_marks-origin_scratch.ensures c.marks-out.ensures c.origin_marks-out_origins.ensures in
+    c.marks-scratch.ensures c.marks-origin_scratch.ensures c.marks-out.ensures c.marks-out_origins.ensures in
     rw (sym c.has_room.ensures ∙ c.if-not-has_room.false, ← lent, ← c.agrees.ensures, c.if-agrees.false)

@@ -8,4 +8,4 @@ of_slice-requires c = slice_fits _ _ _ _ _ _ _ c.polygon-answer.ensures.answer
 
 pub returns : goal.returns
 unfolding slice_agrees
-returns c = let e = c.polygon-answer.ensures in rw (← e.answer, ← c.of_slice.ensures, ← e.lent) c.slices_agree.ensures
+returns c = let e = c.polygon-answer.ensures in rw (← e.answer, ← c.of_slice.ensures, ← e.lent) c.all_agree.ensures

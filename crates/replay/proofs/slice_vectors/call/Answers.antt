@@ -21,22 +21,22 @@ slice_bounds-agrees-end c =
 pub slice_bounds-origin_scratch-end : goal.slice_bounds-origin_scratch-end
 slice_bounds-origin_scratch-end c =
     let room = slice-fits c.args.head _ c.has_room.ensures c.if-not-has_room.false in
-    (origin-front _ _ c.origin_marks-origin_scratch.ensures room.origin-scratch).within
+    (origin-front _ _ c.marks-origin_scratch.ensures room.origin-scratch).within
 
 pub slice_bounds-agrees-end-2 : goal.slice_bounds-agrees-end-2
 slice_bounds-agrees-end-2 c =
     let room = slice-fits c.args.head _ c.has_room.ensures c.if-not-has_room.false in
-    (origin-front _ _ c.origin_marks-origin_scratch.ensures room.origin-scratch).here
+    (origin-front _ _ c.marks-origin_scratch.ensures room.origin-scratch).here
 
 pub slice_bounds-order-end : goal.slice_bounds-order-end
 slice_bounds-order-end c =
     let room = slice-fits c.args.head _ c.has_room.ensures c.if-not-has_room.false in
-    (whole-front _ _ c.whole_marks-order.ensures room.order).within
+    (whole-front _ _ c.marks-order.ensures room.order).within
 
 pub slice_bounds-agrees-end-3 : goal.slice_bounds-agrees-end-3
 slice_bounds-agrees-end-3 c =
     let room = slice-fits c.args.head _ c.has_room.ensures c.if-not-has_room.false in
-    (whole-front _ _ c.whole_marks-order.ensures room.order).here
+    (whole-front _ _ c.marks-order.ensures room.order).here
 
 pub slice_bounds-out-end : goal.slice_bounds-out-end
 slice_bounds-out-end c =
@@ -51,30 +51,30 @@ slice_bounds-agrees-end-4 c =
 pub slice_bounds-out_lengths-end : goal.slice_bounds-out_lengths-end
 slice_bounds-out_lengths-end c =
     let room = slice-fits c.args.head _ c.has_room.ensures c.if-not-has_room.false in
-    (whole-front _ _ c.whole_marks-out_lengths.ensures room.out_lengths).within
+    (whole-front _ _ c.marks-out_lengths.ensures room.out_lengths).within
 
 pub slice_bounds-agrees-end-5 : goal.slice_bounds-agrees-end-5
 slice_bounds-agrees-end-5 c =
     let room = slice-fits c.args.head _ c.has_room.ensures c.if-not-has_room.false in
-    (whole-front _ _ c.whole_marks-out_lengths.ensures room.out_lengths).here
+    (whole-front _ _ c.marks-out_lengths.ensures room.out_lengths).here
 
 pub slice_bounds-out_origins-end : goal.slice_bounds-out_origins-end
 slice_bounds-out_origins-end c =
     let room = slice-fits c.args.head _ c.has_room.ensures c.if-not-has_room.false in
-    (origin-front _ _ c.origin_marks-out_origins.ensures room.out_origins).within
+    (origin-front _ _ c.marks-out_origins.ensures room.out_origins).within
 
 pub slice_bounds-agrees-end-6 : goal.slice_bounds-agrees-end-6
 slice_bounds-agrees-end-6 c =
     let room = slice-fits c.args.head _ c.has_room.ensures c.if-not-has_room.false in
-    (origin-front _ _ c.origin_marks-out_origins.ensures room.out_origins).here
+    (origin-front _ _ c.marks-out_origins.ensures room.out_origins).here
 
 pub returns-then-agrees : goal.returns-then-agrees
 unfolding Calls.slice_outcome
 returns-then-agrees c =
     let room = slice-fits c.args.head _ c.has_room.ensures c.if-not-has_room.false in
     let lent = polygon-slices-lent c.args.head room _ _ _ _ _ _
-    c.marks-scratch.ensures c.origin_marks-origin_scratch.ensures c.whole_marks-order.ensures c.marks-out.ensures
-    c.whole_marks-out_lengths.ensures c.origin_marks-out_origins.ensures in
+    c.marks-scratch.ensures c.marks-origin_scratch.ensures c.marks-order.ensures c.marks-out.ensures
+    c.marks-out_lengths.ensures c.marks-out_origins.ensures in
     rw (sym c.has_room.ensures ∙ c.if-not-has_room.false, ← lent, ← c.agrees.ensures, c.if-agrees.true)
 
 pub returns : goal.returns
@@ -82,6 +82,6 @@ unfolding Calls.slice_outcome
 returns c =
     let room = slice-fits c.args.head _ c.has_room.ensures c.if-not-has_room.false in
     let lent = polygon-slices-lent c.args.head room _ _ _ _ _ _
-    c.marks-scratch.ensures c.origin_marks-origin_scratch.ensures c.whole_marks-order.ensures c.marks-out.ensures
-    c.whole_marks-out_lengths.ensures c.origin_marks-out_origins.ensures in
+    c.marks-scratch.ensures c.marks-origin_scratch.ensures c.marks-order.ensures c.marks-out.ensures
+    c.marks-out_lengths.ensures c.marks-out_origins.ensures in
     rw (sym c.has_room.ensures ∙ c.if-not-has_room.false, ← lent, ← c.agrees.ensures, c.if-agrees.false)

@@ -1,49 +1,16 @@
 -- `has_room` meets its contract. Assumes nothing.
-use borrow.Author.Tests.{le-leb, lt-leb}
+use mathlib.Core.Path.{◌≡◌}
+use mathlib.Core.List.{[], ◌∷◌}
+use borrow.Author.Rules.{rules}
+use lib.Dec.{leb}
+use Rattle.std.specs.List.{list_all}
+use Rattle.replay.specs.Lent.{most_lent}
 use Rattle.replay.specs.Calls.{slice_fits}
 use Rattle.replay.proofs.slice_vectors.has_room.Goals as goal
 
-pub returns-then-head-gt-ROOM : goal.returns-then-head-gt-ROOM
-unfolding slice_fits
-returns-then-head-gt-ROOM c = rw (lt-leb _ _ c.if-head-gt-ROOM.true)
-
-pub returns-then-head-gt-ROOM-2 : goal.returns-then-head-gt-ROOM-2
-unfolding slice_fits
-returns-then-head-gt-ROOM-2 c = rw (le-leb _ _ c.if-head-gt-ROOM.false, lt-leb _ _ c.if-head-gt-ROOM-2.true)
-
-pub returns-then-head-gt-ROOM-3 : goal.returns-then-head-gt-ROOM-3
-unfolding slice_fits
-returns-then-head-gt-ROOM-3 c = rw (
-  le-leb _ _ c.if-head-gt-ROOM.false,
-  le-leb _ _ c.if-head-gt-ROOM-2.false,
-  lt-leb _ _ c.if-head-gt-ROOM-3.true,
-)
-
-pub returns-then-head-gt-ROOM-4 : goal.returns-then-head-gt-ROOM-4
-unfolding slice_fits
-returns-then-head-gt-ROOM-4 c = rw (
-  le-leb _ _ c.if-head-gt-ROOM.false,
-  le-leb _ _ c.if-head-gt-ROOM-2.false,
-  le-leb _ _ c.if-head-gt-ROOM-3.false,
-  lt-leb _ _ c.if-head-gt-ROOM-4.true,
-)
-
-pub returns-then-head-gt-ROOM-5 : goal.returns-then-head-gt-ROOM-5
-unfolding slice_fits
-returns-then-head-gt-ROOM-5 c = rw (
-  le-leb _ _ c.if-head-gt-ROOM.false,
-  le-leb _ _ c.if-head-gt-ROOM-2.false,
-  le-leb _ _ c.if-head-gt-ROOM-3.false,
-  le-leb _ _ c.if-head-gt-ROOM-4.false,
-  lt-leb _ _ c.if-head-gt-ROOM-5.true,
-)
-
 pub returns : goal.returns
 unfolding slice_fits
-returns c = rw (
-  le-leb _ _ c.if-head-gt-ROOM.false,
-  le-leb _ _ c.if-head-gt-ROOM-2.false,
-  le-leb _ _ c.if-head-gt-ROOM-3.false,
-  le-leb _ _ c.if-head-gt-ROOM-4.false,
-  le-leb _ _ c.if-head-gt-ROOM-5.false,
-)
+returns c =
+    let h = c.args.head in
+    let all : c.all.result ≡ list_all (λ n. leb n most_lent) (h.scratch ∷ h.origin_scratch ∷ h.order ∷ h.out ∷ h.out_lengths ∷ h.out_origins ∷ []) = search rules in
+    all

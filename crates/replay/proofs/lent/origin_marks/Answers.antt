@@ -1,8 +1,0 @@
--- `origin_marks` meets its contract. Assumes nothing.
-use mathlib.Core.Path.{refl}
-use Rattle.replay.specs.Lent as Lent
-use Rattle.replay.proofs.lent.origin_marks.Goals as goal
-
-pub returns : goal.returns
-unfolding Lent.origin_marks
-returns c = refl
