@@ -1,11 +1,11 @@
 // Answers as they cross in the exported calls: an i64, here by its bits, so that minus a refusal's number is a number from the top.
-ghost use Rattle.std.specs.Prelude.{◌≡◌, ◌^◌, ◌<◌};
+ghost use Rattle.std.specs.Prelude.{◌≡◌, ◌^◌, ◌<◌, Err};
 ghost use Rattle.ring_calls.specs.RingCall.{ring_call_code};
 ghost use Rattle.slices.specs.SliceCall.{slice_call_code};
 ghost use Rattle.replay.specs.Code.{bits_of, is_refusal, ring_numbers, rings_written};
 
-use ring_calls::{Refusal, RingAnswer};
-use slices::call::{FIRST_PLACE, SliceAnswer, answer_code};
+use ring_calls::Refusal;
+use slices::call::{Answered, FIRST_PLACE, answer_code};
 
 // What becomes of a vector that is whole: its answer is given, or another one is.
 #[derive(Drop)]
@@ -24,7 +24,7 @@ pub fn is_refusal(code: u64) -> bool
 }
 
 fn of_refusal(refusal: Refusal) -> u64
-    ensures { result ≡ bits_of (ring_call_code (RingAnswer.Refused refusal)) }
+    ensures { result ≡ bits_of (ring_call_code (Err refusal)) }
 {
     match refusal {
         Refusal::Lengths => u64::MAX - 18,
@@ -34,12 +34,12 @@ fn of_refusal(refusal: Refusal) -> u64
     }
 }
 
-pub fn of_ring(answer: RingAnswer) -> u64
+pub fn of_ring(answer: Result<usize, Refusal>) -> u64
     ensures { result ≡ bits_of (ring_call_code answer) }
 {
     match answer {
-        RingAnswer::Refused(refusal) => of_refusal(refusal),
-        RingAnswer::Clipped(n) => n as u64,
+        Err(refusal) => of_refusal(refusal),
+        Ok(n) => n as u64,
     }
 }
 
@@ -53,13 +53,13 @@ pub fn numbers_of(code: u64) -> usize
     (2 * code) as usize
 }
 
-pub fn of_slice(answer: SliceAnswer) -> u64
+pub fn of_slice(answer: Result<Answered, Refusal>) -> u64
     requires { bits_of (slice_call_code answer) < 2 ^ 64 }
     ensures { result ≡ bits_of (slice_call_code answer) }
 {
     match answer {
-        SliceAnswer::Refused(refusal) => of_refusal(refusal),
-        SliceAnswer::Answered(polygon, guards) => answer_code(polygon),
+        Err(refusal) => of_refusal(refusal),
+        Ok(answered) => answer_code(answered.answer),
     }
 }
 
