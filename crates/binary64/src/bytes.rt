@@ -5,7 +5,7 @@ ghost use Rattle.std.specs.Float.{binary64};
 ghost use Rattle.std.specs.Float.Ieee.{of_bits, to_bits};
 ghost use Rattle.binary64.specs.Bytes as Bytes;
 
-// The number of N bytes. For any N it becomes one load; that is not proved.
+// The number of N bytes. Of 2, 4 or 8 it becomes one load; that is not proved.
 pub fn read_number<const N: usize>(b: &[u8], at: usize) -> u64
     requires { (at + N ≤ length b.now) × (N ≤ 8) }
     ensures { (result ≡ Bytes.number_of Bytes.Little (take N (drop at b.now))) × (result < 2 ^ (8 * N)) }

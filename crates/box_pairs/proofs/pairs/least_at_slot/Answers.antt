@@ -26,7 +26,7 @@ sweeps : (c : After-maximum-end)
     (edges_cross (ring_of c.args.ring.now c.args.edges))
 sweeps c =
     edge_sweeps c.args.ring.now c.args.edges c.requires.has_edges.0
-    (λ i. c.shared_slice_known-1.given i)
+    c.type_inv.ring
 
 -- the test that breaks the loop off
 stop-test : (c : After-maximum-end) (q : ℕ)

@@ -20,7 +20,7 @@ ring_of ring edges = front ring (edges + 1)
 pub returns : goal.returns
 returns c = let l = c.loop-p in
     let sweeps = edge_sweeps c.args.ring.now c.args.edges c.requires.has_edges.0
-    (λ i. c.shared_slice_known-1.given i) in c.pair_of.ensures
+    c.type_inv.ring in c.pair_of.ensures
     ∙ rows_done (λ i. key (low_x (ring_of c.args.ring.now c.args.edges) i)) c.args.edges (stops (ring_of c.args.ring.now c.args.edges)) (edges_cross (ring_of c.args.ring.now c.args.edges)) sweeps
     c.args.order.now c.requires.swept.positions c.requires.swept.sorted
     l.p l.best c.requires.has_edges.2 c.loop-p-test.false l.invariant

@@ -26,7 +26,7 @@ sweeps : (c : At-pairs)
     (stops (ring_of c.args.ring.now c.args.edges))
     (edges_cross (ring_of c.args.ring.now c.args.edges))
 sweeps c =
-    edge_sweeps c.args.ring.now c.args.edges c.requires.has_edges.0 (λ i. c.shared_slice_known-1.given i)
+    edge_sweeps c.args.ring.now c.args.edges c.requires.has_edges.0 c.type_inv.ring
 
 -- the verdict on the positions in the slots p and q
 verdict : (c : At-loop-q) (q : ℕ)
