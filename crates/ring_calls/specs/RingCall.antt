@@ -1,6 +1,7 @@
 -- The ring call (document 01, "Frames", amended by document 02, Points 4 and 12): what it answers, and what each lent slice holds
 -- afterwards. Definitions only.
-use Rattle.std.specs.Prelude.{Bool, true, false, ◌||◌, List, ℕ, Result, Ok, Err, ◌*◌, ◌/◌, ◌%◌, ltb, eqb, Float, ℤ, pos, neg_ℤ, length, take, replicate}
+use Rattle.std.specs.Prelude.{Bool, true, false, ◌||◌, List, ℕ, ◌*◌, ◌/◌, ◌%◌, ltb, eqb, Float, ℤ, pos, neg_ℤ, length, take, replicate}
+use Rattle.std.specs.Prelude.{Result, Ok, Err}
 use Rattle.binary64.specs.Slices.{zeros, plus_zero, padded}
 use Rattle.tile.specs.declared.Coord.{Coord}
 use Rattle.tile.specs.declared.TileBounds.{TileBounds}
