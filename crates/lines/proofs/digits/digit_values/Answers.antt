@@ -20,4 +20,4 @@ right k x = eqb x (digit k)
 
 pub invariant_of-result : goal.invariant_of-result
 unfolding values right digit
-invariant_of-result c = record { known = λ b h. eqb→eq (get_or values b 0) (digit b) (at right values tt b h); }
+invariant_of-result c = record { known = λ b h. eqb→eq (get_or values b 0) (digit b) (at right values tt b h) }

@@ -4,4 +4,3 @@ use Rattle.lines.proofs.digits.to_hex.Given as goal
 
 abbrev pub invariant-loop-k : goal.invariant-loop-k
 invariant-loop-k l = Hexed l.initial.out l.count l.k l.out
-

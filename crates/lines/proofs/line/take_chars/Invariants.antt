@@ -6,4 +6,3 @@ use Rattle.lines.proofs.line.take_chars.Given as goal
 
 abbrev pub invariant-loop-at : goal.invariant-loop-at
 invariant-loop-at l = (length l.kept ≡ length l.initial.kept) × ReadsOn l.block l.from (state_of l.initial.reached l.initial.kept) l.at (state_of l.reached l.kept)
-
