@@ -10,41 +10,60 @@ use lib.Dec.{T, lit<}
 use lib.Ieee.{Float, nan, binary64, fits, to_bits}
 use lib.Ieee.Bits.{of_bits-to_bits, to_bits-lt}
 use Rattle.std.proofs.Math.Pow.{pow_mono}
-use Rattle.std.proofs.Common.{◌-◌, ◌%◌, pow-add}
-use lib.ListN.{length, take, drop, get_or, set}
-use lib.Seq.{sets, drop-cons}
+use Rattle.std.proofs.Common.{◌%◌, pow-add, mul_assoc, mul_comm, mul-le-mul_right}
+use Rattle.std.proofs.Math.Nat.{mod-eq_of_lt}
+use lib.ListN.{length, take, drop, get_or, set, length-drop}
+use lib.Seq.{sets, drop-cons, take-suc, length-take-le, get_or-drop}
 use Rattle.binary64.specs.Bytes.{Order, Little, Big, from_low, to_low, number_of, bytes_of, double, double_bytes}
 
 -- ---- reading
 
--- the bytes from place i up to place N of a number at `at`, of which the highest are read first
-pub record Reading (l : List ℕ) (at N i n : ℕ) : Type 0 where
-  pub here : n ≡ from_low (take (N - i) (drop (at + i) l))
-  pub below : n < 2 ^ (8 * (N - i))
+-- the i lowest bytes of a number at `at`
+pub record Reading (l : List ℕ) (at i n : ℕ) : Type 0 where
+  pub here : n ≡ from_low (take i (drop at l))
+  pub below : n < 2 ^ (8 * i)
 
-pub read_start : (l : List ℕ) (at N : ℕ) → Reading l at N N 0
+pub read_start : (l : List ℕ) (at : ℕ) → Reading l at 0 0
 unfolding from_low
-read_start l at N = let z : N - N ≡ 0 = omega arith in record { here = rw z; below = rw z (omega arith) }
+read_start l at = record { here = refl; below = omega arith }
 
--- one byte more fits
-pub read_fits : (l : List ℕ) (at N i n x : ℕ) → N ≤ 8 → 0 < i → i ≤ N → x < 256 → Reading l at N i n → 256 * n + x < 2 ^ 64
-read_fits l at N i n x few some inside byte r =
-    let p : 2 ^ (8 * (N - i)) ≤ 2 ^ 56 = pow_mono {i = 8 * (N - i)} {j = 56} (omega arith) in
-    omega (arith, r.below)
-
-pub read_step : (l : List ℕ) (at N i n : ℕ) → at + N ≤ length l → 0 < i → i ≤ N → get_or l (at + (i - 1)) 0 < 256
-    → Reading l at N i n → Reading l at N (i - 1) (256 * n + get_or l (at + (i - 1)) 0)
+from_low-append : (a : List ℕ) (x : ℕ) → from_low (a ++ (x ∷ [])) ≡ from_low a + 2 ^ (8 * length a) * x
 unfolding from_low
-read_step l at N i n room some inside byte r =
-    let k : N - (i - 1) ≡ suc (N - i) = omega arith in
-    let j : suc (at + (i - 1)) ≡ at + i = omega arith in
+from_low-append [] x = omega arith
+from_low-append (y ∷ a) x =
+    let e : 8 * suc (length a) ≡ 8 + 8 * length a = omega arith in
+    rw (e, pow-add 2 8 (8 * length a)) (omega (arith, from_low-append a x, mul_assoc (2 ^ 8) (2 ^ (8 * length a)) x))
+
+-- one byte more, and the number fits
+pub read_step : (l : List ℕ) (at i n : ℕ) → at + i < length l → get_or l (at + i) 0 < 256 → Reading l at i n
+    → Reading l at (i + 1) (n + get_or l (at + i) 0 * 2 ^ (8 * i))
+read_step l at i n room byte r =
+    let x = get_or l (at + i) 0 in
+    let h : i < length (drop at l) = omega (arith, length-drop at l) in
+    let m : length (take i (drop at l)) ≡ i = length-take-le i (drop at l) (omega arith) in
+    let t : take (i + 1) (drop at l) ≡ take i (drop at l) ++ (x ∷ []) = rw (add-one, ← get_or-drop at l i 0) (take-suc (drop at l) i 0 h) in
+    let a = from_low-append (take i (drop at l)) x in
     record {
-      here = rw (k, drop-cons l (at + (i - 1)) 0 (omega arith), j, ← r.here) (omega arith);
+      here = rw (t, a, m, ← r.here, mul_comm x (2 ^ (8 * i))) refl;
       below =
-          let e : 8 * (N - (i - 1)) ≡ 8 + 8 * (N - i) = omega arith in
-          let p : 2 ^ (8 + 8 * (N - i)) ≡ 2 ^ 8 * 2 ^ (8 * (N - i)) = pow-add 2 8 (8 * (N - i)) in
-          rw (e, p) (omega (arith, r.below));
+          let e : 8 * (i + 1) ≡ 8 + 8 * i = omega arith in
+          let q : x * 2 ^ (8 * i) ≤ 255 * 2 ^ (8 * i) = mul-le-mul_right (2 ^ (8 * i)) (omega arith) in
+          rw (e, pow-add 2 8 (8 * i)) (omega (arith, r.below));
     }
+
+-- a byte that is shifted keeps its bits
+pub shifted : (x i : ℕ) → x < 256 → i < 8 → x * 2 ^ (8 * i) % 2 ^ 64 ≡ x * 2 ^ (8 * i)
+shifted x i byte few =
+    let p : 2 ^ (8 * i) ≤ 2 ^ 56 = pow_mono {i = 8 * i} {j = 56} (omega arith) in
+    let q : x * 2 ^ (8 * i) ≤ 255 * 2 ^ (8 * i) = mul-le-mul_right (2 ^ (8 * i)) (omega arith) in
+    mod-eq_of_lt (omega arith)
+
+-- with one byte more it is below 2^64
+pub read_fits : (l : List ℕ) (at i n x : ℕ) → x < 256 → i < 8 → Reading l at i n → n + x * 2 ^ (8 * i) < 2 ^ 64
+read_fits l at i n x byte few r =
+    let p : 2 ^ (8 * i) ≤ 2 ^ 56 = pow_mono {i = 8 * i} {j = 56} (omega arith) in
+    let q : x * 2 ^ (8 * i) ≤ 255 * 2 ^ (8 * i) = mul-le-mul_right (2 ^ (8 * i)) (omega arith) in
+    omega (arith, r.below)
 
 -- ---- writing
 

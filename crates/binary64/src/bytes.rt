@@ -11,8 +11,8 @@ pub fn read_number<const N: usize>(b: &[u8], at: usize) -> u64
     ensures { (result ≡ Bytes.number_of Bytes.Little (take N (drop at b.now))) × (result < 2 ^ (8 * N)) }
 {
     let mut n = 0u64;
-    for i in (0..N).rev() {
-        n = 256 * n + b[at + i] as u64;
+    for i in 0..N {
+        n += (b[at + i] as u64) << (8 * i);
     }
     n
 }
