@@ -27,7 +27,7 @@ use Rattle.box_pairs.specs.Internal.{repeated, self_intersecting}
 use Rattle.box_pairs.specs.Pairs.{first_pair}
 use Rattle.box_pairs.specs.Issue.{repeated_from, first_repeated, crossing_at, crossing_of, repeated_or, issue_of, has_issue}
 use Rattle.box_pairs.proofs.First.{is_pair}
-use Rattle.box_pairs.proofs.Edges.{crossing_first, pair_below}
+use Rattle.box_pairs.proofs.EdgeLaws.{crossing_first, pair_below}
 
 -- ---- neighbours
 

@@ -1,7 +1,7 @@
 mod Cases
 mod FloatCrossing
 mod Crossing
-mod Edges
+mod EdgeLaws
 mod First
 mod Issues
 mod Loops

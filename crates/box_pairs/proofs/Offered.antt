@@ -15,7 +15,7 @@ use Rattle.box_pairs.specs.Cross.{degenerate}
 use Rattle.box_pairs.specs.Pairs.{first_pair}
 use Rattle.box_pairs.specs.Internal.{repeated}
 use Rattle.box_pairs.specs.Issue.{first_repeated, issue_of, has_issue}
-use Rattle.box_pairs.proofs.Edges as edges
+use Rattle.box_pairs.proofs.EdgeLaws as edges
 use Rattle.box_pairs.proofs.Issues as issues
 
 -- ---- neighbours that repeat

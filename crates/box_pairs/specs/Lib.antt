@@ -2,3 +2,4 @@ pub mod Cross
 pub mod Pairs
 pub mod Issue
 pub mod Internal
+pub mod Edges

@@ -1,5 +1,5 @@
 // Predicates and sweep: which two edges of a ring cross, and what is wrong with an exterior.
-// `cross` tests two edges, `pairs` finds the first pair of edges that cross, `merge` sorts the edges for the sweep.
+// `cross` tests two edges, `edges` are those of a ring, `pairs` finds the first pair of them that cross, `merge` sorts them for the sweep.
 #![tactic(auto)]
 
 ghost use Rattle.std.specs.Prelude.{◌≡◌, ◌*◌, ◌-◌, ◌<◌, ◌≤◌, ◌^◌, length};
@@ -9,6 +9,7 @@ ghost use Rattle.box_pairs.specs.Issue.{first_repeated, crossing_of, issue_of, h
 use tile::ring::coord_at;
 
 pub mod cross;
+pub mod edges;
 pub mod merge;
 pub mod pairs;
 

@@ -2,13 +2,12 @@
 // sweep over the edges by their lowest x, which is walked on for the least pair only where it comes upon a crossing.
 ghost use Rattle.std.specs.Prelude.{◌≡◌, ◌+◌, ◌*◌, ◌-◌, ◌<◌, ◌≤◌, ◌^◌, length, is_some, IfSome, unwrap_or};
 ghost use Rattle.box_pairs.specs.Internal as Internal;
-ghost use Rattle.box_pairs.specs.Internal.{front, HasEdges, Swept, IssueRoom, Unused};
+ghost use Rattle.box_pairs.specs.Internal.{front, SortRoom, Swept, IssueRoom, Unused};
+ghost use Rattle.box_pairs.specs.Edges.{ring_of};
 ghost use Rattle.box_pairs.specs.Pairs.{edges_cross, first_pair};
 
-use super::cross::{crosses, is_apart};
+use super::edges::Edges;
 use super::merge::sort;
-use binary64::compare::{maximum, minimum};
-use tile::ring::coord_at;
 
 // Two edges that cross, by their numbers.
 #[derive(Clone, Copy)]
@@ -31,41 +30,16 @@ const NO_PAIR: u64 = u64::MAX;
 // rows of these edges.
 const FEW_ROWS: u64 = 4 * PAIR_BASE;
 
-// Whether the boxes of the edges i and j may meet in y. It is kept small so that it can be inlined into the loops; that is not proved.
-fn may_meet_in_y(ring: &[f64], i: usize, j: usize) -> bool
-    requires { (2 * i + 3 < length ring.now) × (2 * j + 3 < length ring.now) }
-    ensures { result ≡ Internal.may_meet_in_y ring.now i j }
-{
-    let a1 = coord_at(ring, i);
-    let a2 = coord_at(ring, i + 1);
-    let b1 = coord_at(ring, j);
-    let b2 = coord_at(ring, j + 1);
-    !is_apart(a1.y, a2.y, b1.y, b2.y)
-}
-
-// Whether the edges i and j cross.
-pub fn edges_cross(ring: &[f64], i: usize, j: usize) -> bool
-    requires { (2 * i + 3 < length ring.now) × (2 * j + 3 < length ring.now) }
-    ensures { result ≡ Internal.edges_at ring.now i j }
-{
-    let a1 = coord_at(ring, i);
-    let a2 = coord_at(ring, i + 1);
-    let b1 = coord_at(ring, j);
-    let b2 = coord_at(ring, j + 1);
-    crosses(a1, a2, b1, b2)
-}
-
-// The first two of the first `edges` edges that cross, by a look at all pairs.
-pub fn scan_pairs(ring: &[f64], edges: usize) -> Option<Pair>
-    requires { HasEdges edges ring.now × (edges < 2 ^ 32) }
-    ensures { result ≡ first_pair (front ring.now (edges + 1)) }
+// The first two of the edges that cross, by a look at all pairs.
+pub fn scan_pairs(edges: &Edges) -> Option<Pair>
+    ensures { result ≡ first_pair (ring_of edges.now) }
 {
     let mut first = None;
-    'pairs: for i in 0..edges {
-        for j in i + 1..edges {
-            // `edges_cross` repeats this test of y: for speed, as most pairs end at the inlined test.
-            if may_meet_in_y(ring, i, j) {
-                if edges_cross(ring, i, j) {
+    'pairs: for i in 0..edges.count {
+        for j in i + 1..edges.count {
+            // `crosses` repeats this test of y: for speed, as most pairs end at the inlined test.
+            if edges.may_meet_in_y(i, j) {
+                if edges.crosses(i, j) {
                     first = Some(Pair {
                         lower: i as u32,
                         higher: j as u32,
@@ -78,43 +52,39 @@ pub fn scan_pairs(ring: &[f64], edges: usize) -> Option<Pair>
     first
 }
 
-// Notes the lowest x of each of the first `edges` edges.
-fn note_lows(ring: &[f64], work: &mut [f64], edges: usize)
-    requires { HasEdges edges ring.now × (edges ≤ length work.old) }
-    ensures { Internal.Noted edges (front ring.now (edges + 1)) work.old work.new }
+// Notes the lowest x of each edge.
+fn note_lows(edges: &Edges, work: &mut [f64])
+    requires { edges.now.count ≤ length work.old }
+    ensures { Internal.Noted edges.now.count (ring_of edges.now) work.old work.new }
 {
-    for i in 0..edges {
-        let p = coord_at(ring, i);
-        let q = coord_at(ring, i + 1);
-        work[i] = minimum(p.x, q.x);
+    for i in 0..edges.count {
+        work[i] = edges.low_x(i);
     }
 }
 
-// A slot before which no edge crosses one in a later slot, or None exactly where no two edges cross: by a sweep over the first `edges`
-// edges in the order of their lowest x, which stand in `lows`, as far as a pair that crosses. Past the first edge that starts beyond an
-// edge's end no other meets it.
-fn sweep_sorted(ring: &[f64], lows: &[f64], order: &[u32], edges: usize) -> Option<usize>
-    requires has_edges { HasEdges edges ring.now × (edges ≤ length lows.now) }
-    requires swept { Swept edges (front ring.now (edges + 1)) lows.now order.now }
-    ensures verdict { is_some result ≡ Internal.self_intersecting (front ring.now (edges + 1)) }
-    ensures inside { IfSome result (λ slot. slot < edges) }
-    ensures passed { Internal.Passed (Internal.at_slots (edges_cross (front ring.now (edges + 1))) order.now)
-        edges (unwrap_or result edges) }
+// A slot before which no edge crosses one in a later slot, or None exactly where no two edges cross: by a sweep over the edges in the
+// order of their lowest x, which stand in `lows`, as far as a pair that crosses. Past the first edge that starts beyond an edge's end no
+// other meets it.
+fn sweep_sorted(edges: &Edges, lows: &[f64], order: &[u32]) -> Option<usize>
+    requires lows { edges.now.count ≤ length lows.now }
+    requires swept { Swept edges.now.count (ring_of edges.now) lows.now order.now }
+    ensures verdict { is_some result ≡ Internal.self_intersecting (ring_of edges.now) }
+    ensures inside { IfSome result (λ slot. slot < edges.now.count) }
+    ensures passed { Internal.Passed (Internal.at_slots (edges_cross (ring_of edges.now)) order.now)
+        edges.now.count (unwrap_or result edges.now.count) }
 {
     let mut hit = None;
-    'pairs: for p in 0..edges {
+    'pairs: for p in 0..edges.count {
         let i = order[p] as usize;
-        let a1 = coord_at(ring, i);
-        let a2 = coord_at(ring, i + 1);
-        let high = maximum(a1.x, a2.x);
-        for q in p + 1..edges {
+        let high = edges.high_x(i);
+        for q in p + 1..edges.count {
             let j = order[q] as usize;
             if lows[j] > high {
                 break;
             }
             // for speed, as in `scan_pairs`
-            if may_meet_in_y(ring, i, j) {
-                if edges_cross(ring, i, j) {
+            if edges.may_meet_in_y(i, j) {
+                if edges.crosses(i, j) {
                     hit = Some(p);
                     break 'pairs;
                 }
@@ -149,15 +119,14 @@ fn pair_of(number: u64) -> Option<Pair>
 
 // The number of the edges i and j if they cross and it is below `best`, else `best`. Once a crossing is known, most pairs end at the first
 // test, which reads no coordinate.
-fn lesser(ring: &[f64], i: usize, j: usize, best: u64) -> u64
-    requires edges_in_bounds { (2 * i + 3 < length ring.now) × (2 * j + 3 < length ring.now) }
-    requires small_edges { (i < 2 ^ 32) × (j < 2 ^ 32) }
-    ensures { result ≡ Internal.lesser ring.now i j best }
+fn lesser(edges: &Edges, i: usize, j: usize, best: u64) -> u64
+    requires { (i < edges.now.count) × (j < edges.now.count) }
+    ensures { result ≡ Internal.lesser edges.now.ring.now i j best }
 {
     let number = pair_number(i, j);
     if number < best {
-        if may_meet_in_y(ring, i, j) {
-            if edges_cross(ring, i, j) {
+        if edges.may_meet_in_y(i, j) {
+            if edges.crosses(i, j) {
                 return number;
             }
         }
@@ -166,63 +135,56 @@ fn lesser(ring: &[f64], i: usize, j: usize, best: u64) -> u64
 }
 
 // The least of `best` and the numbers of the pairs that cross, of the edge in slot p with those in later slots, by the sweep's order.
-fn least_at_slot(
-    ring: &[f64],
-    lows: &[f64],
-    order: &[u32],
-    edges: usize,
-    p: usize,
-    best: u64,
-) -> u64
-    requires has_edges { HasEdges edges ring.now × (edges ≤ length lows.now) × (edges < 2 ^ 32) × (p < edges) }
-    requires swept { Swept edges (front ring.now (edges + 1)) lows.now order.now }
-    requires least_before { Internal.LeastBefore (edges_cross (front ring.now (edges + 1))) order.now edges p best }
-    ensures { Internal.LeastBefore (edges_cross (front ring.now (edges + 1))) order.now edges (p + 1) result }
+fn least_at_slot(edges: &Edges, lows: &[f64], order: &[u32], p: usize, best: u64) -> u64
+    requires lows { edges.now.count ≤ length lows.now }
+    requires slot { p < edges.now.count }
+    requires swept { Swept edges.now.count (ring_of edges.now) lows.now order.now }
+    requires least_before { Internal.LeastBefore (edges_cross (ring_of edges.now)) order.now edges.now.count p best }
+    ensures { Internal.LeastBefore (edges_cross (ring_of edges.now)) order.now edges.now.count (p + 1) result }
 {
     let i = order[p] as usize;
-    let a1 = coord_at(ring, i);
-    let a2 = coord_at(ring, i + 1);
-    let end = maximum(a1.x, a2.x);
+    let end = edges.high_x(i);
     let mut least = best;
-    for q in p + 1..edges {
+    for q in p + 1..edges.count {
         let j = order[q] as usize;
         if lows[j] > end {
             break;
         }
-        least = lesser(ring, i, j, least);
+        least = lesser(edges, i, j, least);
     }
     least
 }
 
-// The first two of the first `edges` edges that cross, none of those in the slots before `from` crossing one in a later slot. The sweep
-// goes on from there past the pairs that cross and keeps the least, unless that is early enough to be left to a scan.
-fn least_pair(ring: &[f64], lows: &[f64], order: &[u32], edges: usize, from: usize) -> Option<Pair>
-    requires has_edges { HasEdges edges ring.now × (edges ≤ length lows.now) × (edges < 2 ^ 32) }
-    requires swept { Swept edges (front ring.now (edges + 1)) lows.now order.now }
-    requires passed { Internal.Passed (Internal.at_slots (edges_cross (front ring.now (edges + 1))) order.now) edges from }
-    ensures { result ≡ first_pair (front ring.now (edges + 1)) }
+// The first two of the edges that cross, none of those in the slots before `from` crossing one in a later slot. The sweep goes on from
+// there past the pairs that cross and keeps the least, unless that is early enough to be left to a scan.
+fn least_pair(edges: &Edges, lows: &[f64], order: &[u32], from: usize) -> Option<Pair>
+    requires lows { edges.now.count ≤ length lows.now }
+    requires swept { Swept edges.now.count (ring_of edges.now) lows.now order.now }
+    requires passed { Internal.Passed (Internal.at_slots (edges_cross (ring_of edges.now)) order.now)
+        edges.now.count from }
+    ensures { result ≡ first_pair (ring_of edges.now) }
 {
     let mut best = NO_PAIR;
-    for p in from..edges {
-        best = least_at_slot(ring, lows, order, edges, p, best);
+    for p in from..edges.count {
+        best = least_at_slot(edges, lows, order, p, best);
         if best < FEW_ROWS {
-            return scan_pairs(ring, edges);
+            return scan_pairs(edges);
         }
     }
     pair_of(best)
 }
 
-// The first two of the first `edges` edges that cross, by a sweep.
-pub fn sweep_pairs(ring: &[f64], edges: usize, work: &mut [f64], order: &mut [u32]) -> Option<Pair>
-    requires { IssueRoom (edges + 1) ring.now work.old order.old }
-    ensures value { result ≡ first_pair (front ring.now (edges + 1)) }
-    ensures unused { Unused (edges + 1) work.old order.old work.new order.new }
-    ensures swept { Swept edges (front ring.now (edges + 1)) work.new order.new }
+// The first two of the edges that cross, by a sweep.
+pub fn sweep_pairs(edges: &Edges, work: &mut [f64], order: &mut [u32]) -> Option<Pair>
+    requires { SortRoom (edges.now.count + 1) work.old order.old }
+    ensures value { result ≡ first_pair (ring_of edges.now) }
+    ensures unused { Unused (edges.now.count + 1) work.old order.old work.new order.new }
+    ensures swept { Swept edges.now.count (ring_of edges.now) work.new order.new }
 {
-    note_lows(ring, work, edges);
-    sort(work, order, edges);
-    if let Some(slot) = sweep_sorted(ring, work, order, edges) {
-        return least_pair(ring, work, order, edges, slot);
+    note_lows(edges, work);
+    sort(work, order, edges.count);
+    if let Some(slot) = sweep_sorted(edges, work, order) {
+        return least_pair(edges, work, order, slot);
     }
     None
 }
@@ -234,18 +196,18 @@ fn is_scanned(edges: usize) -> bool
     edges <= SCAN_LIMIT
 }
 
-// The first two of the first `edges` edges that cross.
-fn first_edge_pair(ring: &[f64], edges: usize, work: &mut [f64], order: &mut [u32]) -> Option<Pair>
-    requires { IssueRoom (edges + 1) ring.now work.old order.old }
-    ensures value { result ≡ first_pair (front ring.now (edges + 1)) }
-    ensures unused { Unused (edges + 1) work.old order.old work.new order.new }
-    ensures scanned_or_swept { Internal.ScannedOrSwept edges (front ring.now (edges + 1)) work.old order.old
+// The first two of the edges that cross.
+fn first_edge_pair(edges: &Edges, work: &mut [f64], order: &mut [u32]) -> Option<Pair>
+    requires { SortRoom (edges.now.count + 1) work.old order.old }
+    ensures value { result ≡ first_pair (ring_of edges.now) }
+    ensures unused { Unused (edges.now.count + 1) work.old order.old work.new order.new }
+    ensures scanned_or_swept { Internal.ScannedOrSwept edges.now.count (ring_of edges.now) work.old order.old
         work.new order.new }
 {
-    if is_scanned(edges) {
-        return scan_pairs(ring, edges);
+    if is_scanned(edges.count) {
+        return scan_pairs(edges);
     }
-    sweep_pairs(ring, edges, work, order)
+    sweep_pairs(edges, work, order)
 }
 
 // The first two edges of the ring of n coordinates that cross.
@@ -259,5 +221,6 @@ pub fn first_pair(ring: &[f64], n: usize, work: &mut [f64], order: &mut [u32]) -
     if n == 0 {
         return None;
     }
-    first_edge_pair(ring, n - 1, work, order)
+    let edges = Edges { ring, count: n - 1 };
+    first_edge_pair(&edges, work, order)
 }

@@ -3,14 +3,12 @@ use Rattle.std.proofs.Common.{◌≡◌, ℕ, ◌+◌, ◌-◌, ◌^◌, ◌≤�
 use mathlib.Core.Bool.{and_comm, and-false}
 use lib.Ieee.{Float}
 use Rattle.binary64.specs.Scaled.{sign}
-use Rattle.binary64.proofs.Booleans.{both}
 use Rattle.tile.specs.declared.Coord.{Coord}
 use Rattle.std.specs.Prelude.{Some, None}
 use Rattle.std.proofs.lemmas.Option.{cond_some}
-use Rattle.exact.specs.declared.segments.Point.{Point}
-use Rattle.exact.specs.Segments.{Decides, shares_point}
+use Rattle.exact.specs.Segments.{Point, Decides, shares_point}
 use Rattle.exact.specs.Grid.{on_grid, grid_steps, from_lowest, point_of, coord_on_grid, all_on_grid, MaySharePoint, may_share_point}
-use Rattle.exact.specs.Internal.{Bounded, grid_number_of, grid_point_of}
+use Rattle.exact.specs.Internal.{grid_number_of, grid_point_of}
 use Rattle.exact.proofs.GridLaws.{none_told, steps-small}
 use Rattle.exact.proofs.SegmentLaws.{shares_decided, shares_other_first, shares_other_way}
 
@@ -50,12 +48,12 @@ whole-small x h = go (sign x) (grid_steps x) (steps-small x h)
     go true n l = omega arith
     go false n l = omega arith
 
-pub at_bounded : (p : Coord) (q : Point) → grid_point_of p ≡ Some q → Bounded q
-unfolding coord_on_grid point_of
-at_bounded p q e =
-    let k = at_told p q e in
-    let o = both (on_grid p.x) (on_grid p.y) k.0 in
-    subst (λ (v : Point). Bounded v) k.1 (record { x_bound = whole-small p.x o.0; y_bound = whole-small p.y o.1 })
+-- the numbers that `grid_number_of` answers are at most as large as those of the grid
+pub number_bounded : (x : Float) (n : ℕ) → grid_number_of x ≡ Some n → n ≤ 2 ^ 57
+unfolding grid_number_of
+number_bounded x n e =
+    let k = cond_some (on_grid x) (from_lowest x) n e in
+    subst (λ (m : ℕ). m ≤ 2 ^ 57) k.1 (whole-small x k.0)
 
 -- ---- it is the same whichever segment comes first, and whichever way each is gone
 

@@ -5,8 +5,7 @@ use mathlib.Mathlib.Data.Bool.Basic.{eq-false_of_not-eq-true}
 use native.Mathlib.Decide.{ℕ_discrete, dec_lt}
 use borrow.Author.Tests.{not-true}
 use Rattle.binary64.proofs.Booleans.{both, neither, never_both}
-use Rattle.exact.specs.declared.segments.Point.{Point}
-use Rattle.exact.specs.Segments.{SharedPoint, Decides, shoelace, is_left, both_left, one_side, ranges_apart, boxes_apart, shares_point}
+use Rattle.exact.specs.Segments.{Point, SharedPoint, Decides, shoelace, is_left, both_left, one_side, ranges_apart, boxes_apart, shares_point}
 
 -- ---- the same point, said of the segments in another order
 

@@ -1,9 +1,8 @@
 -- The side of a line that a point lies on, and what it says of two points. Assumes nothing.
 use Rattle.std.proofs.Common.{◌≡◌, ℕ, Bool, true, false, cond, ltb, sym, refl, arith, ltb-true, le-ltb}
 use mathlib.Core.Bool.{or-false}
-use Rattle.exact.specs.declared.segments.Point.{Point}
 use Rattle.exact.specs.declared.segments.Side.TheVariants.{Left, On, Right}
-use Rattle.exact.specs.Segments.{shoelace, is_left, both_left, one_side}
+use Rattle.exact.specs.Segments.{Point, shoelace, is_left, both_left, one_side}
 use Rattle.exact.specs.Internal.{side_of}
 
 -- ---- the ways out of `side_of`

@@ -5,8 +5,7 @@ use Rattle.std.specs.Float.{nan, inf, fin}
 use Rattle.std.specs.Float.Ieee.{up, down}
 use Rattle.binary64.specs.Scaled.{sign}
 use Rattle.tile.specs.declared.Coord.{Coord}
-use Rattle.exact.specs.declared.segments.Point.{Point}
-use Rattle.exact.specs.Segments.{SharedPoint, shares_point}
+use Rattle.exact.specs.Segments.{Point, SharedPoint, shares_point}
 
 -- ---- the grid
 

@@ -1,11 +1,10 @@
 -- What the functions of this crate say to each other. No contract of an entry point reaches it. Definitions only.
 use Rattle.std.specs.Prelude.{ℕ, ◌+◌, ◌*◌, ◌^◌, ◌<◌, ◌≤◌, cond, Float, Option, Some, None}
 use Rattle.tile.specs.declared.Coord.{Coord}
-use Rattle.exact.specs.declared.segments.Point.{Point}
 use Rattle.exact.specs.declared.segments.Side.{Side}
 use Rattle.exact.specs.declared.segments.Side.TheVariants as Sides
 use Rattle.exact.specs.declared.wide.Wide.{Wide}
-use Rattle.exact.specs.Segments.{is_left}
+use Rattle.exact.specs.Segments.{Point, is_left}
 use Rattle.exact.specs.Grid.{on_grid, grid_steps, from_lowest, point_of, coord_on_grid}
 
 -- ---- whole numbers of up to 116 binary digits, in three places to the base 2^30
@@ -25,11 +24,6 @@ pub record Carried (w : Wide) : Type 0 where
   pub low_digit : w.low < 2 ^ 30
 
 -- ---- points
-
--- the numbers are at most as large as those of the grid
-pub record Bounded (p : Point) : Type 0 where
-  pub x_bound : p.x ≤ 2 ^ 57
-  pub y_bound : p.y ≤ 2 ^ 57
 
 -- the side of the line from a to b that c lies on
 unfoldable pub side_of : Point → Point → Point → Side

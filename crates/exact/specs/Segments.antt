@@ -1,6 +1,10 @@
 -- Whether two closed segments between points of whole numbers share a point, exactly (document 02, Point 5). Definitions only.
 use Rattle.std.specs.Prelude.{◌≡◌, ℕ, ◌+◌, ◌*◌, ◌<◌, min, max, Bool, true, not, ◌&&◌, ◌||◌, nat_lt}
-use Rattle.exact.specs.declared.segments.Point.{Point}
+
+-- a point of whole numbers; those of the code, `segments::Point`, are at most as large as the numbers of the grid
+pub record Point : Type 0 where
+  pub x : ℕ
+  pub y : ℕ
 
 -- ---- what is meant
 

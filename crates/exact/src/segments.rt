@@ -1,14 +1,29 @@
 // Whether two closed segments between points of whole numbers share a point, exactly.
 ghost use Rattle.std.specs.Prelude.{◌≡◌};
 ghost use Rattle.exact.specs.Segments as Segments;
-ghost use Rattle.exact.specs.Internal.{value, Carried, Bounded, side_of};
+ghost use Rattle.exact.specs.Internal.{value, Carried, side_of};
 
 use super::wide::{Wide, is_less, product, sum};
+use std::marker::Model;
 
+// A point whose numbers are at most as large as those of the grid.
 #[derive(Clone, Copy)]
 pub struct Point {
     pub x: u64,
     pub y: u64,
+}
+
+impl Model for Point {
+    ghost use Rattle.std.specs.Prelude.{◌^◌, ◌≤◌};
+    ghost use Rattle.exact.specs.Segments.{Point};
+
+    ghost Value = { Point };
+
+    ghost view = { λ p. record { x = p.x; y = p.y } };
+
+    ghost inverse = { λ p. record { x = p.x; y = p.y } };
+
+    ghost invariant = { λ p. (p.x ≤ 2 ^ 57) × (p.y ≤ 2 ^ 57) };
 }
 
 // Strictly left or right of a line, or on it.
@@ -21,7 +36,6 @@ enum Side {
 
 // The sum of the products of three points' numbers, taken round in this order; two such sums tell the side that c lies on.
 fn shoelace(a: Point, b: Point, c: Point) -> Wide
-    requires { Bounded a × Bounded b × Bounded c }
     ensures { (value result ≡ Segments.shoelace a b c) × Carried result }
 {
     let ab = product(a.x, b.y);
@@ -32,7 +46,6 @@ fn shoelace(a: Point, b: Point, c: Point) -> Wide
 
 // Whether c lies strictly left of the line from a to b.
 fn is_left(a: Point, b: Point, c: Point) -> bool
-    requires { Bounded a × Bounded b × Bounded c }
     ensures { result ≡ Segments.is_left a b c }
 {
     is_less(shoelace(b, a, c), shoelace(a, b, c))
@@ -40,7 +53,6 @@ fn is_left(a: Point, b: Point, c: Point) -> bool
 
 // The side of the line from a to b that c lies on.
 fn side_of(a: Point, b: Point, c: Point) -> Side
-    requires { Bounded a × Bounded b × Bounded c }
     ensures { result ≡ side_of a b c }
 {
     let there = shoelace(a, b, c);
@@ -56,7 +68,6 @@ fn side_of(a: Point, b: Point, c: Point) -> Side
 
 // Whether both c and d lie strictly on one side of the line through a and b.
 fn are_one_side(a: Point, b: Point, c: Point, d: Point) -> bool
-    requires { Bounded a × Bounded b × Bounded c × Bounded d }
     ensures { result ≡ Segments.one_side a b c d }
 {
     match side_of(a, b, c) {
@@ -82,7 +93,6 @@ fn are_boxes_apart(a: Point, b: Point, c: Point, d: Point) -> bool
 
 // Whether the closed segments from a to b and from c to d share a point.
 pub fn shares_point(a: Point, b: Point, c: Point, d: Point) -> bool
-    requires { Bounded a × Bounded b × Bounded c × Bounded d }
     ensures { result ≡ Segments.shares_point a b c d }
 {
     if are_boxes_apart(a, b, c, d) {

@@ -6,6 +6,7 @@ ghost use Rattle.exact.specs.Grid.{may_share_point};
 ghost use Rattle.box_pairs.specs.Internal.{edges_at};
 
 use super::number_at;
+use box_pairs::edges::Edges;
 use tile::Coord;
 
 // The k-th of the four ends.
@@ -27,7 +28,11 @@ pub extern "C" fn probe_crosses(pair: &[f64]) -> bool
     if pair.len() < 8 {
         return false;
     }
-    box_pairs::pairs::edges_cross(pair, 0, 2)
+    let edges = Edges {
+        ring: pair,
+        count: 3,
+    };
+    edges.crosses(0, 2)
 }
 
 // A number that is missing is a NaN.

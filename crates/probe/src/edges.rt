@@ -5,16 +5,17 @@
 // What the calls leave in `work` and `order` is left open here.
 ghost use Rattle.std.specs.Prelude.{◌≡◌, ◌<◌, ◌^◌};
 ghost use Rattle.box_pairs.specs.Internal.{PairBelow, IssueBelow};
-ghost use Rattle.probe.specs.Edges as Edges;
+ghost use Rattle.probe.specs.Edges as Answers;
 
 use box_pairs::Issue;
+use box_pairs::edges::Edges;
 use box_pairs::pairs::Pair;
 
 // A ring has fewer coordinates than this.
 const MOST: usize = 16_777_216;
 
 fn has_room(n: usize, work: &[f64], order: &[u32]) -> bool
-    ensures { result ≡ Edges.has_room n work.now order.now }
+    ensures { result ≡ Answers.has_room n work.now order.now }
 {
     if n > work.len() / 2 {
         return false;
@@ -27,15 +28,15 @@ fn has_room(n: usize, work: &[f64], order: &[u32]) -> bool
 
 // What was found, with its positions.
 fn located(found: u64, first: u32, second: u32) -> u64
-    requires { (found < 2 ^ 8) × (first < Edges.most) × (second < Edges.most) }
-    ensures { result ≡ Edges.located found first second }
+    requires { (found < 2 ^ 8) × (first < Answers.most) × (second < Answers.most) }
+    ensures { result ≡ Answers.located found first second }
 {
     found + 256 * first as u64 + 4_294_967_296 * second as u64
 }
 
 fn issue_code(issue: Issue) -> u64
-    requires { IssueBelow Edges.most issue }
-    ensures { result ≡ Edges.issue_code issue }
+    requires { IssueBelow Answers.most issue }
+    ensures { result ≡ Answers.issue_code issue }
 {
     match issue {
         Issue::Sound => 0,
@@ -46,8 +47,8 @@ fn issue_code(issue: Issue) -> u64
 }
 
 fn pair_code(pair: Option<Pair>) -> u64
-    requires { PairBelow Edges.most pair }
-    ensures { result ≡ Edges.pair_code pair }
+    requires { PairBelow Answers.most pair }
+    ensures { result ≡ Answers.pair_code pair }
 {
     match pair {
         None => 0,
@@ -63,7 +64,7 @@ pub extern "C" fn probe_find_issue(
     work: &mut [f64],
     order: &mut [u32],
 ) -> u64
-    ensures { result ≡ Edges.found_issue ring.now assume_simple work.old order.old }
+    ensures { result ≡ Answers.found_issue ring.now assume_simple work.old order.old }
 {
     let n = ring.len() / 2;
     if has_room(n, work, order) {
@@ -75,7 +76,7 @@ pub extern "C" fn probe_find_issue(
 // The first two edges that cross, by all pairs: 0 for none, 1 with the two edges.
 #[unsafe(no_mangle)]
 pub extern "C" fn probe_scan_pairs(ring: &[f64]) -> u64
-    ensures { result ≡ Edges.scan_answer ring.now }
+    ensures { result ≡ Answers.scan_answer ring.now }
 {
     let n = ring.len() / 2;
     if n == 0 {
@@ -84,20 +85,22 @@ pub extern "C" fn probe_scan_pairs(ring: &[f64]) -> u64
     if n >= MOST {
         return u64::MAX;
     }
-    pair_code(box_pairs::pairs::scan_pairs(ring, n - 1))
+    let edges = Edges { ring, count: n - 1 };
+    pair_code(box_pairs::pairs::scan_pairs(&edges))
 }
 
 // The first two edges that cross, by the sweep: 0 for none, 1 with the two edges.
 #[unsafe(no_mangle)]
 pub extern "C" fn probe_sweep_pairs(ring: &[f64], work: &mut [f64], order: &mut [u32]) -> u64
-    ensures { result ≡ Edges.sweep_answer ring.now work.old order.old }
+    ensures { result ≡ Answers.sweep_answer ring.now work.old order.old }
 {
     let n = ring.len() / 2;
     if n == 0 {
         return u64::MAX;
     }
     if has_room(n, work, order) {
-        return pair_code(box_pairs::pairs::sweep_pairs(ring, n - 1, work, order));
+        let edges = Edges { ring, count: n - 1 };
+        return pair_code(box_pairs::pairs::sweep_pairs(&edges, work, order));
     }
     u64::MAX
 }

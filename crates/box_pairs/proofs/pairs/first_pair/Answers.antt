@@ -1,6 +1,6 @@
 -- `pairs::first_pair` meets its contract. Assumes nothing.
 use mathlib.Core.Path.{sym}
-use Rattle.box_pairs.proofs.Edges.{first-none}
+use Rattle.box_pairs.proofs.EdgeLaws.{first-none}
 use Rattle.box_pairs.proofs.pairs.first_pair.Goals as goal
 
 pub returns-then-n-eq0-clause-value : goal.returns-then-n-eq0-clause-value

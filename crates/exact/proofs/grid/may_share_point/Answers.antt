@@ -1,6 +1,6 @@
 -- `grid::may_share_point` meets its contract. Assumes nothing.
 use Rattle.std.proofs.Common.{sym, ◌∙◌}
-use Rattle.exact.proofs.MayShareLaws.{at_bounded, first_off, second_off, third_off, fourth_off, all-on, answered}
+use Rattle.exact.proofs.MayShareLaws.{first_off, second_off, third_off, fourth_off, all-on, answered}
 use Rattle.exact.proofs.grid.may_share_point.Goals as goal
 
 pub returns-in_default-clause-test : goal.returns-in_default-clause-test
@@ -36,14 +36,6 @@ returns-in_default-grid_point_of-3-clause-test c = let a = c.args in let all = a
 pub returns-in_default-grid_point_of-3-clause-meaning : goal.returns-in_default-grid_point_of-3-clause-meaning
 returns-in_default-grid_point_of-3-clause-meaning c = let a = c.args in let all = answered a.a1 a.a2 a.b1 a.b2 _
     (fourth_off a.a1 a.a2 a.b1 a.b2 (sym c.grid_point_of-4.ensures ∙ c.in_default-grid_point_of-3.is)) in all.1
-
-pub shares_point-requires : goal.shares_point-requires
-shares_point-requires c = let a = c.args in (
-  at_bounded a.a1 _ (sym c.grid_point_of.ensures ∙ c.in-Some.is),
-  at_bounded a.a2 _ (sym c.grid_point_of-2.ensures ∙ c.in-Some-grid_point_of.is),
-  at_bounded a.b1 _ (sym c.grid_point_of-3.ensures ∙ c.in-Some-grid_point_of-2.is),
-  at_bounded a.b2 _ (sym c.grid_point_of-4.ensures ∙ c.in-Some-grid_point_of-3.is),
-)
 
 pub returns-clause-test : goal.returns-clause-test
 returns-clause-test c = let a = c.args in let all = answered a.a1 a.a2 a.b1 a.b2 _

@@ -4,7 +4,7 @@ use Prim.Native.Nat.{◌/◌}
 use native.Mathlib.Omega.{arith}
 use lib.ListN.{length}
 use borrow.Author.Tests.{eq-eqb, ne_eqb}
-use Rattle.box_pairs.specs.Internal.{IssueRoom}
+use Rattle.box_pairs.specs.Internal.{SortRoom}
 use Rattle.probe.specs.Edges.{sweep_answer}
 use Rattle.probe.proofs.Rooms.{room_of, few-of, one_edge_less, pair_fits, same_pair}
 use Rattle.probe.proofs.edges.probe_sweep_pairs.Goals as goal
@@ -14,10 +14,9 @@ unfolding sweep_answer
 returns-then-n-eq0 c = rw (eq-eqb _ _ c.if-n-eq0.true)
 
 pub sweep_pairs-requires : goal.sweep_pairs-requires
-sweep_pairs-requires c = let s = c.args in one_edge_less (λ n. IssueRoom n s.ring.now s.work.now s.order.now) (length s.ring.now / 2)
-    c.if-n-eq0.false
-    (room_of s.ring.now s.work.now s.order.now
-    (sym c.has_room.ensures ∙ c.if-has_room.true))
+sweep_pairs-requires c = let s = c.args in
+    let room = room_of s.ring.now s.work.now s.order.now (sym c.has_room.ensures ∙ c.if-has_room.true) in
+    one_edge_less (λ n. SortRoom n s.work.now s.order.now) (length s.ring.now / 2) c.if-n-eq0.false (room.work_room, room.order-room, room.small)
 
 pub pair_code-requires : goal.pair_code-requires
 pair_code-requires c = let s = c.args in
@@ -40,3 +39,8 @@ returns-then-has_room c = let s = c.args.ring.now in rw (
 pub returns : goal.returns
 unfolding sweep_answer
 returns c = rw (ne_eqb _ _ c.if-n-eq0.false, ← c.has_room.ensures, c.if-has_room.false)
+
+pub invariant_of-edges : goal.invariant_of-edges
+invariant_of-edges c = let s = c.args in
+    let few = few-of (length s.ring.now / 2) s.work.now s.order.now (sym c.has_room.ensures ∙ c.if-has_room.true) in
+    record { has_edges = omega (arith, c.if-n-eq0.false); small = omega (arith, few) }

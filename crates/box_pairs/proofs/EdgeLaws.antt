@@ -16,7 +16,7 @@ use Rattle.binary64.specs.Compare.{minimum, maximum}
 use Rattle.binary64.specs.Internal.{key}
 use Rattle.binary64.proofs.Booleans.{never_both}
 use Rattle.binary64.proofs.KeyOrder.{key-order}
-use Rattle.binary64.proofs.FloatOrder.{lt-not-above, ends, ends_low}
+use Rattle.binary64.proofs.FloatOrder.{lt-not-above}
 use Rattle.tile.specs.declared.Coord.{Coord}
 use Rattle.tile.specs.Internal.{coord_at}
 use Rattle.tile.specs.Ring.{coords}
@@ -24,7 +24,7 @@ use Rattle.tile.proofs.Rings.{front_at, length_front}
 use Rattle.box_pairs.specs.declared.pairs.Pair.{Pair}
 use Rattle.std.specs.Prelude.{Option, Some, None}
 use Rattle.box_pairs.specs.Cross.{cross}
-use Rattle.box_pairs.specs.Internal.{key_at, Kept, Sorted, front, edges_at, may_meet_in_y, low_x, Noted, Swept, is_scanned, ScannedOrSwept}
+use Rattle.box_pairs.specs.Internal.{key_at, Kept, Sorted, front, edges_at, may_meet_in_y, low_x, high_x, Noted, Swept, is_scanned, ScannedOrSwept}
 use Rattle.box_pairs.specs.Internal.{Unused, pair_number, lesser, PairBelow}
 use Rattle.box_pairs.specs.Pairs.{vertex_at, edges_cross, first_from, first_pair}
 use Rattle.box_pairs.specs.Internal.{any_pair, self_intersecting}
@@ -32,10 +32,6 @@ use Rattle.box_pairs.proofs.FloatCrossing.{minimum-is-number}
 use Rattle.box_pairs.proofs.Crossing.{cross_mirror, cross-numbers, apart-left, apart_y}
 use Rattle.box_pairs.proofs.Sweep.{Sweeps}
 use Rattle.box_pairs.proofs.First.{is_pair, First, first_from_lem, first_verdict}
-
--- the highest x of an edge
-unfoldable pub high_x : List Coord → ℕ → Float
-high_x r i = maximum (vertex_at r i).x (vertex_at r (i + 1)).x
 
 -- ---- the n edges of the ring of n + 1 coordinates at the front of s
 
@@ -69,11 +65,6 @@ module _ (s : List Float) (n : ℕ) (room : 2 * (n + 1) ≤ length s) where
   pub high_front : (i : ℕ) → i < n → maximum (coord_at s i).x (coord_at s (i + 1)).x ≡ high_x (front s (n + 1)) i
   unfolding high_x
   high_front i l = ap₂ (λ (p q : Coord). maximum p.x q.x) (sym (at_front i (omega arith))) (sym (at_front (i + 1) (omega arith)))
-
-  low_fits : ((i : ℕ) → T (fits binary64 (get_or s i nan))) → (i : ℕ) → i < n → T (fits binary64 (low_x (front s (n + 1)) i))
-  low_fits f i l =
-      rw (← low_front i l) (ends_low (λ z. T (fits binary64 z)) (ends (coord_at s i).x (coord_at s (i + 1)).x) (f (2 * i))
-      (f (2 * (i + 1))))
 
 -- edges whose boxes are separate in y do not cross
 pub never_meet : (s : List Float) (i j : ℕ) → may_meet_in_y s i j ≡ false → edges_at s i j ≡ false
@@ -116,13 +107,14 @@ edges_mirror : (r : List Coord) (i j : ℕ) → edges_cross r i j ≡ edges_cros
 unfolding edges_cross
 edges_mirror r i j = cross_mirror (vertex_at r i) (vertex_at r (i + 1)) (vertex_at r j) (vertex_at r (j + 1))
 
-pub edge_sweeps : (s : List Float) (n : ℕ) → 2 * (n + 1) ≤ length s → ((i : ℕ) → T (fits binary64 (get_or s i nan)))
-    → Sweeps (λ i. key (low_x (front s (n + 1)) i)) n (stops (front s (n + 1))) (edges_cross (front s (n + 1)))
-edge_sweeps s n room f =
+-- the lowest x are doubles, as they stand in a slice
+pub edge_sweeps : (n : ℕ) (r : List Coord) (lows : List Float) (order : List ℕ) → Swept n r lows order
+    → ((i : ℕ) → T (fits binary64 (get_or lows i nan))) → Sweeps (λ i. key (low_x r i)) n (stops r) (edges_cross r)
+edge_sweeps n r lows order w f =
+    let low_fits : (i : ℕ) → i < n → T (fits binary64 (low_x r i)) = λ i l. subst (λ (x : Float). T (fits binary64 x)) (w.noted i l) (f i) in
     record {
-      mirror = edges_mirror (front s (n + 1));
-      past = λ i j l li lj ll k e. past_end (front s (n + 1)) i j l
-          (low_fits s n room f j lj) (low_fits s n room f l ll) k e;
+      mirror = edges_mirror r;
+      past = λ i j l li lj ll k e. past_end r i j l (low_fits j lj) (low_fits l ll) k e;
     }
 
 -- ---- the loop that notes the lowest x

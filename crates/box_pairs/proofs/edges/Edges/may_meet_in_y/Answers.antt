@@ -1,8 +1,8 @@
--- `pairs::may_meet_in_y` meets its contract. Assumes nothing.
+-- `Edges::may_meet_in_y` meets its contract. Assumes nothing.
 use mathlib.Core.Path.{ap, ◌∙◌}
 use mathlib.Core.Bool.{not}
 use Rattle.box_pairs.specs.Internal.{may_meet_in_y}
-use Rattle.box_pairs.proofs.pairs.may_meet_in_y.Goals as goal
+use Rattle.box_pairs.proofs.edges.Edges.may_meet_in_y.Goals as goal
 
 pub returns : goal.returns
 unfolding may_meet_in_y
