@@ -2,24 +2,25 @@
 -- what is left to write is always the same. Assumes nothing.
 use mathlib.Core.Path.{◌≡◌, refl, sym, ◌∙◌, ap, subst}
 use mathlib.Core.List.{List, [], ◌∷◌, ◌++◌, append_assoc, append-nil}
-use Prim.Native.Nat.{ℕ, zero, suc, ◌+◌, ◌*◌, ◌-◌, ◌^◌, ◌<◌, ◌≤◌}
+use Prim.Native.Nat.{ℕ, zero, suc, ◌+◌, ◌*◌, ◌-◌, ◌/◌, ◌^◌, ◌<◌, ◌≤◌}
 use native.Mathlib.Nat.{zero-add}
-use native.Mathlib.Numerals.{add-one}
 use native.Mathlib.Omega.{arith}
 use lib.Ieee.{Float}
-use lib.ListN.{length, get_or, take, drop, length-append, length-drop}
-use lib.Seq.{sets, drop-cons, drop-drop}
+use lib.ListN.{length, get_or, take, drop, length-append}
+use lib.Seq.{sets, drop-cons}
+use Rattle.std.proofs.lemmas.List.{take_all}
+use Rattle.std.specs.Prelude.{Option, None, Some, MatchOption}
 use Rattle.binary64.proofs.Fill.{sets_append, whole-over, front-part}
 use Rattle.binary64.proofs.Booleans.{both}
 use Rattle.tile.specs.declared.Coord.{Coord}
 use Rattle.tile.specs.declared.TileBounds.{TileBounds}
 use Rattle.tile.specs.Ring.{coords, flat, closed, close}
 use Rattle.tile.specs.Internal.{Stands}
-use Rattle.tile.proofs.Rings.{length-flat}
+use Rattle.tile.proofs.Rings.{length-flat, coords-take, count-coords}
 use Rattle.sutherland_hodgman.proofs.Offered.{B-le}
-use Rattle.rings.specs.LentRings.{exterior, sum, closed_rings, total, largest, ring_room}
+use Rattle.rings.specs.LentRings.{Lent, exterior, closed_rings, total, largest, ring_room}
 use Rattle.rings.specs.Internal.{all_closed}
-use Rattle.rings.proofs.LentRings.{larger_least, rings_end, length-closed}
+use Rattle.rings.proofs.LentRings.{larger_least, first-fits, first_ring, length-closed}
 use Rattle.clip.specs.declared.polygon.Route.TheVariants as Routes
 use Rattle.clip.specs.Polygon.{cut_hole, unless_none, cut_exterior, cut_holes, cut_rings, cut}
 use Rattle.clip.specs.Origins.{exterior_origins, hole_origins, holes_origins, cut_origins}
@@ -41,56 +42,49 @@ length-at-most (suc n) = omega arith
 -- ---- room
 
 -- lent rings and their origins have room
-abbrev pub Rooms : List ℕ → List Float → ℕ → ℕ → ℕ → ℕ → ℕ → Placed → Type 0
-Rooms ns s scratch origin_scratch out lens out_origins at =
-    LentRingsRoom ns s scratch out lens at × LentOriginsRoom ns s origin_scratch out_origins at
+abbrev pub Rooms : List (List Coord) → ℕ → ℕ → ℕ → ℕ → ℕ → Placed → Type 0
+Rooms lent scratch origin_scratch out lens out_origins at =
+    LentRingsRoom lent scratch out lens at × LentOriginsRoom lent origin_scratch out_origins at
 
-module _ (n : ℕ) (ns : List ℕ) (s : List Float) (scratch origin_scratch out lens out_origins : ℕ) (at : Placed)
-    (rooms : Rooms (n ∷ ns) s scratch origin_scratch out lens out_origins at) where
-  pub hole_room : HoleRoom n s scratch out lens at × HoleOriginRoom n s origin_scratch out_origins at
-  unfolding sum closed_rings total largest all_closed
-  hole_room =
-      let ring = close (coords (take (2 * n) s)) in
-      let rest = closed_rings ns (drop (2 * n) s) in
+module _ (ring : List Coord) (rest : List (List Coord)) (scratch origin_scratch out lens out_origins : ℕ) (at : Placed)
+    (rooms : Rooms (ring ∷ rest) scratch origin_scratch out lens out_origins at) where
+  -- the first ring, where it stands at the front of a slice
+  pub hole_room : (n : ℕ) (s : List Float) → 2 * n ≤ length s → ring ≡ close (coords (take (2 * n) s))
+      → HoleRoom n s scratch out lens at × HoleOriginRoom n s origin_scratch out_origins at
+  unfolding total largest all_closed
+  hole_room n s h e =
       let l = larger_least (ring_room ring) (largest ring_room rest) in
+      let b = ap ring_room e in
       let room = rooms.0 in
       let origins = rooms.1 in (
         record {
           room = record {
-            lent = omega (arith, room.measurable.lent.fits);
-            few = omega (arith, room.measurable.small);
-            closes = (both (closed ring) (all_closed rest) room.closes).0;
-            scratch-room = omega (arith, room.scratch-room);
-            output-room = omega (arith, room.output-room);
+            lent = h;
+            few = omega (arith, room.small, ap length e);
+            closes = ap closed (sym e) ∙ (both (closed ring) (all_closed rest) room.closes).0;
+            scratch-room = omega (arith, room.scratch-room, b);
+            output-room = omega (arith, room.output-room, b);
           };
           output-room = omega (arith, room.output-room);
           lengths-room = omega (arith, room.lengths-room);
         },
         record {
-          room = record { scratch-room = omega (arith, origins.scratch-room); output-room = omega (arith, origins.output-room) };
+          room = record { scratch-room = omega (arith, origins.scratch-room, b); output-room = omega (arith, origins.output-room, b) };
           output-room = omega (arith, origins.output-room);
         },
       )
 
   -- behind a ring that was cut
-  pub next_room : (c : List Coord) → length c ≤ ring_room (close (coords (take (2 * n) s))) → (r : Placed)
+  pub next_room : (c : List Coord) → length c ≤ ring_room ring → (r : Placed)
       → r.coordinates ≡ at.coordinates + length c → r.rings ≡ at.rings + length (length_unless_none (length c))
-      → Rooms ns (drop (2 * n) s) scratch origin_scratch out lens out_origins r
-  unfolding sum closed_rings total largest all_closed
+      → Rooms rest scratch origin_scratch out lens out_origins r
+  unfolding total largest all_closed
   next_room c fits r en er =
-      let ring = close (coords (take (2 * n) s)) in
-      let rest = closed_rings ns (drop (2 * n) s) in
       let l = larger_least (ring_room ring) (largest ring_room rest) in
       let room = rooms.0 in
       let origins = rooms.1 in (
         record {
-          measurable = record {
-            lent = record {
-              few = omega (arith, room.measurable.lent.few);
-              fits = omega (arith, room.measurable.lent.fits, length-drop (2 * n) s);
-            };
-            small = omega (arith, room.measurable.small);
-          };
+          small = omega (arith, room.small);
           closes = (both (closed ring) (all_closed rest) room.closes).1;
           scratch-room = omega (arith, room.scratch-room);
           output-room = omega (arith, room.output-room);
@@ -186,32 +180,28 @@ pub ahead_origins : (new : List ℕ) (others : List (List ℕ)) (at r : ℕ) (os
     → take at os ++ origins_of (unless_none new others) ≡ take r os' ++ origins_of others
 ahead_origins new others at r os os' e = rw (unless_origins new others, e, append_assoc)
 
--- ---- from the k-th ring on
+-- ---- one ring after the other
 
-module _ (ns : List ℕ) (s : List Float) (k at : ℕ) (h : k < length ns) where
-  module _ (scratch origin_scratch out lens out_origins : ℕ) (p : Placed) where
-    pub room-here : Rooms (drop k ns) (drop at s) scratch origin_scratch out lens out_origins p
-        → Rooms (get_or ns k 0 ∷ drop (k + 1) ns) (drop at s) scratch origin_scratch out lens out_origins p
-    room-here r = rw (add-one) (rw (drop-cons ns k 0 h) at r)
-
-    pub room_there : Rooms (drop (k + 1) ns) (drop (2 * get_or ns k 0) (drop at s)) scratch origin_scratch out lens out_origins p
-        → Rooms (drop (k + 1) ns) (drop (at + 2 * get_or ns k 0) s) scratch origin_scratch out lens out_origins p
-    room_there r = rw (← drop-drop (2 * get_or ns k 0) at s) r
+-- the numbers of a ring are the front of themselves
+pub whole_ring : (s : List Float) → coords (take (2 * (length s / 2)) s) ≡ coords s
+whole_ring s =
+    coords-take (length s / 2) s
+    ∙ take_all (length s / 2) (coords s) (omega (arith, count-coords s))
 
 -- the slices have kept their lengths
-pub same-room : {ns : List ℕ} {s : List Float} {p : Placed} {scratch origin_scratch out lens out_origins : ℕ}
+pub same-room : {lent : List (List Coord)} {p : Placed} {scratch origin_scratch out lens out_origins : ℕ}
     {scratch' origin_scratch' out' lens' out_origins' : ℕ} → scratch' ≡ scratch → origin_scratch' ≡ origin_scratch → out' ≡ out → lens' ≡ lens
-    → out_origins' ≡ out_origins → Rooms ns s scratch origin_scratch out lens out_origins p
-    → Rooms ns s scratch' origin_scratch' out' lens' out_origins' p
+    → out_origins' ≡ out_origins → Rooms lent scratch origin_scratch out lens out_origins p
+    → Rooms lent scratch' origin_scratch' out' lens' out_origins' p
 same-room ea eb eo el er r = rw (ea, eb, eo, el, er) r
 
 -- nothing is left past the last ring
-pub ahead_end : (bounds : TileBounds) (ns : List ℕ) (s : List Float) (k at : ℕ) → length ns ≤ k → (holes : List (List Coord)) (p : Placed)
+pub ahead_end : (bounds : TileBounds) (rest : List (List Coord)) → rest ≡ [] → (holes : List (List Coord)) (p : Placed)
     (out : List Float) (lens : List ℕ) (r : Placed) (out' : List Float) (lens' : List ℕ)
-    → Ahead holes p out lens (cut_holes bounds (closed_rings (drop k ns) (drop at s))) r out' lens' → PutHoles holes p out lens r out' lens'
+    → Ahead holes p out lens (cut_holes bounds rest) r out' lens' → PutHoles holes p out lens r out' lens'
 unfolding cut_holes numbers_of lengths_of
-ahead_end bounds ns s k at h holes p out lens r out' lens' f =
-    let g : Ahead holes p out lens [] r out' lens' = rw (rings_end ns (drop at s) k h) at f in
+ahead_end bounds rest none holes p out lens r out' lens' f =
+    let g : Ahead holes p out lens [] r out' lens' = rw none at f in
     record {
       output = sym (g.output ∙ append-nil (take (2 * r.coordinates) out'));
       coordinates-after = omega (arith, g.numbers);
@@ -219,11 +209,11 @@ ahead_end bounds ns s k at h holes p out lens r out' lens' f =
       rings-after = omega (arith, g.rings);
     }
 
-pub origins_end : (bounds : TileBounds) (ns : List ℕ) (s : List Float) (k at : ℕ) → length ns ≤ k → (all : List ℕ) (r : ℕ) (os' : List ℕ)
-    → all ≡ take r os' ++ origins_of (holes_origins bounds (closed_rings (drop k ns) (drop at s))) → take r os' ≡ all
+pub origins_end : (bounds : TileBounds) (rest : List (List Coord)) → rest ≡ [] → (all : List ℕ) (r : ℕ) (os' : List ℕ)
+    → all ≡ take r os' ++ origins_of (holes_origins bounds rest) → take r os' ≡ all
 unfolding holes_origins origins_of
-origins_end bounds ns s k at h all r os' e =
-    let g : all ≡ take r os' ++ [] = rw (rings_end ns (drop at s) k h) at e in
+origins_end bounds rest none all r os' e =
+    let g : all ≡ take r os' ++ [] = rw none at e in
     sym (g ∙ append-nil (take r os'))
 
 -- ---- all rings of a cut
@@ -301,14 +291,19 @@ module _ (b : TileBounds) (r : List Coord) (rest : List (List Coord)) (some : 0 
 
 -- ---- a whole polygon, the cut exterior standing at the output's front
 
-module _ (lengths : List ℕ) (s : List Float) (some : 0 < length lengths) where
-  here : lengths ≡ get_or lengths 0 0 ∷ drop 1 lengths
-  here = drop-cons lengths 0 0 some
+-- past the first of some rings
+pub behind_first : {A : Type 0} (r : Option A) (view : A → List Coord) (lent rest : List (List Coord))
+    → MatchOption r ((lent ≡ []) × (rest ≡ [])) (λ x. lent ≡ view x ∷ rest) → 0 < length lent → (ring : List Coord) × (lent ≡ ring ∷ rest)
+behind_first None view lent rest m some = absurd (omega (arith, ap length m.0))
+behind_first (Some x) view lent rest m some = (view x, m)
+
+module _ (lengths : List ℕ) (s : List Float) (some : 0 < length (closed_rings lengths s)) where
+  pub some-lengths : 0 < length lengths
+  some-lengths = omega (arith, length-closed lengths s)
 
   rings-here : closed_rings lengths s ≡ close (coords (take (2 * get_or lengths 0 0) s)) ∷ closed_rings (drop 1 lengths)
       (drop (2 * get_or lengths 0 0) s)
-  unfolding closed_rings
-  rings-here = ap (λ (l : List ℕ). closed_rings l s) here
+  rings-here = first_ring lengths s (get_or lengths 0 0) (drop 1 lengths) _ _ (drop-cons lengths 0 0 some-lengths) refl refl
 
   pub exterior-here : exterior (closed_rings lengths s) ≡ close (coords (take (2 * get_or lengths 0 0) s))
   exterior-here = ap exterior rings-here
@@ -324,92 +319,80 @@ module _ (lengths : List ℕ) (s : List Float) (some : 0 < length lengths) where
             (largest ring_room (closed_rings (drop 1 lengths) (drop (2 * get_or lengths 0 0) s))),
       )
 
-  module _ (scratch origin_scratch out lens out_origins : ℕ)
-      (rooms : Rooms lengths s scratch origin_scratch out lens out_origins none_placed) where
-    pub room_whole : Rooms (get_or lengths 0 0 ∷ drop 1 lengths) s scratch origin_scratch out lens out_origins none_placed
-    room_whole = subst (λ (l : List ℕ). Rooms l s scratch origin_scratch out lens out_origins none_placed) here rooms
+  pub first_room : Lent lengths s → (scratch origin_scratch out lens out_origins : ℕ)
+      → Rooms (closed_rings lengths s) scratch origin_scratch out lens out_origins none_placed
+      → RingRoom (get_or lengths 0 0) s scratch out × RingOriginRoom (get_or lengths 0 0) s origin_scratch out_origins
+  first_room fits scratch origin_scratch out lens out_origins rooms =
+      let all = subst (λ (l : List (List Coord)). Rooms l scratch origin_scratch out lens out_origins none_placed) rings-here rooms in
+      let within = first-fits lengths s (get_or lengths 0 0) (drop 1 lengths) (drop-cons lengths 0 0 some-lengths) fits in
+      let h = hole_room _ _ _ _ _ _ _ _ all (get_or lengths 0 0) s within refl in
+      let r = h.0.room in
+      let o = h.1.room in (
+        record {
+          lent = r.lent;
+          few = r.few;
+          closes = r.closes;
+          scratch-room = r.scratch-room;
+          output-room = omega (arith, r.output-room);
+        },
+        record { scratch-room = o.scratch-room; output-room = omega (arith, o.output-room) },
+      )
 
-    pub first_room : RingRoom (get_or lengths 0 0) s scratch out × RingOriginRoom (get_or lengths 0 0) s origin_scratch out_origins
-    first_room =
-        let h = hole_room _ _ _ _ _ _ _ _ _ room_whole in
-        let r = h.0.room in
-        let o = h.1.room in (
-          record {
-            lent = r.lent;
-            few = r.few;
-            closes = r.closes;
-            scratch-room = r.scratch-room;
-            output-room = omega (arith, r.output-room);
-          },
-          record { scratch-room = o.scratch-room; output-room = omega (arith, o.output-room) },
-        )
+module _ (bounds : TileBounds) (lent : List (List Coord)) (ring : List Coord) (rest : List (List Coord)) (first : lent ≡ ring ∷ rest)
+    (m scratch origin_scratch : ℕ) (out : List Float) (lens : ℕ) (os : List ℕ) (room : LentCutRoom bounds lent m scratch out lens)
+    (origins : LentRouteOriginRoom (Routes.Cut m) bounds lent origin_scratch os) where
+  stands_here : Stands (cut_exterior bounds ring) m out
+  stands_here = subst (λ (l : List (List Coord)). Stands (cut_exterior bounds (exterior l)) m out) first room.stands
 
-module _ (bounds : TileBounds) (lengths : List ℕ) (s : List Float) (m scratch origin_scratch : ℕ) (out : List Float) (lens : ℕ)
-    (os : List ℕ) (room : LentCutRoom bounds lengths s m scratch out lens)
-    (origins : LentRouteOriginRoom (Routes.Cut m) bounds lengths s origin_scratch os) where
-  stands_here : Stands (cut_exterior bounds (close (coords (take (2 * get_or lengths 0 0) s)))) m out
-  stands_here =
-      subst (λ (l : List (List Coord)). Stands (cut_exterior bounds (exterior l)) m out) (rings-here lengths s room.some) room.stands
-
-  whole_room : Rooms (get_or lengths 0 0 ∷ drop 1 lengths) s scratch origin_scratch (length out) lens (length os) none_placed
-  whole_room = room_whole lengths s room.some _ _ _ _ _ (room.rings, origins.rings)
-
-  exterior-fits : RingRoom (get_or lengths 0 0) s scratch (length out)
-  exterior-fits = (first_room lengths s room.some _ _ _ _ _ (room.rings, origins.rings)).0
+  whole_room : Rooms (ring ∷ rest) scratch origin_scratch (length out) lens (length os) none_placed
+  whole_room =
+      subst (λ (l : List (List Coord)). Rooms l scratch origin_scratch (length out) lens (length os) none_placed) first
+      (room.rings, origins.rings)
 
   pub exterior-room : CountRoom m lens none_placed
+  unfolding total
   exterior-room =
-      let ring = close (coords (take (2 * get_or lengths 0 0) s)) in
-      let small = cut_small _ _ _ _ exterior-fits (cut_exterior bounds ring) (cut-fits-room bounds ring) m stands_here.count in
-      record { small = small; coordinates = omega arith; lengths-room = omega (arith, room.rings.lengths-room, room.some) }
-
-  pub start_fits : 2 * get_or lengths 0 0 ≤ length s
-  start_fits = exterior-fits.lent
+      let small = B-le (length ring) (omega (arith, whole_room.0.small)) in
+      record {
+        small = omega (arith, small, stands_here.count, cut-fits-room bounds ring);
+        coordinates = omega (arith, small, stands_here.count, cut-fits-room bounds ring);
+        lengths-room = omega (arith, whole_room.0.lengths-room);
+      }
 
   -- the exterior is counted where it stands
   counted-here : (lens₀ : List ℕ) (r : Placed) (lens₁ : List ℕ) → Counted m none_placed lens₀ r lens₁
-      → Counted (length (cut_exterior bounds (close (coords (take (2 * get_or lengths 0 0) s))))) none_placed lens₀ r lens₁
+      → Counted (length (cut_exterior bounds ring)) none_placed lens₀ r lens₁
   counted-here lens₀ r lens₁ k = subst (λ (i : ℕ). Counted i none_placed lens₀ r lens₁) stands_here.count k
 
   pub holes_room : (lens₀ : List ℕ) (r : Placed) (lens₁ : List ℕ) → Counted m none_placed lens₀ r lens₁
-      → Rooms (drop 1 lengths) (drop (2 * get_or lengths 0 0) s) scratch origin_scratch (length out) lens (length os) r
+      → Rooms rest scratch origin_scratch (length out) lens (length os) r
   holes_room lens₀ r lens₁ k =
-      let ring = close (coords (take (2 * get_or lengths 0 0) s)) in
       let q = counted-here lens₀ r lens₁ k in
-      next_room _ _ _ _ _ _ _ _ _ whole_room (cut_exterior bounds ring) (cut-fits-room bounds ring) r q.coordinates-after
-      q.rings-after
+      next_room _ _ _ _ _ _ _ _ whole_room (cut_exterior bounds ring) (cut-fits-room bounds ring) r q.coordinates-after q.rings-after
 
   pub cut_done : (lens₀ : List ℕ) (p₁ : Placed) (lens₁ : List ℕ) (p₂ : Placed) (out₂ : List Float) (lens₂ : List ℕ) → length lens₀ ≡ lens
-      → Counted m none_placed lens₀ p₁ lens₁
-      → PutHoles (cut_holes bounds (closed_rings (drop 1 lengths) (drop (2 * get_or lengths 0 0) s))) p₁ out lens₁ p₂ out₂ lens₂
-      → (p₂.rings ≡ length (cut_rings bounds (closed_rings lengths s)))
-      × Filled (cut (cut_rings bounds (closed_rings lengths s))) p₂.coordinates lens₀ out₂ lens₂
+      → Counted m none_placed lens₀ p₁ lens₁ → PutHoles (cut_holes bounds rest) p₁ out lens₁ p₂ out₂ lens₂
+      → (p₂.rings ≡ length (cut_rings bounds lent)) × Filled (cut (cut_rings bounds lent)) p₂.coordinates lens₀ out₂ lens₂
   cut_done lens₀ p₁ lens₁ p₂ out₂ lens₂ el f g =
-      let r = close (coords (take (2 * get_or lengths 0 0) s)) in
-      let rest = closed_rings (drop 1 lengths) (drop (2 * get_or lengths 0 0) s) in
-      let k : length (r ∷ rest) ≤ length lens₀ =
-      omega (arith, room.rings.lengths-room, length-closed lengths s, ap length (rings-here lengths s room.some)) in
-      let put : Put (cut_exterior bounds r) none_placed out lens₀ p₁ out lens₁ = record {
+      let k : length (ring ∷ rest) ≤ length lens₀ = omega (arith, whole_room.0.lengths-room) in
+      let put : Put (cut_exterior bounds ring) none_placed out lens₀ p₁ out lens₁ = record {
         output = rw (f.coordinates-after, zero-add m) stands_here.numbers;
         counted = counted-here lens₀ p₁ lens₁ f;
       } in
-      let ahead = ahead_ring (cut_exterior bounds r) (cut_holes bounds rest) none_placed out lens₀ p₁ out lens₁ put in
-      rw (rings-here lengths s room.some) (all_filled bounds r rest (omega (arith, stands_here.count, room.whole)) out lens₀ p₁ lens₁
+      let ahead = ahead_ring (cut_exterior bounds ring) (cut_holes bounds rest) none_placed out lens₀ p₁ out lens₁ put in
+      rw first (all_filled bounds ring rest (omega (arith, stands_here.count, room.whole)) out lens₀ p₁ lens₁
       p₂ out₂ lens₂ k ahead g)
 
   -- the origins of the exterior stand, then those of the holes are put
   pub origins_done : (lens₀ : List ℕ) (p₁ : Placed) (lens₁ : List ℕ) (p₂ : Placed) (out₂ : List Float) (lens₂ os₂ : List ℕ)
-      → Counted m none_placed lens₀ p₁ lens₁
-      → Filled (cut (cut_rings bounds (closed_rings lengths s))) p₂.coordinates lens₀ out₂ lens₂
-      → take p₂.coordinates os₂ ≡ take p₁.coordinates os ++ origins_of (holes_origins bounds (closed_rings (drop 1 lengths)
-      (drop (2 * get_or lengths 0 0) s)))
-      → FilledOrigins (cut_origins bounds (closed_rings lengths s)) p₂.coordinates os₂
+      → Counted m none_placed lens₀ p₁ lens₁ → Filled (cut (cut_rings bounds lent)) p₂.coordinates lens₀ out₂ lens₂
+      → take p₂.coordinates os₂ ≡ take p₁.coordinates os ++ origins_of (holes_origins bounds rest)
+      → FilledOrigins (cut_origins bounds lent) p₂.coordinates os₂
   unfolding cut_origins origins_of
   origins_done lens₀ p₁ lens₁ p₂ out₂ lens₂ os₂ f filled e =
-      let r = rings-here lengths s room.some in
       let n : p₁.coordinates ≡ m = f.coordinates-after ∙ zero-add m in
-      let x : take m os ≡ exterior_origins bounds (close (coords (take (2 * get_or lengths 0 0) s))) = rw r at origins.stands in
+      let x : take m os ≡ exterior_origins bounds ring = rw first at origins.stands in
       record {
-        count = omega (arith, filled.count, rings_many bounds (closed_rings lengths s));
-        output = e ∙ rw (n, x, r);
+        count = omega (arith, filled.count, rings_many bounds lent);
+        output = e ∙ rw (n, x, first);
       }

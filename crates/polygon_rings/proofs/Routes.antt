@@ -8,7 +8,6 @@ use lib.Ieee.{Float}
 use Rattle.tile.specs.declared.Coord.{Coord}
 use Rattle.tile.specs.declared.TileBounds.{TileBounds}
 use Rattle.rings.specs.Representable.{any_huge_ring}
-use Rattle.rings.specs.LentRings.{closed_rings}
 use Rattle.rings.specs.Internal.{all_closed}
 use Rattle.clip.specs.declared.polygon.Reason.{Reason}
 use Rattle.clip.specs.Polygon.{dropped, overlay, overlay_or_dropped}
@@ -17,10 +16,10 @@ use Rattle.polygon_rings.specs.WrittenRings.{numbers_of, lengths_of, origins_of}
 use Rattle.polygon_rings.specs.Internal.{none_placed, LentRingsRoom, PolygonRoom, Filled, FilledOrigins}
 
 -- where closing closes every ring, all can be cut
-pub cuttable : (ns : List ℕ) (s : List Float) (scratch order out lens : ℕ) → PolygonRoom ns s scratch order out lens
-    → all_closed (closed_rings ns s) ≡ true → LentRingsRoom ns s scratch out lens none_placed
-cuttable ns s scratch order out lens p closes = record {
-  measurable = p.measurable;
+pub cuttable : (lent : List (List Coord)) (scratch order out lens : ℕ) → PolygonRoom lent scratch order out lens → all_closed lent ≡ true
+    → LentRingsRoom lent scratch out lens none_placed
+cuttable lent scratch order out lens p closes = record {
+  small = p.small;
   closes = closes;
   scratch-room = p.scratch-room;
   output-room = omega (arith, p.output-room);

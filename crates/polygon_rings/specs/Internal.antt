@@ -7,8 +7,9 @@ use Rattle.tile.specs.declared.Coord.{Coord}
 use Rattle.tile.specs.declared.TileBounds.{TileBounds}
 use Rattle.tile.specs.Ring.{flat}
 use Rattle.tile.specs.Internal.{Stands}
-use Rattle.rings.specs.LentRings.{closed_rings, total, largest, ring_room, exterior}
-use Rattle.rings.specs.Internal.{all_closed, Measurable}
+use Rattle.sutherland_hodgman.specs.Growth.{most_coordinates}
+use Rattle.rings.specs.LentRings.{total, largest, ring_room, exterior}
+use Rattle.rings.specs.Internal.{all_closed}
 use Rattle.clip.specs.declared.polygon.Route.{Route}
 use Rattle.clip.specs.Polygon.{Routed, cut_exterior}
 use Rattle.clip.specs.Internal.{RingRoom, RingOriginRoom, CutStands, OriginsStand}
@@ -65,19 +66,19 @@ pub record Put (ring : List Coord) (at : Placed) (out : List Float) (out_lengths
   pub output : take (2 * r.coordinates) out' ≡ take (2 * at.coordinates) out ++ flat ring
   pub counted : Counted (length ring) at out_lengths r out_lengths'
 
--- Lent rings can be cut with a scratch slice of this length, and have room in the output behind the rings counted so far. No first
--- coordinate holds a NaN, so that closing closes every ring.
-pub record LentRingsRoom (lengths : List ℕ) (coords : List Float) (scratch out out_lengths : ℕ) (at : Placed) : Type 0 where
-  pub measurable : Measurable lengths coords
-  pub closes : all_closed (closed_rings lengths coords) ≡ true
-  pub scratch-room : 2 * largest ring_room (closed_rings lengths coords) ≤ scratch
-  pub output-room : 2 * at.coordinates + 2 * total ring_room (closed_rings lengths coords) ≤ out
-  pub lengths-room : at.rings + length lengths ≤ out_lengths
+-- Lent rings, closed, can be cut with a scratch slice of this length, and have room in the output behind the rings counted so far. No
+-- first coordinate holds a NaN, so that closing closed every ring.
+pub record LentRingsRoom (lent : List (List Coord)) (scratch out out_lengths : ℕ) (at : Placed) : Type 0 where
+  pub small : total length lent ≤ most_coordinates
+  pub closes : all_closed lent ≡ true
+  pub scratch-room : 2 * largest ring_room lent ≤ scratch
+  pub output-room : 2 * at.coordinates + 2 * total ring_room lent ≤ out
+  pub lengths-room : at.rings + length lent ≤ out_lengths
 
 -- and their origins, with a scratch slice and an output of these lengths
-pub record LentOriginsRoom (lengths : List ℕ) (coords : List Float) (origin_scratch out_origins : ℕ) (at : Placed) : Type 0 where
-  pub scratch-room : largest ring_room (closed_rings lengths coords) ≤ origin_scratch
-  pub output-room : at.coordinates + total ring_room (closed_rings lengths coords) ≤ out_origins
+pub record LentOriginsRoom (lent : List (List Coord)) (origin_scratch out_origins : ℕ) (at : Placed) : Type 0 where
+  pub scratch-room : largest ring_room lent ≤ origin_scratch
+  pub output-room : at.coordinates + total ring_room lent ≤ out_origins
 
 -- the cut holes that are not left out stand there, the rings before them are as they were, and they are counted
 pub record PutHoles (holes : List (List Coord)) (at : Placed) (out : List Float) (out_lengths : List ℕ) (r : Placed) (out' : List Float)
@@ -88,31 +89,31 @@ pub record PutHoles (holes : List (List Coord)) (at : Placed) (out : List Float)
   pub rings-after : r.rings ≡ at.rings + length holes
 
 -- the cut exterior, m coordinates long, stands at the front of the output, and the holes can be cut
-pub record LentCutRoom (bounds : TileBounds) (lengths : List ℕ) (coords : List Float) (m scratch : ℕ) (out : List Float)
+pub record LentCutRoom (bounds : TileBounds) (lent : List (List Coord)) (m scratch : ℕ) (out : List Float)
     (out_lengths : ℕ) : Type 0 where
-  pub rings : LentRingsRoom lengths coords scratch (length out) out_lengths none_placed
-  pub some : 0 < length lengths
-  pub stands : Stands (cut_exterior bounds (exterior (closed_rings lengths coords))) m out
+  pub rings : LentRingsRoom lent scratch (length out) out_lengths none_placed
+  pub some : 0 < length lent
+  pub stands : Stands (cut_exterior bounds (exterior lent)) m out
   pub whole : 0 < m
 
 -- the exterior has this route, and where it is a cut, the cut exterior stands at the front of the output
-pub record LentRouteRoom (route : Route) (bounds : TileBounds) (lengths : List ℕ) (coords : List Float) (scratch : ℕ) (out : List Float)
+pub record LentRouteRoom (route : Route) (bounds : TileBounds) (lent : List (List Coord)) (scratch : ℕ) (out : List Float)
     (out_lengths : ℕ) : Type 0 where
-  pub rings : LentRingsRoom lengths coords scratch (length out) out_lengths none_placed
-  pub some : 0 < length lengths
-  pub stands : CutStands bounds (exterior (closed_rings lengths coords)) route out
+  pub rings : LentRingsRoom lent scratch (length out) out_lengths none_placed
+  pub some : 0 < length lent
+  pub stands : CutStands bounds (exterior lent) route out
 
 -- where it is a cut, the origins of the cut exterior stand at the front of theirs, and all origins have room
-pub record LentRouteOriginRoom (route : Route) (bounds : TileBounds) (lengths : List ℕ) (coords : List Float) (origin_scratch : ℕ)
+pub record LentRouteOriginRoom (route : Route) (bounds : TileBounds) (lent : List (List Coord)) (origin_scratch : ℕ)
     (out_origins : List ℕ) : Type 0 where
-  pub rings : LentOriginsRoom lengths coords origin_scratch (length out_origins) none_placed
-  pub stands : OriginsStand bounds (exterior (closed_rings lengths coords)) route out_origins
+  pub rings : LentOriginsRoom lent origin_scratch (length out_origins) none_placed
+  pub stands : OriginsStand bounds (exterior lent) route out_origins
 
 -- a polygon has room everywhere, its exterior also for the sweep's positions
-pub record PolygonRoom (lengths : List ℕ) (coords : List Float) (scratch order out out_lengths : ℕ) : Type 0 where
-  pub measurable : Measurable lengths coords
-  pub some : 0 < length lengths
-  pub scratch-room : 2 * largest ring_room (closed_rings lengths coords) ≤ scratch
-  pub positions : largest ring_room (closed_rings lengths coords) ≤ order
-  pub output-room : 2 * total ring_room (closed_rings lengths coords) ≤ out
-  pub lengths-room : length lengths ≤ out_lengths
+pub record PolygonRoom (lent : List (List Coord)) (scratch order out out_lengths : ℕ) : Type 0 where
+  pub small : total length lent ≤ most_coordinates
+  pub some : 0 < length lent
+  pub scratch-room : 2 * largest ring_room lent ≤ scratch
+  pub positions : largest ring_room lent ≤ order
+  pub output-room : 2 * total ring_room lent ≤ out
+  pub lengths-room : length lent ≤ out_lengths

@@ -4,8 +4,7 @@
 
 ghost use Rattle.std.specs.Prelude.{◌≡◌, ◌++◌, ◌*◌, length, take};
 ghost use Rattle.tile.specs.Ring as Ring;
-ghost use Rattle.rings.specs.LentRings.{closed_rings};
-ghost use Rattle.rings.specs.Internal.{Lent};
+ghost use Rattle.rings.specs.Internal.{rings_of};
 ghost use Rattle.clip.specs.Polygon as Polygon;
 ghost use Rattle.clip.specs.Origins as Origins;
 ghost use Rattle.polygon_rings.specs.WrittenRings.{origins_of};
@@ -13,6 +12,7 @@ ghost use Rattle.polygon_rings.specs.Internal as Internal;
 
 use clip::polygon::{Flags, PolygonAnswer, Reason, Route, clip_hole, route_exterior};
 use rings::lent::{has_huge_ring, polygon_rect_all_rings};
+use rings::lent_rings::LentRings;
 use rings::rectangle::Rect;
 use tile::TileBounds;
 
@@ -83,8 +83,7 @@ fn put_hole(
 
 // Cuts lent rings as holes, each in the output behind the rings counted so far, and their origins in theirs.
 fn put_holes(
-    coords: &[f64],
-    lengths: &[u32],
+    rings: LentRings,
     bounds: TileBounds,
     scratch: &mut [f64],
     origin_scratch: &mut [u16],
@@ -93,23 +92,21 @@ fn put_holes(
     out_origins: &mut [u16],
     exterior: Placed,
 ) -> Placed
-    requires lent_rings_room { Internal.LentRingsRoom lengths.now coords.now (length scratch.old) (length out.old)
+    requires lent_rings_room { Internal.LentRingsRoom (rings_of rings) (length scratch.old) (length out.old)
         (length out_lengths.old) exterior }
-    requires lent_origins_room { Internal.LentOriginsRoom lengths.now coords.now (length origin_scratch.old) (length out_origins.old)
+    requires lent_origins_room { Internal.LentOriginsRoom (rings_of rings) (length origin_scratch.old) (length out_origins.old)
         exterior }
-    ensures rings { Internal.PutHoles (Polygon.cut_holes bounds (closed_rings lengths.now coords.now))
+    ensures rings { Internal.PutHoles (Polygon.cut_holes bounds (rings_of rings.entry))
         exterior out.old out_lengths.old result out.new out_lengths.new }
     ensures origins { take result.coordinates out_origins.new ≡ take exterior.coordinates
         out_origins.old
-        ++ origins_of (Origins.holes_origins bounds (closed_rings lengths.now coords.now)) }
+        ++ origins_of (Origins.holes_origins bounds (rings_of rings.entry)) }
 {
     let mut placed = exterior;
-    let mut at = 0usize;
-    for length in lengths {
-        let n = *length as usize;
+    for ring in rings {
         placed = put_hole(
-            &coords[at..],
-            n,
+            ring,
+            ring.len() / 2,
             bounds,
             scratch,
             origin_scratch,
@@ -118,7 +115,6 @@ fn put_holes(
             out_origins,
             placed,
         );
-        at += 2 * n;
     }
     placed
 }
@@ -126,8 +122,7 @@ fn put_holes(
 // Puts the holes behind the cut exterior of m coordinates, which stands at the front of the output with its origins at the front of
 // theirs, and answers how much is counted.
 fn put_cut(
-    coords: &[f64],
-    lengths: &[u32],
+    rings: LentRings,
     m: usize,
     bounds: TileBounds,
     scratch: &mut [f64],
@@ -136,26 +131,26 @@ fn put_cut(
     out_lengths: &mut [u32],
     out_origins: &mut [u16],
 ) -> Placed
-    requires lent_cut_room { Internal.LentCutRoom bounds lengths.now coords.now m (length scratch.old) out.old
+    requires lent_cut_room { Internal.LentCutRoom bounds (rings_of rings) m (length scratch.old) out.old
         (length out_lengths.old) }
-    requires lent_route_origin_room { Internal.LentRouteOriginRoom (Route.Cut m) bounds lengths.now coords.now (length origin_scratch.old)
+    requires lent_route_origin_room { Internal.LentRouteOriginRoom (Route.Cut m) bounds (rings_of rings) (length origin_scratch.old)
         out_origins.old }
-    ensures count { result.rings ≡ length (Polygon.cut_rings bounds (closed_rings lengths.now coords.now)) }
+    ensures count { result.rings ≡ length (Polygon.cut_rings bounds (rings_of rings.entry)) }
     ensures written { Internal.Filled
-        (Polygon.cut (Polygon.cut_rings bounds (closed_rings lengths.now coords.now)))
+        (Polygon.cut (Polygon.cut_rings bounds (rings_of rings.entry)))
         result.coordinates out_lengths.old out.new out_lengths.new }
-    ensures origins { Internal.FilledOrigins (Origins.cut_origins bounds (closed_rings lengths.now coords.now))
+    ensures origins { Internal.FilledOrigins (Origins.cut_origins bounds (rings_of rings.entry))
         result.coordinates out_origins.new }
 {
+    let mut holes = rings;
+    holes.next();
     let none = Placed {
         rings: 0,
         coordinates: 0,
     };
     let exterior = count_ring(m, out_lengths, none);
-    let start = 2 * lengths[0] as usize;
     put_holes(
-        &coords[start..],
-        &lengths[1..],
+        holes,
         bounds,
         scratch,
         origin_scratch,
@@ -168,11 +163,10 @@ fn put_cut(
 
 // An overlay is wanted, unless a coordinate is too large for it.
 #[tactic(auto, unfolding(clip::specs::Polygon::overlay_or_dropped))]
-fn overlay_or_dropped(coords: &[f64], lengths: &[u32], reason: Reason) -> PolygonAnswer
-    requires { Lent lengths.now coords.now }
-    ensures { result ≡ Polygon.answer_of (Polygon.overlay_or_dropped (closed_rings lengths.now coords.now) reason) }
+fn overlay_or_dropped(rings: LentRings, reason: Reason) -> PolygonAnswer
+    ensures { result ≡ Polygon.answer_of (Polygon.overlay_or_dropped (rings_of rings.entry) reason) }
 {
-    if has_huge_ring(coords, lengths) {
+    if has_huge_ring(rings) {
         return PolygonAnswer::Dropped;
     }
     PolygonAnswer::Overlay(reason)
@@ -184,25 +178,24 @@ fn overlay_or_dropped(coords: &[f64], lengths: &[u32], reason: Reason) -> Polygo
 fn answer_route(
     route: Route,
     bounds: TileBounds,
-    coords: &[f64],
-    lengths: &[u32],
+    rings: LentRings,
     scratch: &mut [f64],
     origin_scratch: &mut [u16],
     out: &mut [f64],
     out_lengths: &mut [u32],
     out_origins: &mut [u16],
 ) -> Clipped
-    requires lent_route_room { Internal.LentRouteRoom route bounds lengths.now coords.now (length scratch.old) out.old
+    requires lent_route_room { Internal.LentRouteRoom route bounds (rings_of rings) (length scratch.old) out.old
         (length out_lengths.old) }
-    requires lent_route_origin_room { Internal.LentRouteOriginRoom route bounds lengths.now coords.now (length origin_scratch.old)
+    requires lent_route_origin_room { Internal.LentRouteOriginRoom route bounds (rings_of rings) (length origin_scratch.old)
         out_origins.old }
     ensures answer { result.answer ≡ Polygon.answer_of
-        (Polygon.routed route bounds (closed_rings lengths.now coords.now)) }
-    ensures written { Internal.Filled (Polygon.routed route bounds (closed_rings lengths.now coords.now))
+        (Polygon.routed route bounds (rings_of rings.entry)) }
+    ensures written { Internal.Filled (Polygon.routed route bounds (rings_of rings.entry))
         result.coordinates out_lengths.old out.new out_lengths.new }
     ensures origins { Internal.FilledOrigins (Origins.routed_origins
-        (Polygon.routed route bounds (closed_rings lengths.now coords.now)) bounds
-        (closed_rings lengths.now coords.now)) result.coordinates out_origins.new }
+        (Polygon.routed route bounds (rings_of rings.entry)) bounds
+        (rings_of rings.entry)) result.coordinates out_origins.new }
 {
     match route {
         Route::Nothing => Clipped {
@@ -214,7 +207,7 @@ fn answer_route(
             coordinates: 0,
         },
         Route::Overlay(reason) => {
-            let answer = overlay_or_dropped(coords, lengths, reason);
+            let answer = overlay_or_dropped(rings, reason);
             Clipped {
                 answer,
                 coordinates: 0,
@@ -222,8 +215,7 @@ fn answer_route(
         }
         Route::Cut(m) => {
             let all = put_cut(
-                coords,
-                lengths,
+                rings,
                 m,
                 bounds,
                 scratch,
@@ -246,8 +238,7 @@ fn answer_route(
 pub fn clip_polygon(
     flags: Flags,
     bounds: TileBounds,
-    coords: &[f64],
-    lengths: &[u32],
+    rings: LentRings,
     scratch: &mut [f64],
     origin_scratch: &mut [u16],
     order: &mut [u32],
@@ -255,19 +246,19 @@ pub fn clip_polygon(
     out_lengths: &mut [u32],
     out_origins: &mut [u16],
 ) -> Clipped
-    requires polygon_room { Internal.PolygonRoom lengths.now coords.now (length scratch.old) (length order.old) (length out.old)
+    requires polygon_room { Internal.PolygonRoom (rings_of rings) (length scratch.old) (length order.old) (length out.old)
         (length out_lengths.old) }
-    requires lent_origins_room { Internal.LentOriginsRoom lengths.now coords.now (length origin_scratch.old) (length out_origins.old)
+    requires lent_origins_room { Internal.LentOriginsRoom (rings_of rings) (length origin_scratch.old) (length out_origins.old)
         Internal.none_placed }
     ensures answer { result.answer ≡ Polygon.answer_of
-        (Polygon.route flags bounds (closed_rings lengths.now coords.now)) }
-    ensures written { Internal.Filled (Polygon.route flags bounds (closed_rings lengths.now coords.now))
+        (Polygon.route flags bounds (rings_of rings.entry)) }
+    ensures written { Internal.Filled (Polygon.route flags bounds (rings_of rings.entry))
         result.coordinates out_lengths.old out.new out_lengths.new }
     ensures origins { Internal.FilledOrigins (Origins.routed_origins
-        (Polygon.route flags bounds (closed_rings lengths.now coords.now)) bounds
-        (closed_rings lengths.now coords.now)) result.coordinates out_origins.new }
+        (Polygon.route flags bounds (rings_of rings.entry)) bounds
+        (rings_of rings.entry)) result.coordinates out_origins.new }
 {
-    let rect = polygon_rect_all_rings(coords, lengths);
+    let rect = polygon_rect_all_rings(rings);
     match rect {
         Rect::Nothing => Clipped {
             answer: PolygonAnswer::Nothing,
@@ -279,9 +270,9 @@ pub fn clip_polygon(
         },
         Rect::Box(west, south, east, north) => {
             let found = Rect::Box(west, south, east, north);
-            let n = lengths[0] as usize;
+            let n = rings.lengths[0] as usize;
             let route = route_exterior(
-                coords,
+                rings.coords,
                 n,
                 flags,
                 found,
@@ -295,8 +286,7 @@ pub fn clip_polygon(
             answer_route(
                 route,
                 bounds,
-                coords,
-                lengths,
+                rings,
                 scratch,
                 origin_scratch,
                 out,

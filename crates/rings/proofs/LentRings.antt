@@ -1,120 +1,102 @@
--- The rings of a lent polygon from the k-th on, whose numbers start at a place of the slice: one ring further, and past the last. Assumes
--- nothing.
+-- The rings of a lent polygon, one ring further and past the last. Assumes nothing.
 use mathlib.Core.Path.{◌≡◌, refl, ap}
 use mathlib.Core.Bool.{false, ◌||◌}
 use mathlib.Core.List.{List, [], ◌∷◌}
 use Prim.Native.Nat.{ℕ, suc, ◌+◌, ◌*◌, ◌^◌, ◌<◌, ◌≤◌, max}
-use native.Mathlib.Numerals.{add-one}
 use native.Mathlib.Omega.{arith}
 use lib.Ieee.{Float}
-use lib.ListN.{length, get_or, take, drop, drop_of_length-le}
-use lib.Seq.{drop-cons, drop-drop}
+use lib.ListN.{length, get_or, take, drop, drop_of_length-le, length-drop}
 use Rattle.std.specs.List.{sum_by}
 use Rattle.std.proofs.lemmas.List.Recursion.{is_sum_by}
 use Rattle.tile.specs.declared.Coord.{Coord}
 use Rattle.tile.specs.Ring.{coords, close}
+use Rattle.tile.proofs.Rings.{length_front, close-most}
 use Rattle.sutherland_hodgman.specs.Growth.{most_coordinates}
 use Rattle.sutherland_hodgman.proofs.Offered.{B-le}
 use Rattle.rings.specs.declared.rectangle.Rect.{Rect}
 use Rattle.rings.specs.Rectangle.{with_ring, with_rings}
 use Rattle.rings.specs.Representable.{any_huge, any_huge_ring}
-use Rattle.rings.specs.LentRings.{sum, closed_rings, total, largest, ring_room}
-use Rattle.rings.specs.Internal.{Lent}
+use Rattle.rings.specs.LentRings.{Lent, sum, closed_rings, total, largest, ring_room}
 use Rattle.rings.proofs.Closing.{rect_close, huge-close}
 
--- the numbers of the rings that are left are there
-pub record Left (lengths : List ℕ) (s : List Float) (k at : ℕ) : Type 0 where
-  pub rings : k ≤ length lengths
-  pub numbers : at + 2 * sum (drop k lengths) ≤ length s
+-- ---- the first ring is read off the front
 
-pub left_start : (lengths : List ℕ) (s : List Float) → Lent lengths s → Left lengths s 0 0
-left_start lengths s l = record { rings = omega arith; numbers = omega (arith, l.fits) }
+pub no_rings : (ns : List ℕ) (s : List Float) → length ns ≡ 0 → closed_rings ns s ≡ []
+unfolding closed_rings
+no_rings [] s e = refl
+no_rings (n ∷ ns) s e = absurd (omega arith)
 
-pub sum_step : (lengths : List ℕ) (k : ℕ) → k < length lengths → sum (drop k lengths) ≡ get_or lengths k 0 + sum (drop (k + 1) lengths)
+pub first-fits : (ns : List ℕ) (s : List Float) (n : ℕ) (others : List ℕ) → ns ≡ n ∷ others → Lent ns s → 2 * n ≤ length s
 unfolding sum
-sum_step lengths k h = rw (add-one, drop-cons lengths k 0 h)
+first-fits ns s n others e l = omega (arith, l.fits, ap sum e)
 
-pub sum_end : (lengths : List ℕ) (k : ℕ) → length lengths ≤ k → sum (drop k lengths) ≡ 0
+pub others_lent : (ns : List ℕ) (s : List Float) (n : ℕ) (others : List ℕ) (rest : List Float) → ns ≡ n ∷ others → rest ≡ drop (2 * n) s
+    → Lent ns s → Lent others rest
 unfolding sum
-sum_end lengths k h = rw (drop_of_length-le lengths h)
+others_lent ns s n others rest e behind l = record {
+  few = omega (arith, l.few, ap length e);
+  fits = omega (arith, l.fits, ap sum e, ap length behind, length-drop (2 * n) s);
+}
 
-module _ (lengths : List ℕ) (s : List Float) (k at : ℕ) (h : k < length lengths) where
-  pub rings-step : closed_rings (drop k lengths) (drop at s) ≡ close (coords (take (2 * get_or lengths k 0) (drop at s))) ∷ closed_rings
-      (drop (k + 1) lengths) (drop (at + 2 * get_or lengths k 0) s)
-  unfolding closed_rings
-  rings-step = rw (add-one, drop-cons lengths k 0 h) (rw (drop-drop (2 * get_or lengths k 0) at s))
+pub first_ring : (ns : List ℕ) (s : List Float) (n : ℕ) (others : List ℕ) (ring rest : List Float) → ns ≡ n ∷ others
+    → ring ≡ take (2 * n) s → rest ≡ drop (2 * n) s → closed_rings ns s ≡ close (coords ring) ∷ closed_rings others rest
+unfolding closed_rings
+first_ring ns s n others ring rest e front behind = rw (e, front, behind) refl
 
-  pub left-ring : Left lengths s k at → at + 2 * get_or lengths k 0 ≤ length s
-  left-ring l = omega (arith, l.numbers, sum_step lengths k h)
-
-  pub left_next : Left lengths s k at → Left lengths s (k + 1) (at + 2 * get_or lengths k 0)
-  left_next l = record { rings = omega arith; numbers = omega (arith, l.numbers, sum_step lengths k h) }
+pub fewer-rings : {A : Type 0} {l r : List A} {x : A} → l ≡ x ∷ r → length r < length l
+fewer-rings e = omega (arith, ap length e)
 
 -- the sum is std's
 pub sum_std : (ns : List ℕ) → sum ns ≡ sum_by (λ n. n) ns
 unfolding sum
 sum_std = is_sum_by sum (λ n. n) refl (λ _ _. refl)
 
-pub rings_end : (lengths : List ℕ) (s : List Float) (k : ℕ) → length lengths ≤ k → closed_rings (drop k lengths) s ≡ []
-unfolding closed_rings
-rings_end lengths s k h = rw (drop_of_length-le lengths h)
+-- ---- what is found in all rings is found in the first and in those behind it
 
--- ---- a number of each ring, summed
-
-module _ (f : List Coord → ℕ) (lengths : List ℕ) (s : List Float) (k : ℕ) where
-  pub total-step : (at : ℕ) → k < length lengths → total f (closed_rings (drop k lengths) (drop at s)) ≡ f
-      (close (coords (take (2 * get_or lengths k 0) (drop at s)))) + total f
-      (closed_rings (drop (k + 1) lengths) (drop (at + 2 * get_or lengths k 0) s))
+module _ (rings : List (List Coord)) (ring : List Coord) (others : List (List Coord)) (e : rings ≡ close ring ∷ others) where
+  pub total-step : (f : List Coord → ℕ) → total f rings ≡ f (close ring) + total f others
   unfolding total
-  total-step at h = rw (rings-step lengths s k at h)
+  total-step f = ap (total f) e
 
-  pub total_end : (at : ℕ) → length lengths ≤ k → total f (closed_rings (drop k lengths) (drop at s)) ≡ 0
+  pub largest_step : (f : List Coord → ℕ) → largest f rings ≡ max (f (close ring)) (largest f others)
+  unfolding largest
+  largest_step f = ap (largest f) e
+
+  pub rect_step : (r : Rect) → with_rings r rings ≡ with_rings (with_ring r ring) others
+  unfolding with_rings
+  rect_step r = rw e (ap (λ (q : Rect). with_rings q others) (rect_close r ring))
+
+  pub huge-step : any_huge_ring rings ≡ (any_huge ring || any_huge_ring others)
+  unfolding any_huge_ring
+  huge-step = rw (e, huge-close ring)
+
+module _ (rings : List (List Coord)) (e : rings ≡ []) where
+  pub total_end : (f : List Coord → ℕ) → total f rings ≡ 0
   unfolding total
-  total_end at h = rw (rings_end lengths (drop at s) k h)
+  total_end f = ap (total f) e
 
--- and the largest
+  pub largest_end : (f : List Coord → ℕ) → largest f rings ≡ 0
+  unfolding largest
+  largest_end f = ap (largest f) e
+
+  pub rect_end : (r : Rect) → with_rings r rings ≡ r
+  unfolding with_rings
+  rect_end r = ap (with_rings r) e
+
+  pub huge_end : any_huge_ring rings ≡ false
+  unfolding any_huge_ring
+  huge_end = ap any_huge_ring e
+
+-- the larger of two
 pub larger_least : (a b : ℕ) → (a ≤ max a b) × (b ≤ max a b)
 larger_least a b = (omega arith, omega arith)
 
 pub larger-most : (m a b : ℕ) → a ≤ m → b ≤ m → max a b ≤ m
 larger-most m a b ha hb = omega arith
 
-module _ (f : List Coord → ℕ) (lengths : List ℕ) (s : List Float) (k : ℕ) where
-  pub largest_step : (at : ℕ) → k < length lengths → largest f (closed_rings (drop k lengths) (drop at s)) ≡ max
-      (f (close (coords (take (2 * get_or lengths k 0) (drop at s)))))
-      (largest f (closed_rings (drop (k + 1) lengths) (drop (at + 2 * get_or lengths k 0) s)))
-  unfolding largest
-  largest_step at h = rw (rings-step lengths s k at h)
-
-  pub largest_end : (at : ℕ) → length lengths ≤ k → largest f (closed_rings (drop k lengths) (drop at s)) ≡ 0
-  unfolding largest
-  largest_end at h = rw (rings_end lengths (drop at s) k h)
-
--- ---- the rectangle, and huge coordinates
-
-module _ (lengths : List ℕ) (s : List Float) (k at : ℕ) where
-  pub rect_step : (r : Rect) → k < length lengths → with_rings r (closed_rings (drop k lengths) (drop at s)) ≡ with_rings
-      (with_ring r (coords (take (2 * get_or lengths k 0) (drop at s))))
-      (closed_rings (drop (k + 1) lengths) (drop (at + 2 * get_or lengths k 0) s))
-  unfolding with_rings
-  rect_step r h =
-      rw (rings-step lengths s k at h) (ap (λ (q : Rect). with_rings q
-      (closed_rings (drop (k + 1) lengths) (drop (at + 2 * get_or lengths k 0) s)))
-      (rect_close r (coords (take (2 * get_or lengths k 0) (drop at s)))))
-
-  pub rect_end : (r : Rect) → length lengths ≤ k → with_rings r (closed_rings (drop k lengths) (drop at s)) ≡ r
-  unfolding with_rings
-  rect_end r h = rw (rings_end lengths (drop at s) k h)
-
-  pub huge-step : k < length lengths → any_huge_ring (closed_rings (drop k lengths) (drop at s))
-      ≡ (any_huge (coords (take (2 * get_or lengths k 0) (drop at s))) || any_huge_ring
-      (closed_rings (drop (k + 1) lengths) (drop (at + 2 * get_or lengths k 0) s)))
-  unfolding any_huge_ring
-  huge-step h = rw (rings-step lengths s k at h, huge-close (coords (take (2 * get_or lengths k 0) (drop at s))))
-
-  pub huge_end : length lengths ≤ k → any_huge_ring (closed_rings (drop k lengths) (drop at s)) ≡ false
-  unfolding any_huge_ring
-  huge_end h = rw (rings_end lengths (drop at s) k h)
+pub rings_end : (lengths : List ℕ) (s : List Float) (k : ℕ) → length lengths ≤ k → closed_rings (drop k lengths) s ≡ []
+unfolding closed_rings
+rings_end lengths s k h = rw (drop_of_length-le lengths h)
 
 -- ---- how much it can be
 
@@ -128,6 +110,14 @@ pub sum_below : (ns : List ℕ) → ((i : ℕ) → get_or ns i 0 < 2 ^ 32) → s
 unfolding sum
 sum_below [] h = omega arith
 sum_below (n ∷ ns) h = let e = sum_below ns (λ i. h (suc i)) in let m = h 0 in omega arith
+
+-- closing adds at most one coordinate to each ring
+pub closed_most : (ns : List ℕ) (s : List Float) → 2 * sum ns ≤ length s → total length (closed_rings ns s) ≤ sum ns + length ns
+unfolding sum closed_rings total
+closed_most [] s h = omega arith
+closed_most (n ∷ ns) s h =
+    let e = closed_most ns (drop (2 * n) s) (omega (arith, length-drop (2 * n) s)) in
+    omega (arith, e, close-most (coords (take (2 * n) s)), length_front s n (omega arith))
 
 pub largest-total : (f : List Coord → ℕ) (rings : List (List Coord)) → largest f rings ≤ total f rings
 unfolding largest total

@@ -1,6 +1,6 @@
 -- The rings of a polygon that is lent as x, y numbers, ring behind ring, and their lengths; what the refusals measure of them (document 01,
 -- "Frames"). Definitions only.
-use Rattle.std.specs.Prelude.{List, [], ◌∷◌, ℕ, ◌+◌, ◌*◌, max, Float, length, get_or, take, drop}
+use Rattle.std.specs.Prelude.{List, [], ◌∷◌, ℕ, ◌+◌, ◌*◌, ◌≤◌, max, Float, length, get_or, take, drop}
 use Rattle.tile.specs.declared.Coord.{Coord}
 use Rattle.tile.specs.Ring.{coords, close}
 use Rattle.sutherland_hodgman.specs.Growth.{B}
@@ -12,6 +12,11 @@ most_rings = 64
 unfoldable pub sum : List ℕ → ℕ
 sum [] = 0
 sum (n ∷ ns) = n + sum ns
+
+-- at most 64 rings, whose lengths fit in the numbers that are lent
+pub record Lent (lengths : List ℕ) (coords : List Float) : Type 0 where
+  pub few : length lengths ≤ most_rings
+  pub fits : 2 * sum lengths ≤ length coords
 
 -- the lent rings, closed: "The frame reader and the slice call, both added, close rings by this rule."
 unfoldable pub closed_rings : List ℕ → List Float → List (List Coord)

@@ -1,11 +1,15 @@
 // Walks over all rings of a polygon that is lent as x, y numbers, ring behind ring, and their lengths in coordinates: the source's
 // `polygon_rect_all_rings` and `polygon_representable`, and what the refusals measure.
 ghost use Rattle.std.specs.Prelude.{◌≡◌, ◌*◌, ◌≤◌, length};
+ghost use Rattle.std.specs.Iterator.{YieldsFirstBy, item_count};
+ghost use Rattle.tile.specs.Ring as Ring;
+ghost use Rattle.sutherland_hodgman.specs.Growth.{most_coordinates};
 ghost use Rattle.rings.specs.Rectangle.{rectangle};
 ghost use Rattle.rings.specs.Representable.{any_huge_ring};
-ghost use Rattle.rings.specs.LentRings as LentRings;
-ghost use Rattle.rings.specs.Internal as Internal;
+ghost use Rattle.rings.specs.LentRings.{most_rings, sum, total};
+ghost use Rattle.rings.specs.Internal.{rings_of, RoomOf};
 
+use super::lent_rings::LentRings;
 use super::rectangle::{Rect, with_ring};
 use super::representable::has_huge;
 use sutherland_hodgman::growth::room_for;
@@ -13,6 +17,22 @@ use tile::ring::closed_count;
 
 // The most rings that a polygon may have.
 pub const MOST_RINGS: usize = 64;
+
+// The walk over the rings gives the numbers of the first; the rings behind it are left.
+impl<'a> Iterator for LentRings<'a> {
+    type Item = &'a [f64];
+
+    ghost next_gives = { YieldsFirstBy (λ ring. Ring.close (Ring.coords ring.now)) rings_of };
+
+    ghost remaining = { item_count rings_of };
+
+    fn next(&mut self) -> Option<&'a [f64]> {
+        let (length, lengths) = self.lengths.split_first()?;
+        let (ring, coords) = self.coords.split_at(2 * *length as usize);
+        *self = LentRings { coords, lengths };
+        Some(ring)
+    }
+}
 
 // The largest room of a ring, and the room of all, in coordinates.
 #[derive(Clone, Copy)]
@@ -23,72 +43,57 @@ pub struct RoomNeeded {
 
 // How many coordinates the rings have, as lent.
 pub fn lent_count(lengths: &[u32]) -> usize
-    requires { length lengths.now ≤ LentRings.most_rings }
-    ensures { result ≡ LentRings.sum lengths.now }
+    requires { length lengths.now ≤ most_rings }
+    ensures { result ≡ sum lengths.now }
 {
     lengths.iter().map(|n| *n as usize).sum()
 }
 
 // How many coordinates the rings have, closed.
-pub fn closed_sum(coords: &[f64], lengths: &[u32]) -> usize
-    requires { Internal.Lent lengths.now coords.now }
-    ensures { result ≡ LentRings.total length (LentRings.closed_rings lengths.now coords.now) }
+pub fn closed_sum(rings: LentRings) -> usize
+    ensures { result ≡ total length (rings_of rings.entry) }
 {
     let mut count = 0usize;
-    let mut at = 0usize;
-    for length in lengths {
-        let n = *length as usize;
-        count += closed_count(&coords[at..][..2 * n]);
-        at += 2 * n;
+    for ring in rings {
+        count += closed_count(ring);
     }
     count
 }
 
 // The room for cutting the rings, closed.
-pub fn room_of(coords: &[f64], lengths: &[u32]) -> RoomNeeded
-    requires { Internal.Measurable lengths.now coords.now }
-    ensures { Internal.RoomOf (LentRings.closed_rings lengths.now coords.now) result.largest result.all }
+pub fn room_of(rings: LentRings) -> RoomNeeded
+    requires { total length (rings_of rings) ≤ most_coordinates }
+    ensures { RoomOf (rings_of rings.entry) result.largest result.all }
 {
     let mut largest = 0usize;
     let mut all = 0usize;
-    let mut at = 0usize;
-    for length in lengths {
-        let n = *length as usize;
-        let room = room_for(closed_count(&coords[at..][..2 * n]));
+    for ring in rings {
+        let room = room_for(closed_count(ring));
         largest = largest.max(room);
         all += room;
-        at += 2 * n;
     }
     RoomNeeded { largest, all }
 }
 
 // The rectangle of all rings.
-pub fn polygon_rect_all_rings(coords: &[f64], lengths: &[u32]) -> Rect
-    requires { Internal.Lent lengths.now coords.now }
-    ensures { result ≡ rectangle (LentRings.closed_rings lengths.now coords.now) }
+pub fn polygon_rect_all_rings(rings: LentRings) -> Rect
+    ensures { result ≡ rectangle (rings_of rings.entry) }
 {
     let mut rect = Rect::Nothing;
-    let mut at = 0usize;
-    for length in lengths {
-        let n = *length as usize;
-        rect = with_ring(rect, &coords[at..][..2 * n]);
-        at += 2 * n;
+    for ring in rings {
+        rect = with_ring(rect, ring);
     }
     rect
 }
 
 // Whether a coordinate of any ring has a magnitude of 1e150 or more.
-pub fn has_huge_ring(coords: &[f64], lengths: &[u32]) -> bool
-    requires { Internal.Lent lengths.now coords.now }
-    ensures { result ≡ any_huge_ring (LentRings.closed_rings lengths.now coords.now) }
+pub fn has_huge_ring(rings: LentRings) -> bool
+    ensures { result ≡ any_huge_ring (rings_of rings.entry) }
 {
-    let mut at = 0usize;
-    for length in lengths {
-        let n = *length as usize;
-        if has_huge(&coords[at..][..2 * n]) {
+    for ring in rings {
+        if has_huge(ring) {
             return true;
         }
-        at += 2 * n;
     }
     false
 }

@@ -4,5 +4,6 @@
 
 pub mod bridge;
 pub mod lent;
+pub mod lent_rings;
 pub mod rectangle;
 pub mod representable;

@@ -49,7 +49,7 @@ use Rattle.slices.specs.SliceCall.{
   slice_call_guards,
   guards_in,
 }
-use Rattle.slices.proofs.Checks.{passes-room}
+use Rattle.slices.proofs.Checks.{fitting, passes_fit, passes-room}
 
 unless_most : (c : List Coord) (l : List (List Coord)) → length (unless_none c l) ≤ suc (length l)
 unless_most [] l = omega arith
@@ -175,9 +175,10 @@ module _ (flags : Flags) (bounds : TileBounds) (buffer : Float) (s : List Float)
   unfolding slice_call_answer route_lent
   answer_fields a e =
       let p = passed (slice_call_check s ns lent) (route_lent flags bounds buffer s ns) a e in
-      let m = (passes-room ns s _ _ _ _ _ _ _ p.1).0.measurable in
-      let few : length (closed_rings ns s) ≤ most_rings = omega (arith, length-closed ns s, m.lent.few) in
-      let small : length (exterior (closed_rings ns s)) ≤ most_coordinates = omega (arith, exterior-most (closed_rings ns s), m.small) in
+      let few : length (closed_rings ns s) ≤ most_rings =
+      omega (arith, length-closed ns s, (fitting ns s (passes_fit ns s _ _ _ _ _ _ _ p.1)).few) in
+      let small : length (exterior (closed_rings ns s)) ≤ most_coordinates =
+      omega (arith, exterior-most (closed_rings ns s), (passes-room ns s _ _ _ _ _ _ _ p.1).0.small) in
       rw (← p.2) (route_fields (buffered bounds buffer) (closed_rings ns s) few small flags)
 
   pub answer-below : (a : Answered) → slice_call_answer flags bounds buffer s ns lent ≡ Ok a

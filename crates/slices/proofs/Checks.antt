@@ -1,5 +1,5 @@
 -- What the checks of a slice call leave: a polygon that passes them has room everywhere. Assumes nothing.
-use mathlib.Core.Path.{◌≡◌, refl, sym, ap}
+use mathlib.Core.Path.{◌≡◌, ◌∙◌, refl, sym, ap}
 use mathlib.Core.Bool.{Bool, true, false, not, ◌&&◌, ◌||◌}
 use mathlib.Core.List.{List, [], ◌++◌, append-nil, append_assoc}
 use Prim.Native.Nat.{ℕ, ◌*◌, ◌-◌, ◌<◌, ◌≤◌}
@@ -9,30 +9,31 @@ use lib.Ieee.{Float}
 use lib.ListN.{length, take, drop, replicate, length-append, take-append-drop, drop_of_length-le}
 use lib.Seq.{length-take-le}
 use borrow.Author.Tests.{ltb-true, ltb-false, leb-true, eqb-true, not-false}
-use Rattle.std.specs.Prelude.{Result, Ok}
+use Rattle.std.specs.Prelude.{Result, Ok, Err}
 use Rattle.binary64.specs.Slices.{plus_zero, zeros, padded}
 use Rattle.binary64.proofs.Fill.{padded-part}
 use Rattle.binary64.proofs.Booleans.{neither, both}
 use Rattle.sutherland_hodgman.specs.Growth.{most_coordinates}
 use Rattle.ring_calls.specs.declared.Refusal.{Refusal}
 use Rattle.ring_calls.specs.declared.Refusal.TheVariants.{Lengths, Coordinates, Scratch, Output}
-use Rattle.rings.specs.LentRings.{most_rings, sum, closed_rings, total, largest, ring_room}
-use Rattle.rings.specs.Internal.{Lent, Measurable}
+use Rattle.tile.specs.declared.Coord.{Coord}
+use Rattle.rings.specs.LentRings.{Lent, most_rings, sum, closed_rings, total, largest, ring_room}
 use Rattle.rings.proofs.LentRings.{length-closed, largest-total, rooms_below}
 use Rattle.clip.specs.Polygon.{Routed}
 use Rattle.polygon_rings.specs.WrittenRings.{written_rings, numbers_of, origins_of}
 use Rattle.polygon_rings.specs.Internal.{none_placed, LentOriginsRoom, PolygonRoom, Filled, FilledOrigins}
-use Rattle.slices.specs.SliceCall.{refused_if, lengths_fit, slice_call_room, slice_call_origin_room, check_room, check_polygon}
+use Rattle.slices.specs.SliceCall.{refused_if, lengths_fit, slice_call_room, slice_call_origin_room, check_room, check_rings, check_polygon}
 use Rattle.slices.specs.Internal.{FilledWhole}
 
 -- the rooms of a few rings are numbers of the machine
-pub few_rooms : (ns : List ℕ) (s : List Float) → Measurable ns s → (largest ring_room (closed_rings ns s) ≤ most_rings * (8 * most_coordinates))
+pub few_rooms : (ns : List ℕ) (s : List Float) → length ns ≤ most_rings → total length (closed_rings ns s) ≤ most_coordinates
+    → (largest ring_room (closed_rings ns s) ≤ most_rings * (8 * most_coordinates))
     × (total ring_room (closed_rings ns s) ≤ most_rings * (8 * most_coordinates))
-few_rooms ns s m =
-    let b = rooms_below (closed_rings ns s) m.small in
+few_rooms ns s few small =
+    let b = rooms_below (closed_rings ns s) small in
     let t = largest-total ring_room (closed_rings ns s) in
     let n = length-closed ns s in
-    (omega (arith, m.lent.few), omega (arith, m.lent.few))
+    (omega arith, omega arith)
 
 module _ (ns : List ℕ) (s : List Float) (h : lengths_fit (length s) ns ≡ true) where
   tests : (ltb 0 (length ns) ≡ true) × (leb (length ns) most_rings ≡ true) × (eqb (2 * sum ns) (length s) ≡ true)
@@ -63,17 +64,16 @@ not-refused false r c room e = (refl, e)
 module _ (ns : List ℕ) (s : List Float) (scratch origin_scratch order out lens out_origins room : ℕ)
     (h : check_polygon s ns scratch origin_scratch order out lens out_origins ≡ Ok room) where
   past_lengths : (not (lengths_fit (length s) ns) ≡ false)
-      × (refused_if (ltb most_coordinates (total length (closed_rings ns s))) Coordinates
-      (check_room (closed_rings ns s) scratch origin_scratch order out lens out_origins) ≡ Ok room)
+      × (check_rings (closed_rings ns s) scratch origin_scratch order out lens out_origins ≡ Ok room)
   unfolding check_polygon
   past_lengths = not-refused (not (lengths_fit (length s) ns)) Lengths _ room h
 
   pub passes_fit : lengths_fit (length s) ns ≡ true
   passes_fit = not-false (lengths_fit (length s) ns) past_lengths.0
 
-  pub passes-room : PolygonRoom ns s scratch order out lens × LentOriginsRoom ns s origin_scratch out_origins none_placed
-      × (room ≡ total ring_room (closed_rings ns s))
-  unfolding check_room slice_call_room slice_call_origin_room
+  pub passes-room : PolygonRoom (closed_rings ns s) scratch order out lens
+      × LentOriginsRoom (closed_rings ns s) origin_scratch out_origins none_placed × (room ≡ total ring_room (closed_rings ns s))
+  unfolding check_rings check_room slice_call_room slice_call_origin_room
   passes-room =
       let most = largest ring_room (closed_rings ns s) in
       let all = total ring_room (closed_rings ns s) in
@@ -84,13 +84,12 @@ module _ (ns : List ℕ) (s : List Float) (scratch origin_scratch order out lens
       let ts = none-of_three (ltb scratch (2 * most)) (ltb origin_scratch most) (ltb order most) q3.0 in
       let to = none-of_three (ltb out (2 * all)) (ltb lens n) (ltb out_origins all) q4.0 in (
         record {
-          measurable =
-              record { lent = fitting ns s passes_fit; small = ltb-false most_coordinates (total length (closed_rings ns s)) q2.0 };
-          some = some-rings ns s passes_fit;
+          small = ltb-false most_coordinates (total length (closed_rings ns s)) q2.0;
+          some = omega (arith, some-rings ns s passes_fit, length-closed ns s);
           scratch-room = ltb-false scratch (2 * most) ts.0;
           positions = ltb-false order most ts.2;
           output-room = ltb-false out (2 * all) to.0;
-          lengths-room = omega (arith, ltb-false lens n to.1, length-closed ns s);
+          lengths-room = ltb-false lens n to.1;
         },
         record {
           scratch-room = ltb-false origin_scratch most ts.1;
@@ -99,11 +98,23 @@ module _ (ns : List ℕ) (s : List Float) (scratch origin_scratch order out lens
         cc q4.1,
       )
 
+-- the checks, once the lengths fit
+pub past-fit : (ns : List ℕ) (s : List Float) (scratch origin_scratch order out lens out_origins : ℕ) → lengths_fit (length s) ns ≡ true
+    → check_polygon s ns scratch origin_scratch order out lens out_origins
+    ≡ check_rings (closed_rings ns s) scratch origin_scratch order out lens out_origins
+unfolding check_polygon
+past-fit ns s scratch origin_scratch order out lens out_origins e = rw e refl
+
+pub no-fit : (ns : List ℕ) (s : List Float) (scratch origin_scratch order out lens out_origins : ℕ) → lengths_fit (length s) ns ≡ false
+    → check_polygon s ns scratch origin_scratch order out lens out_origins ≡ Err Lengths
+unfolding check_polygon
+no-fit ns s scratch origin_scratch order out lens out_origins e = rw e refl
+
 -- where there is room everywhere, there is in the parts of the outputs that 22 asks for
-pub part_room : (ns : List ℕ) (s : List Float) (scratch order out lens part : ℕ) → 2 * total ring_room (closed_rings ns s) ≤ part
-    → PolygonRoom ns s scratch order out lens → PolygonRoom ns s scratch order part lens
-part_room ns s scratch order out lens part h p = record {
-  measurable = p.measurable;
+pub part_room : (lent : List (List Coord)) (scratch order out lens part : ℕ) → 2 * total ring_room lent ≤ part
+    → PolygonRoom lent scratch order out lens → PolygonRoom lent scratch order part lens
+part_room lent scratch order out lens part h p = record {
+  small = p.small;
   some = p.some;
   scratch-room = p.scratch-room;
   positions = p.positions;
@@ -111,9 +122,9 @@ part_room ns s scratch order out lens part h p = record {
   lengths-room = p.lengths-room;
 }
 
-pub part-origin-room : (ns : List ℕ) (s : List Float) (origin_scratch out_origins part : ℕ) → total ring_room (closed_rings ns s) ≤ part
-    → LentOriginsRoom ns s origin_scratch out_origins none_placed → LentOriginsRoom ns s origin_scratch part none_placed
-part-origin-room ns s origin_scratch out_origins part h o = record { scratch-room = o.scratch-room; output-room = omega arith }
+pub part-origin-room : (lent : List (List Coord)) (origin_scratch out_origins part : ℕ) → total ring_room lent ≤ part
+    → LentOriginsRoom lent origin_scratch out_origins none_placed → LentOriginsRoom lent origin_scratch part none_placed
+part-origin-room lent origin_scratch out_origins part h o = record { scratch-room = o.scratch-room; output-room = omega arith }
 
 -- ---- what was written, and the rest cleared
 
@@ -173,8 +184,8 @@ padded-front zero new part old room h e =
 pub record Passed (ns : List ℕ) (s : List Float) (scratch origin_scratch order out lens out_origins room : ℕ) : Type 0 where
   pub passes : check_polygon s ns scratch origin_scratch order out lens out_origins ≡ Ok room
   pub asked : room ≡ total ring_room (closed_rings ns s)
-  pub polygon-room : PolygonRoom ns s scratch order out lens
-  pub origin-room : LentOriginsRoom ns s origin_scratch out_origins none_placed
+  pub polygon-room : PolygonRoom (closed_rings ns s) scratch order out lens
+  pub origin-room : LentOriginsRoom (closed_rings ns s) origin_scratch out_origins none_placed
   pub within : 2 * room ≤ out
   pub origins-within : room ≤ out_origins
   pub small : room ≤ most_rings * (8 * most_coordinates)
@@ -191,5 +202,17 @@ passed_checks ns s scratch origin_scratch order out lens out_origins room e =
       origin-room = p.1;
       within = omega (arith, p.2, p.0.output-room);
       origins-within = omega (arith, p.2, p.1.output-room);
-      small = omega (arith, p.2, (few_rooms ns s p.0.measurable).1);
+      small =
+          let few = (fitting ns s (passes_fit ns s scratch origin_scratch order out lens out_origins room e)).few in
+          omega (arith, p.2, (few_rooms ns s few p.0.small).1);
     }
+
+-- what the checks of the rings that were made of lent slices say of these slices
+module _ (ns : List ℕ) (s : List Float) (ns' : List ℕ) (s' : List Float) (scratch origin_scratch order out lens out_origins : ℕ)
+    (fit : true ≡ lengths_fit (length s) ns) (same : (s' ≡ s) × (ns' ≡ ns)) (r : Result ℕ Refusal)
+    (e : r ≡ check_rings (closed_rings ns' s') scratch origin_scratch order out lens out_origins) where
+  pub checked : check_polygon s ns scratch origin_scratch order out lens out_origins ≡ r
+  checked = past-fit ns s scratch origin_scratch order out lens out_origins (sym fit) ∙ sym (rw (same.0, same.1) at e)
+
+  pub passed_rings : (room : ℕ) → r ≡ Ok room → Passed ns s scratch origin_scratch order out lens out_origins room
+  passed_rings room was = passed_checks ns s scratch origin_scratch order out lens out_origins room (checked ∙ was)

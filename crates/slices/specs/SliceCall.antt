@@ -47,13 +47,17 @@ check_room rings scratch origin_scratch order out out_lengths out_origins =
     (refused_if (ltb out (slice_call_room rings) || (ltb out_lengths (length rings) || ltb out_origins (slice_call_origin_room rings)))
     Output (Ok (slice_call_origin_room rings)))
 
--- 19 to 22, "tested in that order": "Ring lengths are taken after closing in B and 20."
+-- 20 to 22, of closed rings: "Ring lengths are taken after closing in B and 20."
+unfoldable pub check_rings : List (List Coord) → ℕ → ℕ → ℕ → ℕ → ℕ → ℕ → Result ℕ Refusal
+check_rings rings scratch origin_scratch order out out_lengths out_origins =
+    refused_if (ltb most_coordinates (total length rings)) Coordinates
+    (check_room rings scratch origin_scratch order out out_lengths out_origins)
+
+-- 19 to 22, "tested in that order"
 unfoldable pub check_polygon : List Float → List ℕ → ℕ → ℕ → ℕ → ℕ → ℕ → ℕ → Result ℕ Refusal
 check_polygon coords lengths scratch origin_scratch order out out_lengths out_origins =
-    let rings = closed_rings lengths coords in
     refused_if (not (lengths_fit (length coords) lengths)) Lengths
-    (refused_if (ltb most_coordinates (total length rings)) Coordinates
-    (check_room rings scratch origin_scratch order out out_lengths out_origins))
+    (check_rings (closed_rings lengths coords) scratch origin_scratch order out out_lengths out_origins)
 
 -- ---- the lent slices
 

@@ -1,13 +1,14 @@
 // The slice call: one polygon as lent slices. It is open to callers and refuses what it can't cut.
-ghost use Rattle.std.specs.Prelude.{◌≡◌, ◌*◌, ◌^◌, ◌<◌, length};
+ghost use Rattle.std.specs.Prelude.{◌≡◌, ◌*◌, ◌^◌, ◌<◌, ◌≤◌, length, is_ok, MatchResult};
 ghost use Rattle.binary64.specs.Slices.{padded};
-ghost use Rattle.rings.specs.LentRings.{closed_rings};
-ghost use Rattle.rings.specs.Internal.{Measurable};
+ghost use Rattle.sutherland_hodgman.specs.Growth.{most_coordinates};
+ghost use Rattle.rings.specs.LentRings.{total};
+ghost use Rattle.rings.specs.Internal.{rings_of};
 ghost use Rattle.clip.specs.Polygon as Polygon;
 ghost use Rattle.clip.specs.Origins as Origins;
 ghost use Rattle.polygon_rings.specs.WrittenRings.{origins_of};
 ghost use Rattle.polygon_rings.specs.Internal.{none_placed, LentOriginsRoom, PolygonRoom};
-ghost use Rattle.slices.specs.SliceCall.{lengths_fit, check_room, check_polygon, polygon_slices};
+ghost use Rattle.slices.specs.SliceCall.{lengths_fit, check_room, check_rings, polygon_slices};
 ghost use Rattle.slices.specs.SliceCall.{slice_call_answer, slice_call_slices, answer_code};
 ghost use Rattle.slices.specs.Internal.{FilledWhole};
 
@@ -15,6 +16,7 @@ use clip::polygon::{AnswerKind, Flags, PolygonAnswer, Reason, ReasonDetail, guar
 use polygon_rings::clip_polygon;
 use ring_calls::Refusal;
 use rings::lent::{MOST_RINGS, closed_sum, lent_count, room_of};
+use rings::lent_rings::LentRings;
 use sutherland_hodgman::growth::MOST_COORDINATES;
 use tile::TileBounds;
 
@@ -32,26 +34,30 @@ pub struct Answered {
     pub guards: usize,
 }
 
-// Refusal 19: no ring, too many, or lengths that don't fit the numbers lent.
+// The rings that are lent, or refusal 19: no ring, too many, or lengths that don't fit the numbers lent.
 #[tactic(auto, unfolding(crate::specs::SliceCall::lengths_fit))]
-fn lengths_fit(coords: &[f64], lengths: &[u32]) -> bool
-    ensures { result ≡ lengths_fit (length coords.now) lengths.now }
+fn lent_rings<'a>(coords: &'a [f64], lengths: &'a [u32]) -> Result<LentRings<'a>, Refusal>
+    ensures fit { is_ok result ≡ lengths_fit (length coords.now) lengths.now }
+    ensures rings { MatchResult result (λ rings. (rings.coords.now ≡ coords.now) × (rings.lengths.now ≡ lengths.now))
+        (λ refusal. refusal ≡ Refusal.Lengths) }
 {
     if lengths.len() == 0 {
-        return false;
+        return Err(Refusal::Lengths);
     }
     if MOST_RINGS < lengths.len() {
-        return false;
+        return Err(Refusal::Lengths);
     }
-    2 * lent_count(lengths) == coords.len()
+    if 2 * lent_count(lengths) != coords.len() {
+        return Err(Refusal::Lengths);
+    }
+    Ok(LentRings { coords, lengths })
 }
 
-// Refusals 21 and 22, of rings that fit: by the lengths of the scratch slice, that of the origins, the order slice, the output, the second
-// length slice and the output of the origins. Where there is none, for how many coordinates, and origins, 22 asks room in the outputs.
-#[tactic(auto, unfolding(crate::specs::SliceCall::check_room, crate::specs::SliceCall::slice_call_origin_room))]
+// Refusals 21 and 22, of rings that fit; if there is none, for how many coordinates, and origins, 22 asks room in the outputs: by the
+// lengths of the scratch slice, that of the origins, the order slice, the output, the second length slice and the output of the origins.
+#[tactic(auto, unfolding(crate::specs::SliceCall::check_room, crate::specs::SliceCall::slice_call_room, crate::specs::SliceCall::slice_call_origin_room))]
 fn check_room(
-    coords: &[f64],
-    lengths: &[u32],
+    rings: LentRings,
     scratch: usize,
     origin_scratch: usize,
     order: usize,
@@ -59,10 +65,10 @@ fn check_room(
     out_lengths: usize,
     out_origins: usize,
 ) -> Result<usize, Refusal>
-    requires { Measurable lengths.now coords.now }
-    ensures { result ≡ check_room (closed_rings lengths.now coords.now) scratch origin_scratch order out out_lengths out_origins }
+    requires { total length (rings_of rings) ≤ most_coordinates }
+    ensures { result ≡ check_room (rings_of rings.entry) scratch origin_scratch order out out_lengths out_origins }
 {
-    let room = room_of(coords, lengths);
+    let room = room_of(rings);
     if scratch < 2 * room.largest {
         return Err(Refusal::Scratch);
     }
@@ -76,7 +82,7 @@ fn check_room(
     if out < 2 * asked {
         return Err(Refusal::Output);
     }
-    if out_lengths < lengths.len() {
+    if out_lengths < rings.lengths.len() {
         return Err(Refusal::Output);
     }
     if out_origins < asked {
@@ -85,11 +91,10 @@ fn check_room(
     Ok(asked)
 }
 
-// The refusals of a slice call, in their order; if there is none, what `check_room` answers.
-#[tactic(auto, unfolding(crate::specs::SliceCall::check_polygon))]
-fn check_polygon(
-    coords: &[f64],
-    lengths: &[u32],
+// Refusals 20 to 22, in their order, of rings that fit; if there is none, what `check_room` answers.
+#[tactic(auto, unfolding(crate::specs::SliceCall::check_rings))]
+fn check_rings(
+    rings: LentRings,
     scratch: usize,
     origin_scratch: usize,
     order: usize,
@@ -97,17 +102,13 @@ fn check_polygon(
     out_lengths: usize,
     out_origins: usize,
 ) -> Result<usize, Refusal>
-    ensures { result ≡ check_polygon coords.now lengths.now scratch origin_scratch order out out_lengths out_origins }
+    ensures { result ≡ check_rings (rings_of rings.entry) scratch origin_scratch order out out_lengths out_origins }
 {
-    if !lengths_fit(coords, lengths) {
-        return Err(Refusal::Lengths);
-    }
-    if MOST_COORDINATES < closed_sum(coords, lengths) {
+    if MOST_COORDINATES < closed_sum(rings) {
         return Err(Refusal::Coordinates);
     }
     check_room(
-        coords,
-        lengths,
+        rings,
         scratch,
         origin_scratch,
         order,
@@ -121,8 +122,7 @@ fn check_polygon(
 fn clip_padded(
     flags: Flags,
     bounds: TileBounds,
-    coords: &[f64],
-    lengths: &[u32],
+    rings: LentRings,
     scratch: &mut [f64],
     origin_scratch: &mut [u16],
     order: &mut [u32],
@@ -130,22 +130,21 @@ fn clip_padded(
     out_lengths: &mut [u32],
     out_origins: &mut [u16],
 ) -> PolygonAnswer
-    requires polygon_room { PolygonRoom lengths.now coords.now (length scratch.old) (length order.old) (length out.old)
+    requires polygon_room { PolygonRoom (rings_of rings) (length scratch.old) (length order.old) (length out.old)
         (length out_lengths.old) }
-    requires lent_origins_room { LentOriginsRoom lengths.now coords.now (length origin_scratch.old) (length out_origins.old)
+    requires lent_origins_room { LentOriginsRoom (rings_of rings) (length origin_scratch.old) (length out_origins.old)
         none_placed }
-    ensures answer { result ≡ Polygon.answer_of (Polygon.route flags bounds (closed_rings lengths.now coords.now)) }
-    ensures written { FilledWhole (Polygon.route flags bounds (closed_rings lengths.now coords.now))
+    ensures answer { result ≡ Polygon.answer_of (Polygon.route flags bounds (rings_of rings.entry)) }
+    ensures written { FilledWhole (Polygon.route flags bounds (rings_of rings.entry))
         out.old out_lengths.old out.new out_lengths.new }
     ensures origins { out_origins.new ≡ padded 0 (origins_of (Origins.routed_origins
-        (Polygon.route flags bounds (closed_rings lengths.now coords.now)) bounds
-        (closed_rings lengths.now coords.now))) (length out_origins.old) out_origins.old }
+        (Polygon.route flags bounds (rings_of rings.entry)) bounds
+        (rings_of rings.entry))) (length out_origins.old) out_origins.old }
 {
     let clipped = clip_polygon(
         flags,
         bounds,
-        coords,
-        lengths,
+        rings,
         scratch,
         origin_scratch,
         order,
@@ -186,9 +185,9 @@ pub fn polygon(
         (polygon_slices scratch.old origin_scratch.old order.old out.old
         out_lengths.old out_origins.old) }
 {
-    let origin_room = check_polygon(
-        coords,
-        lengths,
+    let rings = lent_rings(coords, lengths)?;
+    let origin_room = check_rings(
+        rings,
         scratch.len(),
         origin_scratch.len(),
         order.len(),
@@ -200,8 +199,7 @@ pub fn polygon(
     let answer = clip_padded(
         flags,
         bounds.buffered(buffer),
-        coords,
-        lengths,
+        rings,
         scratch,
         origin_scratch,
         order,

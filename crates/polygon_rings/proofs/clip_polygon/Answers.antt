@@ -3,32 +3,34 @@ use mathlib.Core.Path.{refl, sym, ◌∙◌}
 use Rattle.rings.specs.declared.rectangle.Rect.TheVariants as Rects
 use Rattle.rings.proofs.Closing.{all_closed_lem, box_finite}
 use Rattle.clip.specs.Polygon.{route, route_rect}
-use Rattle.polygon_rings.specs.WrittenRings.{numbers_of, lengths_of, origins_of}
 use Rattle.polygon_rings.proofs.Routes.{cuttable}
-use Rattle.polygon_rings.proofs.Holes.{exterior-here, first_room, first_positions, same-room}
+use Rattle.polygon_rings.proofs.Holes.{exterior-here, some-lengths, first_room, first_positions, same-room}
 use Rattle.polygon_rings.proofs.clip_polygon.Goals as goal
 
+pub bounds-rings-0 : goal.bounds-rings-0
+bounds-rings-0 c = some-lengths c.args.rings.lengths.now c.args.rings.coords.now c.requires.polygon_room.some
+
 pub route_exterior-route-requires-clause-exterior_room : goal.route_exterior-route-requires-clause-exterior_room
-route_exterior-route-requires-clause-exterior_room c = let s = c.args.coords.now in
-    let ns = c.args.lengths.now in
+route_exterior-route-requires-clause-exterior_room c = let s = c.args.rings.coords.now in
+    let ns = c.args.rings.lengths.now in
     let p = c.requires in
-    let r = cuttable ns s _ _ _ _ p.polygon_room (all_closed_lem Rects.Nothing ns s (box_finite _ _ _ _ _
+    let r = cuttable _ _ _ _ _ p.polygon_room (all_closed_lem Rects.Nothing ns s (box_finite _ _ _ _ _
     (sym c.polygon_rect_all_rings-rect.ensures ∙ c.in-Box.is))) in
-    let first = first_room ns s p.polygon_room.some _ _ _ _ _ (r, p.lent_origins_room) in record { room = first.0; positions = first_positions ns s p.polygon_room.some _ p.polygon_room.positions }
+    let first = first_room ns s p.polygon_room.some c.args.rings.lent _ _ _ _ _ (r, p.lent_origins_room) in record { room = first.0; positions = first_positions ns s p.polygon_room.some _ p.polygon_room.positions }
 
 pub route_exterior-route-requires-clause-ring_origin_room : goal.route_exterior-route-requires-clause-ring_origin_room
-route_exterior-route-requires-clause-ring_origin_room c = let s = c.args.coords.now in
-    let ns = c.args.lengths.now in
+route_exterior-route-requires-clause-ring_origin_room c = let s = c.args.rings.coords.now in
+    let ns = c.args.rings.lengths.now in
     let p = c.requires in
-    let r = cuttable ns s _ _ _ _ p.polygon_room (all_closed_lem Rects.Nothing ns s (box_finite _ _ _ _ _
+    let r = cuttable _ _ _ _ _ p.polygon_room (all_closed_lem Rects.Nothing ns s (box_finite _ _ _ _ _
     (sym c.polygon_rect_all_rings-rect.ensures ∙ c.in-Box.is))) in
-    let first = first_room ns s p.polygon_room.some _ _ _ _ _ (r, p.lent_origins_room) in first.1
+    let first = first_room ns s p.polygon_room.some c.args.rings.lent _ _ _ _ _ (r, p.lent_origins_room) in first.1
 
 pub answer_route-requires-clause-lent_route_room : goal.answer_route-requires-clause-lent_route_room
-answer_route-requires-clause-lent_route_room c = let s = c.args.coords.now in
-    let ns = c.args.lengths.now in
+answer_route-requires-clause-lent_route_room c = let s = c.args.rings.coords.now in
+    let ns = c.args.rings.lengths.now in
     let p = c.requires in
-    let r = cuttable ns s _ _ _ _ p.polygon_room (all_closed_lem Rects.Nothing ns s (box_finite _ _ _ _ _
+    let r = cuttable _ _ _ _ _ p.polygon_room (all_closed_lem Rects.Nothing ns s (box_finite _ _ _ _ _
     (sym c.polygon_rect_all_rings-rect.ensures ∙ c.in-Box.is))) in
     let route = c.route_exterior-route in
     let kept = c.route_exterior-route.auto.scratch in
@@ -36,10 +38,10 @@ answer_route-requires-clause-lent_route_room c = let s = c.args.coords.now in
     let e = exterior-here ns s p.polygon_room.some in record { rings = rooms.0; some = p.polygon_room.some; stands = rw e route.ensures.cut }
 
 pub answer_route-requires-clause-lent_route_origin_room : goal.answer_route-requires-clause-lent_route_origin_room
-answer_route-requires-clause-lent_route_origin_room c = let s = c.args.coords.now in
-    let ns = c.args.lengths.now in
+answer_route-requires-clause-lent_route_origin_room c = let s = c.args.rings.coords.now in
+    let ns = c.args.rings.lengths.now in
     let p = c.requires in
-    let r = cuttable ns s _ _ _ _ p.polygon_room (all_closed_lem Rects.Nothing ns s (box_finite _ _ _ _ _
+    let r = cuttable _ _ _ _ _ p.polygon_room (all_closed_lem Rects.Nothing ns s (box_finite _ _ _ _ _
     (sym c.polygon_rect_all_rings-rect.ensures ∙ c.in-Box.is))) in
     let route = c.route_exterior-route in
     let kept = c.route_exterior-route.auto.scratch in
@@ -64,7 +66,7 @@ returns-in-NotFinite-clause-origins c = rw (← c.polygon_rect_all_rings-rect.en
 
 pub returns-in-Box-clause-answer : goal.returns-in-Box-clause-answer
 unfolding route route_rect
-returns-in-Box-clause-answer c = let e = exterior-here c.args.lengths.now c.args.coords.now c.requires.polygon_room.some in rw (
+returns-in-Box-clause-answer c = let e = exterior-here c.args.rings.lengths.now c.args.rings.coords.now c.requires.polygon_room.some in rw (
   ← c.polygon_rect_all_rings-rect.ensures,
   c.in-Box.is,
   e,
@@ -73,7 +75,7 @@ returns-in-Box-clause-answer c = let e = exterior-here c.args.lengths.now c.args
 
 pub returns-in-Box-clause-written : goal.returns-in-Box-clause-written
 unfolding route route_rect
-returns-in-Box-clause-written c = let e = exterior-here c.args.lengths.now c.args.coords.now c.requires.polygon_room.some in rw (
+returns-in-Box-clause-written c = let e = exterior-here c.args.rings.lengths.now c.args.rings.coords.now c.requires.polygon_room.some in rw (
   ← c.polygon_rect_all_rings-rect.ensures,
   c.in-Box.is,
   e,
@@ -82,7 +84,7 @@ returns-in-Box-clause-written c = let e = exterior-here c.args.lengths.now c.arg
 
 pub returns-in-Box-clause-origins : goal.returns-in-Box-clause-origins
 unfolding route route_rect
-returns-in-Box-clause-origins c = let e = exterior-here c.args.lengths.now c.args.coords.now c.requires.polygon_room.some in rw (
+returns-in-Box-clause-origins c = let e = exterior-here c.args.rings.lengths.now c.args.rings.coords.now c.requires.polygon_room.some in rw (
   ← c.polygon_rect_all_rings-rect.ensures,
   c.in-Box.is,
   e,
