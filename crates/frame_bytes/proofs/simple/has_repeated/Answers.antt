@@ -1,6 +1,6 @@
 -- `has_repeated` meets its contract: the verdict on the ring is that on what is left of it, and p is the first coordinate of that. Assumes
 -- nothing.
-use mathlib.Core.Path.{◌≡◌, refl, sym, ◌∙◌, ap₂}
+use mathlib.Core.Path.{refl, sym, ◌∙◌, ap₂}
 use native.Mathlib.Omega.{arith}
 use Rattle.tile.proofs.Rings.{close-most}
 use Rattle.box_pairs.specs.Cross.{degenerate}
