@@ -107,7 +107,7 @@ fn put_cut(
     out: &mut [u8],
     to: usize,
 ) -> usize
-    requires part_room { Internal.PartRoom part.frame.now part.at (Internal.lengths_of ring.old a.old a_origins.old b.old b_origins.old)
+    requires part_room { Internal.PartRoom (rings_of part) (Internal.lengths_of ring.old a.old a_origins.old b.old b_origins.old)
         (length out.old) to }
     requires exterior_stands { Internal.ExteriorStands bounds (rings_of part) m b.old b_origins.old }
     ensures value { result ≡ to + length
@@ -180,7 +180,7 @@ fn answer_route(
     out: &mut [u8],
     to: usize,
 ) -> PartAnswer
-    requires part_room { Internal.PartRoom part.frame.now part.at (Internal.lengths_of ring.old a.old a_origins.old b.old b_origins.old)
+    requires part_room { Internal.PartRoom (rings_of part) (Internal.lengths_of ring.old a.old a_origins.old b.old b_origins.old)
         (length out.old) to }
     requires cut_stands { ClipInternal.CutStands bounds (exterior (rings_of part)) route b.old
         × ClipInternal.OriginsStand bounds (exterior (rings_of part)) route b_origins.old }
@@ -219,7 +219,7 @@ pub fn route_part(
     out: &mut [u8],
     to: usize,
 ) -> PartAnswer
-    requires part_room { Internal.PartRoom part.frame.now part.at (Internal.lengths_of ring.old a.old a_origins.old b.old b_origins.old)
+    requires part_room { Internal.PartRoom (rings_of part) (Internal.lengths_of ring.old a.old a_origins.old b.old b_origins.old)
         (length out.old) to }
     requires positions_room { Internal.PositionsRoom (rings_of part) (length order.old) }
     ensures value { result ≡ Internal.part_answer to

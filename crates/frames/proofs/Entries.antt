@@ -120,7 +120,10 @@ parts-read frame head out y = rw y.head_read (holds frame y.accepted).parts_from
 -- what is answered as if rect were the rectangle: of a polygon's only part, and of a listing
 module _ (frame : List ℕ) (head : Head) (lent : Lengths) (order out : ℕ) (r : PartsReady frame head lent order out)
     (k : eqb head.kind polygon_kind ≡ true) where
-  pub only_room : PartRoom frame head_bytes lent out least_room
+  pub only_reads : Accepted (read_part (drop head_bytes frame))
+  only_reads = (part_next (flags_in head) head.bounds frame head_bytes head.parts lent order out least_room (r.some k) r.room).accepted
+
+  pub only_room : PartRoom (part_at frame head_bytes) lent out least_room
   only_room = part_room_lem (flags_in head) head.bounds frame head_bytes head.parts lent order out least_room (r.some k) r.room
 
   pub only_positions : PositionsRoom (part_at frame head_bytes) order

@@ -74,7 +74,7 @@ fn add_part(
     out: &mut [u8],
     before: ListedSoFar,
 ) -> ListedSoFar
-    requires { PartInternal.PartRoom part.frame.now part.at
+    requires { PartInternal.PartRoom (rings_of part)
         (PartInternal.lengths_of ring.old a.old a_origins.old b.old b_origins.old) (length out.old) before.next
         × PartInternal.PositionsRoom (rings_of part) (length order.old) × Internal.Few index before }
     ensures { Internal.Lists (Internal.listing_of

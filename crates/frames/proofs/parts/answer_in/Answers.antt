@@ -7,13 +7,13 @@ use Rattle.frame_bytes.specs.Internal.{part_at}
 use Rattle.frames.specs.Answer.{list_parts, flags_in}
 use Rattle.frames.specs.Internal.{parts_from, of_listing}
 use Rattle.frames.proofs.Listings.{polygon_answers, finished}
-use Rattle.frames.proofs.Entries.{only_room, only_positions, only_part_lem, as-answer}
+use Rattle.frames.proofs.Entries.{only_reads, only_room, only_positions, only_part_lem, as-answer}
 use Rattle.frames.proofs.parts.answer_in.Goals as goal
 
 pub invariant_of-part : goal.invariant_of-part
 invariant_of-part c =
     let k = eq-eqb c.args.head.kind 3 c.if-head-eq-POLYGON.true in
-    let room = only_room c.args.frame.now c.args.head _ _ _ c.requires k in record { within = room.within; accepted = room.accepted }
+    record { within = c.requires.room.within; accepted = only_reads c.args.frame.now c.args.head _ _ _ c.requires k }
 
 pub route_part-answer-requires-clause-part_room : goal.route_part-answer-requires-clause-part_room
 route_part-answer-requires-clause-part_room c = let k = eq-eqb c.args.head.kind 3 c.if-head-eq-POLYGON.true in only_room c.args.frame.now c.args.head _ _ _ c.requires k
