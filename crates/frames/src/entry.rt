@@ -36,7 +36,7 @@ fn answer_with<const RING: usize, const WORK: usize, const ORIGINS: usize>(
     bounds: TileBounds,
     out: &mut [u8],
 ) -> usize
-    requires cuttable { Internal.Cuttable frame.bytes.now head (length out.old) }
+    requires cuttable { Internal.Cuttable frame head (length out.old) }
     requires room { Internal.RoomFor (length frame.bytes.now) RING WORK ORIGINS }
     ensures { Internal.Answers (Internal.answer_measured head rect bounds
         (Internal.parts_of (frame_reading frame.entry))) out.old result out.new }
@@ -71,7 +71,7 @@ fn answer_sized(
     bounds: TileBounds,
     out: &mut [u8],
 ) -> usize
-    requires { Internal.Cuttable frame.bytes.now head (length out.old) }
+    requires { Internal.Cuttable frame head (length out.old) }
     ensures { Internal.Answers (Internal.answer_measured head rect bounds
         (Internal.parts_of (frame_reading frame.entry))) out.old result out.new }
 {
@@ -109,7 +109,7 @@ fn is_unchanged_at_once(frame: AcceptedFrame, head: Head, rect: Rect, bounds: Ti
 // The answer to a frame whose rectangle is rect: what is apart, and what is unchanged without a search for crossings, is answered before
 // there is any array.
 fn answer_measured(frame: AcceptedFrame, head: Head, rect: Rect, out: &mut [u8]) -> usize
-    requires { Internal.Cuttable frame.bytes.now head (length out.old)
+    requires { Internal.Cuttable frame head (length out.old)
         × (rect ≡ FrameBytesInternal.frame_rect (frame_reading frame)) }
     ensures { Internal.Answers (Internal.answer_read (frame_reading frame.entry)) out.old result
         out.new }
