@@ -13,7 +13,7 @@ use clip::polygon::AnswerKind;
 use frame_bytes::accepted::{AcceptedFrame, PartBytes};
 use frame_bytes::head::{HEAD, Head, read_head};
 use frame_bytes::measure::whole_rect;
-use frame_bytes::reader::{FrameRefusal, MULTIPOLYGON};
+use frame_bytes::reader::{FrameKind, FrameRefusal};
 use frame_bytes::room::check_call;
 use frame_bytes::simple::is_sound_if_simple;
 use rings::rectangle::{Rect, intersects_bounds, is_fully_inside};
@@ -96,7 +96,7 @@ fn is_unchanged_at_once(frame: AcceptedFrame, head: Head, rect: Rect, bounds: Ti
     if !is_fully_inside(rect, bounds) {
         return false;
     }
-    if head.kind == MULTIPOLYGON {
+    if head.kind == FrameKind::Multipolygon as u8 {
         return true;
     }
     let part = PartBytes {

@@ -14,7 +14,7 @@ use frame_bytes::accepted::PartBytes;
 use frame_bytes::encode::{PART, put_header, put_part};
 use frame_bytes::head::{HEAD, Head};
 use frame_bytes::measure::part_rect;
-use frame_bytes::reader::POLYGON;
+use frame_bytes::reader::FrameKind;
 use frame_bytes::room::LEAST_ROOM;
 use frame_parts::{PartAnswer, route_part};
 use rings::rectangle::{Rect, intersects_bounds, is_fully_inside};
@@ -197,7 +197,7 @@ pub fn answer_in(
         assume_simple: head.assume_simple,
         skip_boundary_fallback: head.skip_boundary_fallback,
     };
-    if head.kind == POLYGON {
+    if head.kind == FrameKind::Polygon as u8 {
         let part = PartBytes { frame, at: HEAD };
         let answer = route_part(
             part, 0, flags, rect, bounds, ring, a, a_origins, b, b_origins, order, out, LEAST_ROOM,
