@@ -16,7 +16,7 @@ use clip::polygon::{AnswerKind, Flags, Reason, ReasonDetail, Route, clip_hole, r
 use frame_bytes::accepted::PartBytes;
 use frame_bytes::encode::{PART, put_count, put_part, put_ring};
 use frame_bytes::measure::part_has_huge;
-use frame_bytes::ring::{COORD, COUNT, count_at, decode_ring};
+use frame_bytes::ring::{COORD, COUNT, RingBytes, count_at, decode_ring};
 use rings::rectangle::Rect;
 use tile::TileBounds;
 
@@ -85,7 +85,12 @@ fn put_holes(
     let mut at = start;
     for _ in 0..holes {
         let n = count_at(frame, at);
-        let next = decode_ring(frame, at + COUNT, n, ring);
+        let from = RingBytes {
+            frame,
+            at: at + COUNT,
+            n,
+        };
+        let next = decode_ring(from, ring);
         let m = clip_hole(ring, n, bounds, a, a_origins, b, b_origins);
         written = put_cut_ring(b, b_origins, m, out, written);
         at = next;
@@ -228,7 +233,12 @@ pub fn route_part(
         (Internal.measured_part index flags rect bounds (rings_of part.entry))) }
 {
     let n = count_at(part.frame, part.at + COUNT);
-    decode_ring(part.frame, part.at + COUNT + COUNT, n, ring);
+    let from = RingBytes {
+        frame: part.frame,
+        at: part.at + COUNT + COUNT,
+        n,
+    };
+    decode_ring(from, ring);
     let route = route_exterior(
         ring, n, flags, rect, bounds, a, a_origins, b, b_origins, order,
     );

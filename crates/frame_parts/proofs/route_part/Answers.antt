@@ -8,11 +8,13 @@ use Rattle.frame_parts.proofs.route_part.Goals as goal
 pub count_at-n-requires : goal.count_at-n-requires
 count_at-n-requires c = omega (arith, exterior-whole c.args.part _ _ _ c.requires.part_room)
 
+pub invariant_of-from : goal.invariant_of-from
+invariant_of-from c = let n = c.count_at-n.ensures.0 in
+    record { fits = omega (arith, n, exterior-whole c.args.part _ _ _ c.requires.part_room) }
+
 pub decode_ring-requires : goal.decode_ring-requires
-decode_ring-requires c = let n = c.count_at-n.ensures.0 in (
-  omega (arith, n, exterior-whole c.args.part _ _ _ c.requires.part_room),
-  omega (arith, n, exterior-lent c.args.part _ _ _ c.requires.part_room c.args.ring.now refl),
-)
+decode_ring-requires c = let n = c.count_at-n.ensures.0 in
+    omega (arith, n, exterior-lent c.args.part _ _ _ c.requires.part_room c.args.ring.now refl)
 
 pub route_exterior-route-requires-clause-exterior_room : goal.route_exterior-route-requires-clause-exterior_room
 route_exterior-route-requires-clause-exterior_room c = rw (
