@@ -26,6 +26,11 @@ coords_of-at (suc i) (suc n) l z h =
     let e : 16 * suc i ≡ 16 + 16 * i = omega arith in
     coords_of-at i n (drop 16 l) z (omega arith) ∙ rw (e, ← drop-drop (16 * i) 16 l)
 
+-- and by its place in a frame
+pub coord_there : (frame : List ℕ) (at n i : ℕ) (z : Coord) → i < n → get_or (coords_of n (drop at frame)) i z
+    ≡ coord_of (drop (at + 16 * i) frame)
+coord_there frame at n i z h = coords_of-at i n (drop at frame) z h ∙ ap coord_of (drop-drop (16 * i) at frame)
+
 last-coords_of : (n : ℕ) (l : List ℕ) → last (coord_of l) (coords_of n (drop 16 l)) ≡ coord_of (drop (16 * n) l)
 unfolding last coords_of
 last-coords_of zero l = refl

@@ -2,6 +2,7 @@
 // are written.
 #![tactic(auto)]
 
+pub mod accepted;
 pub mod encode;
 pub mod head;
 pub mod measure;

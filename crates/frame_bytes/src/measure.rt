@@ -9,8 +9,10 @@ ghost use Rattle.rings.specs.Internal.{Numbers};
 ghost use Rattle.rings.specs.Representable.{any_huge};
 ghost use Rattle.frame_bytes.specs.Frame as Frames;
 ghost use Rattle.frame_bytes.specs.Internal as Internal;
+ghost use Rattle.frame_bytes.specs.Accepted.{frame_reading, part_reading};
 ghost use Rattle.frame_bytes.specs.Internal.{measured_of, frame_rect, huge_of};
 
+use super::accepted::{AcceptedFrame, PartBytes};
 use super::head::{HEAD, PART_COUNT};
 use super::ring::{COORD, COUNT, RingBytes, count_at};
 use rings::rectangle::{Rect, with_ring};
@@ -23,21 +25,20 @@ pub struct Measured {
     pub next: usize,
 }
 
-// The rectangle with all rings of the part at `at`.
-pub fn part_rect(frame: &[u8], at: usize, rect: Rect) -> Measured
-    requires { (at ≤ length frame.now) × Internal.Accepted (Frames.read_part (drop at frame.now)) }
-    ensures { result ≡ measured_of (length frame.now) rect (Frames.read_part (drop at frame.now)) }
+// The rectangle with all rings of the part.
+pub fn part_rect(part: PartBytes, rect: Rect) -> Measured
+    ensures { result ≡ measured_of (length part.entry.frame.now) rect (part_reading part.entry) }
 {
     let mut whole = rect;
-    let rings = count_at(frame, at);
-    let mut next = at + COUNT;
+    let rings = count_at(part.frame, part.at);
+    let mut next = part.at + COUNT;
     for _ in 0..rings {
-        let n = count_at(frame, next);
+        let n = count_at(part.frame, next);
         let coords = next + COUNT;
         whole = with_ring(
             whole,
             RingBytes {
-                frame,
+                frame: part.frame,
                 at: coords,
                 n,
             },
@@ -49,33 +50,35 @@ pub fn part_rect(frame: &[u8], at: usize, rect: Rect) -> Measured
 
 // The rectangle of all parts.
 // Stays beside `part_rect`, and that beside `part_has_huge`: they share the step to the next ring or part, and each keeps something else.
-pub fn whole_rect(frame: &[u8]) -> Rect
-    requires { Internal.Accepted (Frames.read_frame frame.now) }
-    ensures { result ≡ frame_rect (Frames.read_frame frame.now) }
+pub fn whole_rect(frame: AcceptedFrame) -> Rect
+    ensures { result ≡ frame_rect (frame_reading frame.entry) }
 {
     let mut rect = Rect::Nothing;
     let mut at = HEAD;
-    let parts = count_at(frame, PART_COUNT);
+    let parts = count_at(frame.bytes, PART_COUNT);
     for _ in 0..parts {
-        let part = part_rect(frame, at, rect);
-        rect = part.rect;
-        at = part.next;
+        let part = PartBytes {
+            frame: frame.bytes,
+            at,
+        };
+        let measured = part_rect(part, rect);
+        rect = measured.rect;
+        at = measured.next;
     }
     rect
 }
 
-// Whether one of the coordinates of the part at `at` has a magnitude of 1e150 or more.
-pub fn part_has_huge(frame: &[u8], at: usize) -> bool
-    requires { (at ≤ length frame.now) × Internal.Accepted (Frames.read_part (drop at frame.now)) }
-    ensures { result ≡ huge_of (Frames.read_part (drop at frame.now)) }
+// Whether one of the coordinates of the part has a magnitude of 1e150 or more.
+pub fn part_has_huge(part: PartBytes) -> bool
+    ensures { result ≡ huge_of (part_reading part.entry) }
 {
-    let rings = count_at(frame, at);
-    let mut next = at + COUNT;
+    let rings = count_at(part.frame, part.at);
+    let mut next = part.at + COUNT;
     for _ in 0..rings {
-        let n = count_at(frame, next);
+        let n = count_at(part.frame, next);
         let coords = next + COUNT;
         let ring = RingBytes {
-            frame,
+            frame: part.frame,
             at: coords,
             n,
         };

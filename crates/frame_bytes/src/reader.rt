@@ -9,15 +9,18 @@ use rings::lent::MOST_RINGS;
 
 pub const LONGEST: usize = 5120;
 
-pub const POLYGON: u8 = 3;
-
-pub const MULTIPOLYGON: u8 = 6;
-
 const MOST_FLAGS: u8 = 3;
 
 const MOST_PARTS: usize = 256;
 
 const MOST_IN_RING: usize = 4096;
+
+// What a frame holds, by document 01's numbers.
+#[derive(Clone, Copy)]
+pub enum FrameKind {
+    Polygon = 3,
+    Multipolygon = 6,
+}
 
 // Why a frame call is refused: document 01's 11 to 18, and 22.
 #[derive(Clone, Copy)]
@@ -61,13 +64,13 @@ fn is_wrong_size(size: usize) -> bool
 fn is_wrong_kind(kind: u8) -> bool
     ensures { result ≡ Frames.wrong_kind kind }
 {
-    kind != POLYGON && kind != MULTIPOLYGON
+    kind != FrameKind::Polygon as u8 && kind != FrameKind::Multipolygon as u8
 }
 
 fn is_wrong_part_count(kind: u8, parts: usize) -> bool
     ensures { result ≡ Frames.wrong_part_count kind parts }
 {
-    if kind == POLYGON && parts != 1 {
+    if kind == FrameKind::Polygon as u8 && parts != 1 {
         return true;
     }
     parts > MOST_PARTS

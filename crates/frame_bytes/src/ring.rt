@@ -52,15 +52,15 @@ impl<'a> Coords for RingBytes<'a> {
     }
 }
 
-// Writes the n coordinates at position `at` of the frame, not closed, to the front of `ring`, and answers where the next ring starts.
-pub fn decode_ring(frame: &[u8], at: usize, n: usize, ring: &mut [f64]) -> usize
-    requires { (at + 16 * n ≤ length frame.now) × (2 * n ≤ length ring.old) }
-    ensures { (result ≡ at + 16 * n) × (ring.new ≡ sets ring.old 0
-        (flat (Frames.coords_of n (drop at frame.now)))) }
+// Writes the coordinates of a ring in a frame, not closed, to the front of `ring`, and answers where the next ring starts.
+pub fn decode_ring(from: RingBytes, ring: &mut [f64]) -> usize
+    requires { 2 * from.n ≤ length ring.old }
+    ensures { (result ≡ from.entry.at + 16 * from.entry.n) × (ring.new ≡ sets ring.old 0
+        (flat (Frames.coords_of from.entry.n (drop from.entry.at from.entry.frame.now)))) }
 {
-    for i in 0..n {
-        let p = coord_at(frame, at + COORD * i);
+    for i in 0..from.n {
+        let p = from.coord(i);
         put(ring, i, p);
     }
-    at + COORD * n
+    from.at + COORD * from.n
 }

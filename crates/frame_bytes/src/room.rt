@@ -1,10 +1,12 @@
 // The room that the answer to an accepted frame may take, and the refusals of a frame call, document 01's 11 to 18 and 22.
 ghost use Rattle.std.specs.Prelude.{◌≡◌, ◌≤◌, length, drop};
 ghost use Rattle.rings.specs.LentRings.{total, ring_room, most_rings};
+ghost use Rattle.frame_bytes.specs.Accepted.{frame_reading, part_reading};
 ghost use Rattle.frame_bytes.specs.Internal as Internal;
 ghost use Rattle.frame_bytes.specs.Frame as Frames;
 ghost use Rattle.frame_bytes.specs.Room as OutputRoom;
 
+use super::accepted::{AcceptedFrame, PartBytes};
 use super::encode::{ANSWER_COORD, PART};
 use super::head::{HEAD, PART_COUNT};
 use super::reader::{FrameRefusal, check_frame};
@@ -61,14 +63,13 @@ fn rings_room(frame: &[u8], start: usize, rings: usize) -> MeasuredRoom
     MeasuredRoom { room, next: at }
 }
 
-// The room, in bytes, of the part at `at`.
-fn part_room(frame: &[u8], at: usize) -> MeasuredRoom
-    requires { (at ≤ length frame.now) × Internal.Accepted (Frames.read_part (drop at frame.now)) }
-    ensures { result ≡ Internal.measured_room (length frame.now) (OutputRoom.part_room OutputRoom.answer_coord_size)
-        (Frames.read_part (drop at frame.now)) }
+// The room, in bytes, of the part.
+fn part_room(part: PartBytes) -> MeasuredRoom
+    ensures { result ≡ Internal.measured_room (length part.entry.frame.now) (OutputRoom.part_room OutputRoom.answer_coord_size)
+        (part_reading part.entry) }
 {
-    let rings = count_at(frame, at);
-    let cut = rings_room(frame, at + COUNT, rings);
+    let rings = count_at(part.frame, part.at);
+    let cut = rings_room(part.frame, part.at + COUNT, rings);
     MeasuredRoom {
         room: CUT_PART + COUNT * rings + ANSWER_COORD * cut.room,
         next: cut.next,
@@ -76,17 +77,20 @@ fn part_room(frame: &[u8], at: usize) -> MeasuredRoom
 }
 
 // The room, in bytes, of an answer to the frame.
-pub fn frame_room(frame: &[u8]) -> usize
-    requires { Internal.Accepted (Frames.read_frame frame.now) }
-    ensures { result ≡ Internal.frame_room OutputRoom.answer_coord_size (Frames.read_frame frame.now) }
+pub fn frame_room(frame: AcceptedFrame) -> usize
+    ensures { result ≡ Internal.frame_room OutputRoom.answer_coord_size (frame_reading frame.entry) }
 {
     let mut room = LEAST_ROOM;
     let mut at = HEAD;
-    let parts = count_at(frame, PART_COUNT);
+    let parts = count_at(frame.bytes, PART_COUNT);
     for _ in 0..parts {
-        let part = part_room(frame, at);
-        room += part.room;
-        at = part.next;
+        let part = PartBytes {
+            frame: frame.bytes,
+            at,
+        };
+        let measured = part_room(part);
+        room += measured.room;
+        at = measured.next;
     }
     room
 }
@@ -96,7 +100,7 @@ pub fn check_call(frame: &[u8], out: usize) -> Result<(), FrameRefusal>
     ensures { result ≡ Internal.check_of (OutputRoom.read_call frame.now out) }
 {
     check_frame(frame)?;
-    if out < frame_room(frame) {
+    if out < frame_room(AcceptedFrame { bytes: frame }) {
         return Err(FrameRefusal::Output);
     }
     Ok(())

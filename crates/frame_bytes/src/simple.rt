@@ -4,21 +4,23 @@ ghost use Rattle.tile.specs.Ring.{close};
 ghost use Rattle.box_pairs.specs.Internal.{repeated};
 ghost use Rattle.frame_bytes.specs.Frame as Frames;
 ghost use Rattle.frame_bytes.specs.Internal as Internal;
+ghost use Rattle.frame_bytes.specs.Accepted.{part_reading};
 ghost use Rattle.frame_bytes.specs.Internal.{sound_if_simple};
 
-use super::ring::{COORD, COUNT, RingBytes, coord_at, count_at};
+use super::accepted::PartBytes;
+use super::ring::{COUNT, RingBytes, count_at};
 use box_pairs::cross::is_degenerate;
-use tile::ring::closed_count;
+use tile::ring::{Coords, closed_count};
 
-// Whether two neighbours of the ring of n coordinates at `at`, closed to `count`, are near each other, the last segment excepted. Each
-// coordinate is read once.
-fn has_repeated(frame: &[u8], at: usize, n: usize, count: usize) -> bool
-    requires { (at + 16 * n ≤ length frame.now) × (count ≡ length (close (Frames.coords_of n (drop at frame.now)))) × (4 ≤ count) }
-    ensures { result ≡ repeated (close (Frames.coords_of n (drop at frame.now))) }
+// Whether two neighbours of the ring, closed to `count` coordinates, are near each other, the last segment excepted. Each coordinate is
+// read once.
+fn has_repeated<R: Coords + Copy>(ring: R, count: usize) -> bool
+    requires { (count ≡ length (close (R.coords ring))) × (4 ≤ count) }
+    ensures { result ≡ repeated (close (R.coords ring)) }
 {
-    let mut p = coord_at(frame, at);
+    let mut p = ring.coord(0);
     for k in 0..count - 2 {
-        let q = coord_at(frame, at + COORD * (k + 1));
+        let q = ring.coord(k + 1);
         if is_degenerate(p, q) {
             return true;
         }
@@ -27,20 +29,19 @@ fn has_repeated(frame: &[u8], at: usize, n: usize, count: usize) -> bool
     false
 }
 
-// Whether the exterior of the part at `at` has no issue if it is assumed to be simple.
-pub fn is_sound_if_simple(frame: &[u8], at: usize) -> bool
-    requires { (at ≤ length frame.now) × Internal.Accepted (Frames.read_part (drop at frame.now)) }
-    ensures { result ≡ sound_if_simple (Frames.read_part (drop at frame.now)) }
+// Whether the exterior of the part has no issue if it is assumed to be simple.
+pub fn is_sound_if_simple(part: PartBytes) -> bool
+    ensures { result ≡ sound_if_simple (part_reading part.entry) }
 {
-    let n = count_at(frame, at + COUNT);
-    let coords = at + COUNT + COUNT;
-    let count = closed_count(RingBytes {
-        frame,
-        at: coords,
+    let n = count_at(part.frame, part.at + COUNT);
+    let exterior = RingBytes {
+        frame: part.frame,
+        at: part.at + COUNT + COUNT,
         n,
-    });
+    };
+    let count = closed_count(exterior);
     if count < 4 {
         return false;
     }
-    !has_repeated(frame, coords, n, count)
+    !has_repeated(exterior, count)
 }

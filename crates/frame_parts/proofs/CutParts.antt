@@ -26,6 +26,8 @@ use Rattle.clip.specs.Polygon.{unless_none, cut_exterior, cut_holes, cut_rings, 
 use Rattle.clip.specs.Origins.{exterior_origins, cut_origins}
 use Rattle.clip.specs.Internal.{ExteriorRoom, RingOriginRoom}
 use Rattle.clip.proofs.Cuts.{cut-fits-room, exterior-origins-length}
+use Rattle.frame_bytes.specs.declared.accepted.PartBytes.{PartBytes}
+use Rattle.frame_bytes.specs.Accepted.{rings_of}
 use Rattle.frame_bytes.specs.Frame.{Reading, refused, read, count_of, coords_of, read_part}
 use Rattle.frame_bytes.specs.Internal.{Accepted, all_in, part_at, huge_of, front_answer_coords}
 use Rattle.frame_bytes.specs.Room.{answer_coord_size, part_room}
@@ -62,64 +64,70 @@ length-rings (r ∷ rings) origins = ap suc (length-rings rings (drop 1 origins)
 
 -- ---- room
 
-module _ (bounds : TileBounds) (frame : List ℕ) (at m : ℕ) (lent : Lengths) (out to : ℕ) (b : List Float) (b-origins : List ℕ)
-    (room : PartRoom frame at lent out to) (stands : ExteriorStands bounds (part_at frame at) m b b-origins) where
-  here : part_at frame at ≡ exterior_at frame at ∷ holes_at frame at
-  here = part-here frame at room.within room.accepted
+abbrev exterior_of : PartBytes → List Coord
+exterior_of part = exterior_at part.frame.now part.at
 
-  stands_here : Stands (cut_exterior bounds (exterior_at frame at)) m b
+abbrev holes_of : PartBytes → List (List Coord)
+holes_of part = holes_at part.frame.now part.at
+
+module _ (bounds : TileBounds) (part : PartBytes) (m : ℕ) (lent : Lengths) (out to : ℕ) (b : List Float) (b-origins : List ℕ)
+    (room : PartRoom (rings_of part) lent out to) (stands : ExteriorStands bounds (rings_of part) m b b-origins) where
+  here : rings_of part ≡ exterior_of part ∷ holes_of part
+  here = part-here part.frame.now part.at part.within part.accepted
+
+  stands_here : Stands (cut_exterior bounds (exterior_of part)) m b
   stands_here = rw here at stands.ring
 
-  origins-here : take m b-origins ≡ exterior_origins bounds (exterior_at frame at)
+  origins-here : take m b-origins ≡ exterior_origins bounds (exterior_of part)
   origins-here = rw here at stands.ring-origins
 
-  output-here : to + part_room answer_coord_size (exterior_at frame at ∷ holes_at frame at) ≤ out
+  output-here : to + part_room answer_coord_size (exterior_of part ∷ holes_of part) ≤ out
   output-here = rw here at room.output
 
   pub exterior_put : (2 * m ≤ length b) × (m ≤ length b-origins) × (to + 6 + 2 + answer_coord_size * m ≤ out)
   unfolding part_room total
   exterior_put = (
     stands-fits stands_here,
-    origins_fit m b-origins _ origins-here (omega (arith, exterior-origins-length bounds (exterior_at frame at), stands_here.count)),
-    omega (arith, stands_here.count, cut-fits-room bounds (exterior_at frame at), output-here),
+    origins_fit m b-origins _ origins-here (omega (arith, exterior-origins-length bounds (exterior_of part), stands_here.count)),
+    omega (arith, stands_here.count, cut-fits-room bounds (exterior_of part), output-here),
   )
 
-  pub exterior-ring : front_answer_coords b b-origins m ≡ exterior_vertices bounds (exterior_at frame at)
+  pub exterior-ring : front_answer_coords b b-origins m ≡ exterior_vertices bounds (exterior_of part)
   exterior-ring = rw (stands-front stands_here, origins-here)
 
-  module _ (p r : RingCursor) (o o' : List ℕ) (put : PutRings (unless_none (exterior_vertices bounds (exterior_at frame at)) []) p o r o')
+  module _ (p r : RingCursor) (o o' : List ℕ) (put : PutRings (unless_none (exterior_vertices bounds (exterior_of part)) []) p o r o')
       (e : p.next ≡ to + 6) (z : p.rings ≡ 0) where
-    pub holes_room : RingsRoom frame (at + 2 + 2 + 16 * count_of (drop (at + 2) frame)) (count_of (drop at frame) - 1) lent out r
+    pub holes_room : RingsRoom part.frame.now (part.at + 2 + 2 + 16 * count_of (drop (part.at + 2) part.frame.now)) (count_of (drop part.at part.frame.now) - 1) lent out r
     unfolding part_room total
     holes_room =
-        let n = first_ring frame at room.within room.accepted in
+        let n = first_ring part.frame.now part.at part.within part.accepted in
         record {
           within = n.whole;
           accepted = n.later;
-          working = working-later (exterior_at frame at) (holes_at frame at) lent (rw here at room.working);
+          working = working-later (exterior_of part) (holes_of part) lent (rw here at room.working);
           output = omega (
             arith,
             put.next_after,
-            unless_bytes (exterior_vertices bounds (exterior_at frame at)),
-            exterior-fits bounds (exterior_at frame at),
+            unless_bytes (exterior_vertices bounds (exterior_of part)),
+            exterior-fits bounds (exterior_of part),
             output-here,
           );
         }
 
-    pub holes_few : r.rings + (count_of (drop at frame) - 1) ≤ most_rings
+    pub holes_few : r.rings + (count_of (drop part.at part.frame.now) - 1) ≤ most_rings
     holes_few =
-        let q = part-rings frame at room.within room.accepted
-        in omega (arith, put.rings-after, unless_count (exterior_vertices bounds (exterior_at frame at)), q.some, q.few)
+        let q = part-rings part.frame.now part.at part.within part.accepted
+        in omega (arith, put.rings-after, unless_count (exterior_vertices bounds (exterior_of part)), q.some, q.few)
 
     -- the exterior and the holes are all rings of the cut
-    pub all_put : (r' : RingCursor) (o'' : List ℕ) → PutRings (holes_vertices bounds (holes_at frame at)) r o' r' o''
-        → PutRings (cut_vertices bounds (part_at frame at)) p o r' o''
+    pub all_put : (r' : RingCursor) (o'' : List ℕ) → PutRings (holes_vertices bounds (holes_of part)) r o' r' o''
+        → PutRings (cut_vertices bounds (rings_of part)) p o r' o''
     all_put r' o'' g =
-        let x = exterior_vertices bounds (exterior_at frame at) in
-        let l = holes_vertices bounds (holes_at frame at) in
-        let n = length-with (cut_exterior bounds (exterior_at frame at)) (exterior_origins bounds (exterior_at frame at)) in
-        let c : cut_vertices bounds (part_at frame at) ≡ unless_none x [] ++ l =
-        rw here (rings_first bounds (exterior_at frame at) (holes_at frame at)
+        let x = exterior_vertices bounds (exterior_of part) in
+        let l = holes_vertices bounds (holes_of part) in
+        let n = length-with (cut_exterior bounds (exterior_of part)) (exterior_origins bounds (exterior_of part)) in
+        let c : cut_vertices bounds (rings_of part) ≡ unless_none x [] ++ l =
+        rw here (rings_first bounds (exterior_of part) (holes_of part)
         ∙ unless_some x l (omega (arith, n, stands_here.count, stands.some))) in
         rw c (put_then (unless_none x []) l p r r' o o' o'' put g)
 
@@ -309,54 +317,49 @@ module _ (index : ℕ) (b : TileBounds) (rings : List (List Coord)) (some : 0 < 
 
 -- ---- the exterior of a part, read into a slice
 
--- slices of other lengths that are the same
-pub same-room : {frame : List ℕ} {at out to : ℕ} {lent lent' : Lengths} → lent' ≡ lent → PartRoom frame at lent out to
-    → PartRoom frame at lent' out to
-same-room e room = rw e room
+module _ (part : PartBytes) (lent : Lengths) (out to : ℕ) (room : PartRoom (rings_of part) lent out to) where
+  part-is : rings_of part ≡ exterior_of part ∷ holes_of part
+  part-is = part-here part.frame.now part.at part.within part.accepted
 
-module _ (frame : List ℕ) (at : ℕ) (lent : Lengths) (out to : ℕ) (room : PartRoom frame at lent out to) where
-  part-is : part_at frame at ≡ exterior_at frame at ∷ holes_at frame at
-  part-is = part-here frame at room.within room.accepted
-
-  exterior-is : exterior (part_at frame at) ≡ exterior_at frame at
+  exterior-is : exterior (rings_of part) ≡ exterior_of part
   exterior-is = ap exterior part-is
 
-  part-working : Working (exterior_at frame at ∷ holes_at frame at) lent
+  part-working : Working (exterior_of part ∷ holes_of part) lent
   part-working = rw part-is at room.working
 
-  pub exterior-whole : at + 2 + 2 + 16 * count_of (drop (at + 2) frame) ≤ length frame
-  exterior-whole = (first_ring frame at room.within room.accepted).whole
+  pub exterior-whole : part.at + 2 + 2 + 16 * count_of (drop (part.at + 2) part.frame.now) ≤ length part.frame.now
+  exterior-whole = (first_ring part.frame.now part.at part.within part.accepted).whole
 
   pub part-head : to + 4 ≤ out
   part-head =
-      omega (arith, overlay-room (part_at frame at) out to (some-rings frame at room.within room.accepted) room.output)
+      omega (arith, overlay-room (rings_of part) out to (some-rings part.frame.now part.at part.within part.accepted) room.output)
 
   abbrev exterior_count : ℕ
-  exterior_count = count_of (drop (at + 2) frame)
+  exterior_count = count_of (drop (part.at + 2) part.frame.now)
 
   module _ (s : List Float) (e : length s ≡ lent.ring) where
-    pub exterior-lent : 2 * count_of (drop (at + 2) frame) ≤ lent.ring
+    pub exterior-lent : 2 * count_of (drop (part.at + 2) part.frame.now) ≤ lent.ring
     exterior-lent =
-        ring-lent (exterior_at frame at) (holes_at frame at) lent part-working exterior_count (drop (at + 2 + 2) frame) s refl e
+        ring-lent (exterior_of part) (holes_of part) lent part-working exterior_count (drop (part.at + 2 + 2) part.frame.now) s refl e
 
-    pub exterior-origin-room : RingOriginRoom (count_of (drop (at + 2) frame))
-        (sets s 0 (flat (coords_of (count_of (drop (at + 2) frame)) (drop (at + 2 + 2) frame)))) lent.a-origins lent.b-origins
+    pub exterior-origin-room : RingOriginRoom (count_of (drop (part.at + 2) part.frame.now))
+        (sets s 0 (flat (coords_of (count_of (drop (part.at + 2) part.frame.now)) (drop (part.at + 2 + 2) part.frame.now)))) lent.a-origins lent.b-origins
     exterior-origin-room =
-        working-origins (exterior_at frame at) (holes_at frame at) lent part-working exterior_count (drop (at + 2 + 2) frame) s refl e
+        working-origins (exterior_of part) (holes_of part) lent part-working exterior_count (drop (part.at + 2 + 2) part.frame.now) s refl e
 
-    pub exterior-room : (order : ℕ) → PositionsRoom (part_at frame at) order → ExteriorRoom (count_of (drop (at + 2) frame))
-        (sets s 0 (flat (coords_of (count_of (drop (at + 2) frame)) (drop (at + 2 + 2) frame)))) lent.a lent.b order
+    pub exterior-room : (order : ℕ) → PositionsRoom (rings_of part) order → ExteriorRoom (count_of (drop (part.at + 2) part.frame.now))
+        (sets s 0 (flat (coords_of (count_of (drop (part.at + 2) part.frame.now)) (drop (part.at + 2 + 2) part.frame.now)))) lent.a lent.b order
     unfolding largest
     exterior-room order positions =
         record {
-          room = working-ring (exterior_at frame at) (holes_at frame at) lent part-working exterior_count (drop (at + 2 + 2) frame) s refl e;
+          room = working-ring (exterior_of part) (holes_of part) lent part-working exterior_count (drop (part.at + 2 + 2) part.frame.now) s refl e;
           positions =
-              working-positions (exterior_at frame at) (holes_at frame at) lent part-working exterior_count (drop (at + 2 + 2) frame) s refl e
+              working-positions (exterior_of part) (holes_of part) lent part-working exterior_count (drop (part.at + 2 + 2) part.frame.now) s refl e
               order (rw part-is at positions);
         }
 
     -- read into a slice as n coordinates, the exterior stands at its front
-    pub exterior-read : (n : ℕ) (s' : List Float) → n ≡ count_of (drop (at + 2) frame)
-        → s' ≡ sets s 0 (flat (coords_of n (drop (at + 2 + 2) frame))) → exterior (part_at frame at) ≡ close (coords (take (2 * n) s'))
+    pub exterior-read : (n : ℕ) (s' : List Float) → n ≡ count_of (drop (part.at + 2) part.frame.now)
+        → s' ≡ sets s 0 (flat (coords_of n (drop (part.at + 2 + 2) part.frame.now))) → exterior (rings_of part) ≡ close (coords (take (2 * n) s'))
     exterior-read n s' hn hs =
-        exterior-is ∙ sym (ap close (ring-read-in frame (at + 2) n s s' hn hs (omega (arith, exterior-lent))))
+        exterior-is ∙ sym (ap close (ring-read-in part.frame.now (part.at + 2) n s s' hn hs (omega (arith, exterior-lent))))

@@ -13,10 +13,10 @@ use Rattle.clip.specs.declared.polygon.Flags.{Flags}
 use Rattle.clip.specs.declared.polygon.Route.{Route}
 use Rattle.clip.specs.Polygon as Polygon
 use Rattle.clip.specs.Origins as Origins
-use Rattle.frame_bytes.specs.Frame.{most_in_ring, read_ring, read_many, read_part}
+use Rattle.frame_bytes.specs.Frame.{most_in_ring, read_ring, read_many}
 use Rattle.frame_bytes.specs.Room.{answer_coord_size, part_room}
 use Rattle.frame_bytes.specs.Encoding.{each, AnswerCoord, answer_coord_bytes, with_origins, rings_with_origins, ring_bytes}
-use Rattle.frame_bytes.specs.Internal.{Accepted, rings_from, part_at}
+use Rattle.frame_bytes.specs.Internal.{Accepted, rings_from}
 use Rattle.frame_parts.specs.declared.PartAnswer.{PartAnswer}
 use Rattle.frame_parts.specs.declared.PartAnswer.TheVariants as PartAnswers
 use Rattle.frame_parts.specs.declared.RingCursor.{RingCursor}
@@ -114,12 +114,10 @@ pub record RingsRoom (frame : List ℕ) (at k : ℕ) (lent : Lengths) (out : ℕ
   pub working : Working (rings_from frame at k) lent
   pub output : placed.next + (2 * length (rings_from frame at k) + answer_coord_size * total ring_room (rings_from frame at k)) ≤ out
 
--- the frame has a part at position `at`, its rings can be cut, and it has room in the output from position `to` on
-pub record PartRoom (frame : List ℕ) (at : ℕ) (lent : Lengths) (out to : ℕ) : Type 0 where
-  pub within : at ≤ length frame
-  pub accepted : Accepted (read_part (drop at frame))
-  pub working : Working (part_at frame at) lent
-  pub output : to + part_room answer_coord_size (part_at frame at) ≤ out
+-- the rings of a part can be cut, and they have room in the output from position `to` on
+pub record PartRoom (rings : List (List Coord)) (lent : Lengths) (out to : ℕ) : Type 0 where
+  pub working : Working rings lent
+  pub output : to + part_room answer_coord_size rings ≤ out
 
 -- the sweep has room for the positions of each ring of the part, cut or not
 abbrev pub PositionsRoom : List (List Coord) → ℕ → Type 0

@@ -1,21 +1,22 @@
 // One part of a frame, as a polygon: routed by its exterior, cut, and what is listed of it written to the output.
 #![tactic(auto)]
 
-ghost use Rattle.std.specs.Prelude.{◌≡◌, [], ◌+◌, ◌*◌, ◌≤◌, length, drop};
+ghost use Rattle.std.specs.Prelude.{◌≡◌, [], ◌+◌, ◌*◌, ◌≤◌, length};
 ghost use Rattle.std.proofs.lemmas.List.Edits.{sets};
 ghost use Rattle.rings.specs.LentRings.{exterior, most_rings};
 ghost use Rattle.clip.specs.Internal as ClipInternal;
 ghost use Rattle.clip.specs.Polygon as Polygon;
+ghost use Rattle.frame_bytes.specs.Accepted.{rings_of};
 ghost use Rattle.frame_bytes.specs.Internal as FrameBytesInternal;
-ghost use Rattle.frame_bytes.specs.Frame as Frames;
 ghost use Rattle.frame_bytes.specs.Room as OutputRoom;
 ghost use Rattle.frame_parts.specs.Internal as Internal;
 ghost use Rattle.frame_parts.specs.Part as Parts;
 
-use clip::polygon::{AnswerKind, Flags, Reason, Route, clip_hole, reason_detail, route_exterior};
+use clip::polygon::{AnswerKind, Flags, Reason, ReasonDetail, Route, clip_hole, route_exterior};
+use frame_bytes::accepted::PartBytes;
 use frame_bytes::encode::{PART, put_count, put_part, put_ring};
 use frame_bytes::measure::part_has_huge;
-use frame_bytes::ring::{COORD, COUNT, count_at, decode_ring};
+use frame_bytes::ring::{COORD, COUNT, RingBytes, count_at, decode_ring};
 use rings::rectangle::Rect;
 use tile::TileBounds;
 
@@ -84,7 +85,12 @@ fn put_holes(
     let mut at = start;
     for _ in 0..holes {
         let n = count_at(frame, at);
-        let next = decode_ring(frame, at + COUNT, n, ring);
+        let from = RingBytes {
+            frame,
+            at: at + COUNT,
+            n,
+        };
+        let next = decode_ring(from, ring);
         let m = clip_hole(ring, n, bounds, a, a_origins, b, b_origins);
         written = put_cut_ring(b, b_origins, m, out, written);
         at = next;
@@ -94,8 +100,7 @@ fn put_holes(
 
 // Writes a cut part: its exterior, of m coordinates, stands at the front of b.
 fn put_cut(
-    frame: &[u8],
-    at: usize,
+    part: PartBytes,
     index: usize,
     m: usize,
     bounds: TileBounds,
@@ -107,24 +112,24 @@ fn put_cut(
     out: &mut [u8],
     to: usize,
 ) -> usize
-    requires part_room { Internal.PartRoom frame.now at (Internal.lengths_of ring.old a.old a_origins.old b.old b_origins.old)
+    requires part_room { Internal.PartRoom (rings_of part) (Internal.lengths_of ring.old a.old a_origins.old b.old b_origins.old)
         (length out.old) to }
-    requires exterior_stands { Internal.ExteriorStands bounds (FrameBytesInternal.part_at frame.now at) m b.old b_origins.old }
+    requires exterior_stands { Internal.ExteriorStands bounds (rings_of part) m b.old b_origins.old }
     ensures value { result ≡ to + length
-        (Parts.part_bytes (Internal.cut_part index bounds (FrameBytesInternal.part_at frame.now at))) }
+        (Parts.part_bytes (Internal.cut_part index bounds (rings_of part.entry))) }
     ensures out_after { out.new ≡ sets out.old to
-        (Parts.part_bytes (Internal.cut_part index bounds (FrameBytesInternal.part_at frame.now at))) }
+        (Parts.part_bytes (Internal.cut_part index bounds (rings_of part.entry))) }
 {
-    let rings = count_at(frame, at);
-    let n = count_at(frame, at + COUNT);
+    let rings = count_at(part.frame, part.at);
+    let n = count_at(part.frame, part.at + COUNT);
     let first = RingCursor {
         rings: 0,
         next: to + PART + COUNT,
     };
     let exterior = put_cut_ring(b, b_origins, m, out, first);
-    let holes = at + COUNT + COUNT + COORD * n;
+    let holes = part.at + COUNT + COUNT + COORD * n;
     let all = put_holes(
-        frame,
+        part.frame,
         holes,
         rings - 1,
         bounds,
@@ -143,24 +148,22 @@ fn put_cut(
 
 // An overlay is wanted, unless a coordinate of the part is too large for it.
 fn overlay_or_dropped(
-    frame: &[u8],
-    at: usize,
+    part: PartBytes,
     index: usize,
     reason: Reason,
     out: &mut [u8],
     to: usize,
 ) -> PartAnswer
-    requires { (at ≤ length frame.now) × FrameBytesInternal.Accepted (Frames.read_part (drop at frame.now))
-        × (to + 8 ≤ length out.old) }
+    requires { to + 8 ≤ length out.old }
     ensures value { result ≡ Internal.part_answer to (Internal.uncut_part index
-        (Polygon.overlay_or_dropped (FrameBytesInternal.part_at frame.now at) reason)) }
+        (Polygon.overlay_or_dropped (rings_of part.entry) reason)) }
     ensures out_after { out.new ≡ sets out.old to (Internal.written_part (Internal.uncut_part index
-        (Polygon.overlay_or_dropped (FrameBytesInternal.part_at frame.now at) reason))) }
+        (Polygon.overlay_or_dropped (rings_of part.entry) reason))) }
 {
-    if part_has_huge(frame, at) {
+    if part_has_huge(part) {
         return PartAnswer::Dropped;
     }
-    let detail = reason_detail(reason);
+    let detail = ReasonDetail::from(reason);
     put_part(out, to, index, AnswerKind::Overlay as u8, detail.number);
     let first_at = to + PART;
     put_count(out, first_at, detail.first as usize);
@@ -168,10 +171,9 @@ fn overlay_or_dropped(
     PartAnswer::Listed(first_at + COUNT + COUNT)
 }
 
-// What becomes of the part at `at` whose exterior has this route; a cut exterior stands at the front of b.
+// What becomes of the part whose exterior has this route; a cut exterior stands at the front of b.
 fn answer_route(
-    frame: &[u8],
-    at: usize,
+    part: PartBytes,
     index: usize,
     route: Route,
     bounds: TileBounds,
@@ -183,33 +185,32 @@ fn answer_route(
     out: &mut [u8],
     to: usize,
 ) -> PartAnswer
-    requires part_room { Internal.PartRoom frame.now at (Internal.lengths_of ring.old a.old a_origins.old b.old b_origins.old)
+    requires part_room { Internal.PartRoom (rings_of part) (Internal.lengths_of ring.old a.old a_origins.old b.old b_origins.old)
         (length out.old) to }
-    requires cut_stands { ClipInternal.CutStands bounds (exterior (FrameBytesInternal.part_at frame.now at)) route b.old
-        × ClipInternal.OriginsStand bounds (exterior (FrameBytesInternal.part_at frame.now at)) route b_origins.old }
+    requires cut_stands { ClipInternal.CutStands bounds (exterior (rings_of part)) route b.old
+        × ClipInternal.OriginsStand bounds (exterior (rings_of part)) route b_origins.old }
     ensures value { result ≡ Internal.part_answer to
-        (Internal.routed_part index route bounds (FrameBytesInternal.part_at frame.now at)) }
+        (Internal.routed_part index route bounds (rings_of part.entry)) }
     ensures out_after { out.new ≡ sets out.old to (Internal.written_part
-        (Internal.routed_part index route bounds (FrameBytesInternal.part_at frame.now at))) }
+        (Internal.routed_part index route bounds (rings_of part.entry))) }
 {
     match route {
         Route::Nothing => PartAnswer::Nothing,
         Route::Unchanged => PartAnswer::Unchanged,
-        Route::Overlay(reason) => overlay_or_dropped(frame, at, index, reason, out, to),
+        Route::Overlay(reason) => overlay_or_dropped(part, index, reason, out, to),
         Route::Cut(m) => {
             let next = put_cut(
-                frame, at, index, m, bounds, ring, a, a_origins, b, b_origins, out, to,
+                part, index, m, bounds, ring, a, a_origins, b, b_origins, out, to,
             );
             PartAnswer::Listed(next)
         }
     }
 }
 
-// What becomes of the part at `at` as a polygon, as if rect were its rectangle; one that is not finite is dropped before. What the
-// working slices hold afterwards is open.
+// What becomes of the part as a polygon, as if rect were its rectangle; one that is not finite is dropped before. What the working slices
+// hold afterwards is open.
 pub fn route_part(
-    frame: &[u8],
-    at: usize,
+    part: PartBytes,
     index: usize,
     flags: Flags,
     rect: Rect,
@@ -223,20 +224,25 @@ pub fn route_part(
     out: &mut [u8],
     to: usize,
 ) -> PartAnswer
-    requires part_room { Internal.PartRoom frame.now at (Internal.lengths_of ring.old a.old a_origins.old b.old b_origins.old)
+    requires part_room { Internal.PartRoom (rings_of part) (Internal.lengths_of ring.old a.old a_origins.old b.old b_origins.old)
         (length out.old) to }
-    requires positions_room { Internal.PositionsRoom (FrameBytesInternal.part_at frame.now at) (length order.old) }
+    requires positions_room { Internal.PositionsRoom (rings_of part) (length order.old) }
     ensures value { result ≡ Internal.part_answer to
-        (Internal.measured_part index flags rect bounds (FrameBytesInternal.part_at frame.now at)) }
+        (Internal.measured_part index flags rect bounds (rings_of part.entry)) }
     ensures out_after { out.new ≡ sets out.old to (Internal.written_part
-        (Internal.measured_part index flags rect bounds (FrameBytesInternal.part_at frame.now at))) }
+        (Internal.measured_part index flags rect bounds (rings_of part.entry))) }
 {
-    let n = count_at(frame, at + COUNT);
-    decode_ring(frame, at + COUNT + COUNT, n, ring);
+    let n = count_at(part.frame, part.at + COUNT);
+    let from = RingBytes {
+        frame: part.frame,
+        at: part.at + COUNT + COUNT,
+        n,
+    };
+    decode_ring(from, ring);
     let route = route_exterior(
         ring, n, flags, rect, bounds, a, a_origins, b, b_origins, order,
     );
     answer_route(
-        frame, at, index, route, bounds, ring, a, a_origins, b, b_origins, out, to,
+        part, index, route, bounds, ring, a, a_origins, b, b_origins, out, to,
     )
 }

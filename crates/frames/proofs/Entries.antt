@@ -20,6 +20,8 @@ use Rattle.rings.specs.Rectangle.{rectangle, with_rings, intersects_bounds, is_f
 use Rattle.rings.specs.LentRings.{total, exterior}
 use Rattle.clip.specs.declared.polygon.Flags.{Flags}
 use Rattle.clip.specs.Polygon as Polygon
+use Rattle.frame_bytes.specs.declared.accepted.AcceptedFrame.{AcceptedFrame}
+use Rattle.frame_bytes.specs.Accepted.{frame_reading}
 use Rattle.frame_bytes.specs.declared.head.Head.{Head}
 use Rattle.frame_bytes.specs.declared.reader.FrameRefusal.{FrameRefusal}
 use Rattle.frame_bytes.specs.Frame.{Reading, refused, read, polygon_kind, multipolygon_kind, longest, most_parts, head_bytes}
@@ -90,37 +92,41 @@ holds frame a = let t = taken (read_frame frame) a in go t.value t.rest t.is
 -- ---- room for the parts
 
 -- slices with room for a ring of m coordinates are enough for a frame that is no longer than one such ring takes
-pub ready : (frame : List ℕ) (head : Head) (m : ℕ) (lent : Lengths) (order out : ℕ) → Cuttable frame head out
-    → length frame ≤ 47 + 16 * m → Enough m lent order → PartsReady frame head lent order out
+pub ready : (frame : AcceptedFrame) (head : Head) (m : ℕ) (lent : Lengths) (order out : ℕ) → Cuttable frame head out
+    → length frame.bytes.now ≤ 47 + 16 * m → Enough m lent order → PartsReady frame.bytes.now head lent order out
 ready frame head m lent order out c small enough =
     let y = c.answerable in
-    let x = y.accepted in
-    let h = holds frame x in
-    let k = part_count_of frame in
-    let finite : with_parts Rects.Nothing (parts_from frame head_bytes k) ≡ Rects.NotFinite
+    let f = frame.bytes.now in
+    let x = frame.accepted in
+    let h = holds f x in
+    let k = part_count_of f in
+    let finite : with_parts Rects.Nothing (parts_from f head_bytes k) ≡ Rects.NotFinite
     → ⊥ = λ z. c.finite (h.rect ∙ rw (← h.parts_from_lem) z) in
-    subst (λ (g : Head). PartsReady frame g lent order out) (sym y.head_read) (record {
+    subst (λ (g : Head). PartsReady f g lent order out) (sym y.head_read) (record {
       room = record {
-        within = frame_head frame x;
-        accepted = frame_parts frame x;
+        within = frame_head f x;
+        accepted = frame_parts f x;
         workable =
-            parts_fit frame m small lent order enough k head_bytes Rects.Nothing (omega arith) (frame_head frame x) (frame_parts frame x)
+            parts_fit f m small lent order enough k head_bytes Rects.Nothing (omega arith) (frame_head f x) (frame_parts f x)
             finite;
         output = rw h.parts_from_lem (omega (arith, h.fits, y.output));
       };
-      few = frame_few frame x;
+      few = frame_few f x;
       some = λ e. omega (arith, h.only e);
     })
 
 -- the parts that are read are those from the head's end on
-pub parts-read : (frame : List ℕ) (head : Head) (out : ℕ) → Answerable frame head out → parts_from frame head_bytes head.parts
-    ≡ parts_of (read_frame frame)
-parts-read frame head out y = rw y.head_read (holds frame y.accepted).parts_from_lem
+pub parts-read : (frame : AcceptedFrame) (head : Head) (out : ℕ) → Answerable frame head out
+    → parts_from frame.bytes.now head_bytes head.parts ≡ parts_of (frame_reading frame)
+parts-read frame head out y = rw y.head_read (holds frame.bytes.now frame.accepted).parts_from_lem
 
 -- what is answered as if rect were the rectangle: of a polygon's only part, and of a listing
 module _ (frame : List ℕ) (head : Head) (lent : Lengths) (order out : ℕ) (r : PartsReady frame head lent order out)
     (k : eqb head.kind polygon_kind ≡ true) where
-  pub only_room : PartRoom frame head_bytes lent out least_room
+  pub only_reads : Accepted (read_part (drop head_bytes frame))
+  only_reads = (part_next (flags_in head) head.bounds frame head_bytes head.parts lent order out least_room (r.some k) r.room).accepted
+
+  pub only_room : PartRoom (part_at frame head_bytes) lent out least_room
   only_room = part_room_lem (flags_in head) head.bounds frame head_bytes head.parts lent order out least_room (r.some k) r.room
 
   pub only_positions : PositionsRoom (part_at frame head_bytes) order
@@ -215,44 +221,44 @@ module _ (frame : List ℕ) (head : Head) (a : Accepted (read_frame frame)) (hd 
       go false k = (read_answer frame head a hd).multipolygon k ∙ rw (← (holds frame a).rect, q) (m _)
 
 -- one that is finite
-module _ (frame : List ℕ) (head : Head) (out : ℕ) (c : Cuttable frame head out) (rect : Rect) (b : TileBounds)
-    (er : rect ≡ frame_rect (read_frame frame)) (eb : b ≡ bounds_in head) where
+module _ (frame : AcceptedFrame) (head : Head) (out : ℕ) (c : Cuttable frame head out) (rect : Rect) (b : TileBounds)
+    (er : rect ≡ frame_rect (frame_reading frame)) (eb : b ≡ bounds_in head) where
   abbrev parts : List (List (List Coord))
-  parts = parts_of (read_frame frame)
+  parts = parts_of (frame_reading frame)
 
-  by_kind : Read frame head
-  by_kind = read_answer frame head c.answerable.accepted c.answerable.head_read
+  by_kind : Read frame.bytes.now head
+  by_kind = read_answer frame.bytes.now head frame.accepted c.answerable.head_read
 
   by_rect : Apart rect (flags_in head) b
   by_rect = finite_rect rect (flags_in head) b (λ z. c.finite (sym er ∙ z))
 
-  of-polygon : eqb head.kind polygon_kind ≡ true → answer_read (read_frame frame) ≡ of_polygon
+  of-polygon : eqb head.kind polygon_kind ≡ true → answer_read (frame_reading frame) ≡ of_polygon
       (measured_part 0 (flags_in head) rect b (only_part parts))
   of-polygon k =
       by_kind.polygon_rect k
       ∙ rw (← er, ← eb) (ap (λ (to : Polygon.Routed). of_polygon (part_of 0 b (only_part parts) to)) (by_rect.route (only_part parts)))
 
-  of_multipolygon_lem : eqb head.kind polygon_kind ≡ false → answer_read (read_frame frame) ≡ cond (intersects_bounds rect b)
+  of_multipolygon_lem : eqb head.kind polygon_kind ≡ false → answer_read (frame_reading frame) ≡ cond (intersects_bounds rect b)
       (cond (is_fully_inside rect b) Unchanged (of_listing (list_parts (flags_in head) b 0 parts))) (Nothing 0)
   unfolding of_multipolygon
-  of_multipolygon_lem k = by_kind.multipolygon k ∙ rw (← (holds frame c.answerable.accepted).rect, ← er, ← eb) (by_rect.whole _)
+  of_multipolygon_lem k = by_kind.multipolygon k ∙ rw (← (holds frame.bytes.now frame.accepted).rect, ← er, ← eb) (by_rect.whole _)
 
-  pub apart : intersects_bounds rect b ≡ false → answer_read (read_frame frame) ≡ Nothing 0
+  pub apart : intersects_bounds rect b ≡ false → answer_read (frame_reading frame) ≡ Nothing 0
   unfolding Polygon.route_exterior
   apart i = go (eqb head.kind polygon_kind) refl
     where
-      go : (t : Bool) → eqb head.kind polygon_kind ≡ t → answer_read (read_frame frame) ≡ Nothing 0
+      go : (t : Bool) → eqb head.kind polygon_kind ≡ t → answer_read (frame_reading frame) ≡ Nothing 0
       go true k = of-polygon k ∙ rw i
       go false k = of_multipolygon_lem k ∙ rw i
 
   other_kinds : (t : Bool) → eqb head.kind polygon_kind ≡ t → eqb head.kind multipolygon_kind ≡ not t
-  other_kinds t k = rw (← k, c.answerable.head_read) (holds frame c.answerable.accepted).kinds
+  other_kinds t k = rw (← k, c.answerable.head_read) (holds frame.bytes.now frame.accepted).kinds
 
-  pub inside : intersects_bounds rect b ≡ true → unchanged_at_once head rect b parts ≡ true → answer_read (read_frame frame) ≡ Unchanged
+  pub inside : intersects_bounds rect b ≡ true → unchanged_at_once head rect b parts ≡ true → answer_read (frame_reading frame) ≡ Unchanged
   unfolding Polygon.route_exterior
   inside i j = go (eqb head.kind polygon_kind) refl
     where
-      go : (t : Bool) → eqb head.kind polygon_kind ≡ t → answer_read (read_frame frame) ≡ Unchanged
+      go : (t : Bool) → eqb head.kind polygon_kind ≡ t → answer_read (frame_reading frame) ≡ Unchanged
       go true k =
           let u : (is_fully_inside rect b && (head.assume_simple && not (has_issue (issue_of true (exterior (only_part parts)))))) ≡ true
           = rw (other_kinds true k) at j in
@@ -263,11 +269,11 @@ module _ (frame : List ℕ) (head : Head) (out : ℕ) (c : Cuttable frame head o
           let u : (is_fully_inside rect b && true) ≡ true = rw (other_kinds false k) at j in
           of_multipolygon_lem k ∙ rw (i, (both (is_fully_inside rect b) true u).0)
 
-  pub measured : intersects_bounds rect b ≡ true → unchanged_at_once head rect b parts ≡ false → answer_read (read_frame frame)
+  pub measured : intersects_bounds rect b ≡ true → unchanged_at_once head rect b parts ≡ false → answer_read (frame_reading frame)
       ≡ answer_measured head rect b parts
   measured i j = go (eqb head.kind polygon_kind) refl
     where
-      go : (t : Bool) → eqb head.kind polygon_kind ≡ t → answer_read (read_frame frame) ≡ answer_measured head rect b parts
+      go : (t : Bool) → eqb head.kind polygon_kind ≡ t → answer_read (frame_reading frame) ≡ answer_measured head rect b parts
       go true k = of-polygon k ∙ rw k
       go false k =
           let u : (is_fully_inside rect b && true) ≡ false = rw (other_kinds false k) at j in

@@ -223,12 +223,10 @@ module _ (flags : Flags) (bounds : TileBounds) (frame : List ℕ) (at k : ℕ) (
   workable-here : Workable lent order (part_at frame at) × Every (Workable lent order) (parts_from frame (next_place frame at) (k - 1))
   workable-here = subst (Every (Workable lent order)) part_next.here room.workable
 
-  pub part_room_lem : PartRoom frame at lent out to
+  pub part_room_lem : PartRoom (part_at frame at) lent out to
   unfolding total
   part_room_lem =
       record {
-        within = room.within;
-        accepted = part_next.accepted;
         working = workable-here.0.working;
         output = omega (arith, output-here);
       }

@@ -13,9 +13,11 @@ use Rattle.rings.specs.LentRings.{total, exterior}
 use Rattle.clip.specs.declared.polygon.Flags.{Flags}
 use Rattle.clip.specs.Polygon as Polygon
 use Rattle.clip.specs.Polygon.{answer_of, told}
+use Rattle.frame_bytes.specs.declared.accepted.AcceptedFrame.{AcceptedFrame}
 use Rattle.frame_bytes.specs.declared.head.Head.{Head}
+use Rattle.frame_bytes.specs.Accepted.{frame_reading}
 use Rattle.frame_bytes.specs.Frame.{polygon_kind, Frame, Reading, refused, read, read_many, read_part, most_parts}
-use Rattle.frame_bytes.specs.Frame.{multipolygon_kind, head_bytes, head_of, read_frame, most_in_ring}
+use Rattle.frame_bytes.specs.Frame.{multipolygon_kind, head_bytes, head_of, most_in_ring}
 use Rattle.sutherland_hodgman.specs.Growth.{B}
 use Rattle.frame_bytes.specs.Room.{answer_coord_size, part_room, least_room}
 use Rattle.frame_bytes.specs.Encoding.{each, header_bytes}
@@ -161,13 +163,12 @@ pub record PartsReady (frame : List ℕ) (head : Head) (lent : Lengths) (order o
   pub few : head.parts ≤ most_parts
   pub some : eqb head.kind polygon_kind ≡ true → 0 < head.parts
 
--- a frame is accepted, its head is read, and its answer has room
-pub record Answerable (frame : List ℕ) (head : Head) (out : ℕ) : Type 0 where
-  pub accepted : Accepted (read_frame frame)
-  pub head_read : head ≡ head_of frame
-  pub output : frame_room answer_coord_size (read_frame frame) ≤ out
+-- a frame's head is read, and its answer has room
+pub record Answerable (frame : AcceptedFrame) (head : Head) (out : ℕ) : Type 0 where
+  pub head_read : head ≡ head_of frame.bytes.now
+  pub output : frame_room answer_coord_size (frame_reading frame) ≤ out
 
 -- such a frame without a coordinate that is NaN or infinite
-pub record Cuttable (frame : List ℕ) (head : Head) (out : ℕ) : Type 0 where
+pub record Cuttable (frame : AcceptedFrame) (head : Head) (out : ℕ) : Type 0 where
   pub answerable : Answerable frame head out
-  pub finite : frame_rect (read_frame frame) ≡ Rects.NotFinite → ⊥
+  pub finite : frame_rect (frame_reading frame) ≡ Rects.NotFinite → ⊥

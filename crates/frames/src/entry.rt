@@ -1,5 +1,6 @@
 // The frame call: the bytes of a frame, and an output. It is open to callers and refuses what it can't read.
 ghost use Rattle.std.specs.Prelude.{◌≡◌, ◌≤◌, length};
+ghost use Rattle.frame_bytes.specs.Accepted.{frame_reading};
 ghost use Rattle.frame_bytes.specs.Frame as Frames;
 ghost use Rattle.frame_bytes.specs.Internal as FrameBytesInternal;
 ghost use Rattle.frame_bytes.specs.Room as OutputRoom;
@@ -9,9 +10,10 @@ ghost use Rattle.frames.specs.FrameCall.{frame_call_answer};
 
 use super::parts::{answer_in, put_alone};
 use clip::polygon::AnswerKind;
+use frame_bytes::accepted::{AcceptedFrame, PartBytes};
 use frame_bytes::head::{HEAD, Head, read_head};
 use frame_bytes::measure::whole_rect;
-use frame_bytes::reader::{FrameRefusal, MULTIPOLYGON};
+use frame_bytes::reader::{FrameKind, FrameRefusal};
 use frame_bytes::room::check_call;
 use frame_bytes::simple::is_sound_if_simple;
 use rings::rectangle::{Rect, intersects_bounds, is_fully_inside};
@@ -28,16 +30,16 @@ const LARGE: usize = 1343;
 // B(m) each for their origins, B(m) positions. Never inlined, so that the stack holds the arrays of no other size than the one called.
 #[inline(never)]
 fn answer_with<const RING: usize, const WORK: usize, const ORIGINS: usize>(
-    frame: &[u8],
+    frame: AcceptedFrame,
     head: Head,
     rect: Rect,
     bounds: TileBounds,
     out: &mut [u8],
 ) -> usize
-    requires cuttable { Internal.Cuttable frame.now head (length out.old) }
-    requires room { Internal.RoomFor (length frame.now) RING WORK ORIGINS }
+    requires cuttable { Internal.Cuttable frame head (length out.old) }
+    requires room { Internal.RoomFor (length frame.bytes.now) RING WORK ORIGINS }
     ensures { Internal.Answers (Internal.answer_measured head rect bounds
-        (Internal.parts_of (Frames.read_frame frame.now))) out.old result out.new }
+        (Internal.parts_of (frame_reading frame.entry))) out.old result out.new }
 {
     let mut ring = [0.0; RING];
     let mut a = [0.0; WORK];
@@ -46,7 +48,7 @@ fn answer_with<const RING: usize, const WORK: usize, const ORIGINS: usize>(
     let mut b_origins = [0u16; ORIGINS];
     let mut order = [0u32; ORIGINS];
     answer_in(
-        frame,
+        frame.bytes,
         head,
         rect,
         bounds,
@@ -62,18 +64,24 @@ fn answer_with<const RING: usize, const WORK: usize, const ORIGINS: usize>(
 
 // By the size of the frame, with m of 6, 32, 81 and 318, which no ring of the longest frame passes: clearing arrays for the longest ring
 // costs more than cutting a short one.
-fn answer_sized(frame: &[u8], head: Head, rect: Rect, bounds: TileBounds, out: &mut [u8]) -> usize
-    requires { Internal.Cuttable frame.now head (length out.old) }
+fn answer_sized(
+    frame: AcceptedFrame,
+    head: Head,
+    rect: Rect,
+    bounds: TileBounds,
+    out: &mut [u8],
+) -> usize
+    requires { Internal.Cuttable frame head (length out.old) }
     ensures { Internal.Answers (Internal.answer_measured head rect bounds
-        (Internal.parts_of (Frames.read_frame frame.now))) out.old result out.new }
+        (Internal.parts_of (frame_reading frame.entry))) out.old result out.new }
 {
-    if frame.len() <= SMALL {
+    if frame.bytes.len() <= SMALL {
         return answer_with::<12, 60, 30>(frame, head, rect, bounds, out);
     }
-    if frame.len() <= MEDIUM {
+    if frame.bytes.len() <= MEDIUM {
         return answer_with::<64, 328, 164>(frame, head, rect, bounds, out);
     }
-    if frame.len() <= LARGE {
+    if frame.bytes.len() <= LARGE {
         return answer_with::<162, 816, 408>(frame, head, rect, bounds, out);
     }
     answer_with::<636, 3220, 1610>(frame, head, rect, bounds, out)
@@ -81,25 +89,29 @@ fn answer_sized(frame: &[u8], head: Head, rect: Rect, bounds: TileBounds, out: &
 
 // Whether the frame is unchanged, as far as that is told without an array: a multipolygon inside as a whole, which has no issue check, or a
 // polygon inside whose exterior is assumed to be simple and has no other issue.
-fn is_unchanged_at_once(frame: &[u8], head: Head, rect: Rect, bounds: TileBounds) -> bool
-    requires { FrameBytesInternal.Accepted (Frames.read_frame frame.now) × (head ≡ Frames.head_of frame.now) }
-    ensures { result ≡ Internal.unchanged_at_once head rect bounds (Internal.parts_of (Frames.read_frame frame.now)) }
+fn is_unchanged_at_once(frame: AcceptedFrame, head: Head, rect: Rect, bounds: TileBounds) -> bool
+    requires { head ≡ Frames.head_of frame.bytes.now }
+    ensures { result ≡ Internal.unchanged_at_once head rect bounds (Internal.parts_of (frame_reading frame.entry)) }
 {
     if !is_fully_inside(rect, bounds) {
         return false;
     }
-    if head.kind == MULTIPOLYGON {
+    if head.kind == FrameKind::Multipolygon as u8 {
         return true;
     }
-    head.assume_simple && is_sound_if_simple(frame, HEAD)
+    let part = PartBytes {
+        frame: frame.bytes,
+        at: HEAD,
+    };
+    head.assume_simple && is_sound_if_simple(part)
 }
 
 // The answer to a frame whose rectangle is rect: what is apart, and what is unchanged without a search for crossings, is answered before
 // there is any array.
-fn answer_measured(frame: &[u8], head: Head, rect: Rect, out: &mut [u8]) -> usize
-    requires { Internal.Cuttable frame.now head (length out.old)
-        × (rect ≡ FrameBytesInternal.frame_rect (Frames.read_frame frame.now)) }
-    ensures { Internal.Answers (Internal.answer_read (Frames.read_frame frame.now)) out.old result
+fn answer_measured(frame: AcceptedFrame, head: Head, rect: Rect, out: &mut [u8]) -> usize
+    requires { Internal.Cuttable frame head (length out.old)
+        × (rect ≡ FrameBytesInternal.frame_rect (frame_reading frame)) }
+    ensures { Internal.Answers (Internal.answer_read (frame_reading frame.entry)) out.old result
         out.new }
 {
     let bounds = head.bounds.buffered(head.buffer);
@@ -114,13 +126,12 @@ fn answer_measured(frame: &[u8], head: Head, rect: Rect, out: &mut [u8]) -> usiz
 
 // Writes the answer to an accepted frame and tells how many bytes it has.
 #[inline(never)]
-fn answer(frame: &[u8], out: &mut [u8]) -> usize
-    requires { FrameBytesInternal.Accepted (Frames.read_frame frame.now)
-        × (FrameBytesInternal.frame_room OutputRoom.answer_coord_size (Frames.read_frame frame.now) ≤ length out.old) }
-    ensures { Internal.Answers (Internal.answer_read (Frames.read_frame frame.now)) out.old result
+fn answer(frame: AcceptedFrame, out: &mut [u8]) -> usize
+    requires { FrameBytesInternal.frame_room OutputRoom.answer_coord_size (frame_reading frame) ≤ length out.old }
+    ensures { Internal.Answers (Internal.answer_read (frame_reading frame.entry)) out.old result
         out.new }
 {
-    let head = read_head(frame);
+    let head = read_head(frame.bytes);
     match whole_rect(frame) {
         Rect::Nothing => put_alone(out, AnswerKind::Nothing as u8, 0),
         Rect::NotFinite => put_alone(out, AnswerKind::Dropped as u8, 1),
@@ -131,11 +142,13 @@ fn answer(frame: &[u8], out: &mut [u8]) -> usize
     }
 }
 
-// Answers a refusal, or the count of the answer's bytes. A refusal leaves the output as it was; an answer stands at its front, and what lies past it stays.
+// Answers a refusal, or the count of the answer's bytes. A refusal leaves the output as it was; an answer stands at its front, and what lies
+// past it stays.
 pub fn frame(frame: &[u8], out: &mut [u8]) -> Result<usize, FrameRefusal>
     ensures answer { result ≡ frame_call_answer frame.now out.old }
     ensures lent { out.new ≡ frame_call_output frame.now out.old }
 {
     check_call(frame, out.len())?;
-    Ok(answer(frame, out))
+    let accepted = AcceptedFrame { bytes: frame };
+    Ok(answer(accepted, out))
 }

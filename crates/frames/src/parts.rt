@@ -1,7 +1,7 @@
 // The parts of a frame, one after the other: what is listed of each, and the guard count.
 ghost use Rattle.std.specs.Prelude.{◌≡◌, ◌+◌, ◌≤◌, length};
 ghost use Rattle.std.proofs.lemmas.List.Edits.{sets};
-ghost use Rattle.frame_bytes.specs.Internal as FrameBytesInternal;
+ghost use Rattle.frame_bytes.specs.Accepted.{rings_of};
 ghost use Rattle.frame_bytes.specs.Frame as Frames;
 ghost use Rattle.frame_bytes.specs.Room as OutputRoom;
 ghost use Rattle.frame_bytes.specs.Encoding as Encoding;
@@ -10,10 +10,11 @@ ghost use Rattle.frames.specs.Answer as Answers;
 ghost use Rattle.frames.specs.Internal as Internal;
 
 use clip::polygon::{AnswerKind, Flags};
+use frame_bytes::accepted::PartBytes;
 use frame_bytes::encode::{PART, put_header, put_part};
 use frame_bytes::head::{HEAD, Head};
 use frame_bytes::measure::part_rect;
-use frame_bytes::reader::POLYGON;
+use frame_bytes::reader::FrameKind;
 use frame_bytes::room::LEAST_ROOM;
 use frame_parts::{PartAnswer, route_part};
 use rings::rectangle::{Rect, intersects_bounds, is_fully_inside};
@@ -59,8 +60,7 @@ fn list_part(answer: PartAnswer, index: usize, out: &mut [u8], before: ListedSoF
 
 // One part of a multipolygon, routed as if rect were its rectangle, and listed. What the working slices hold afterwards is open.
 fn add_part(
-    frame: &[u8],
-    at: usize,
+    part: PartBytes,
     index: usize,
     flags: Flags,
     rect: Rect,
@@ -74,11 +74,11 @@ fn add_part(
     out: &mut [u8],
     before: ListedSoFar,
 ) -> ListedSoFar
-    requires { PartInternal.PartRoom frame.now at
+    requires { PartInternal.PartRoom (rings_of part)
         (PartInternal.lengths_of ring.old a.old a_origins.old b.old b_origins.old) (length out.old) before.next
-        × PartInternal.PositionsRoom (FrameBytesInternal.part_at frame.now at) (length order.old) × Internal.Few index before }
+        × PartInternal.PositionsRoom (rings_of part) (length order.old) × Internal.Few index before }
     ensures { Internal.Lists (Internal.listing_of
-        (Internal.part_as index flags rect bounds (FrameBytesInternal.part_at frame.now at))) before out.old result
+        (Internal.part_as index flags rect bounds (rings_of part.entry))) before out.old result
         out.new }
 {
     if !intersects_bounds(rect, bounds) {
@@ -89,7 +89,7 @@ fn add_part(
     }
     let to = before.next;
     let answer = route_part(
-        frame, at, index, flags, rect, bounds, ring, a, a_origins, b, b_origins, order, out, to,
+        part, index, flags, rect, bounds, ring, a, a_origins, b, b_origins, order, out, to,
     );
     list_part(answer, index, out, before)
 }
@@ -122,11 +122,11 @@ fn list_parts(
     };
     let mut at = HEAD;
     for i in 0..parts {
-        let measured = part_rect(frame, at, Rect::Nothing);
+        let part = PartBytes { frame, at };
+        let measured = part_rect(part, Rect::Nothing);
         let rect = measured.rect;
         listing = add_part(
-            frame, at, i, flags, rect, bounds, ring, a, a_origins, b, b_origins, order, out,
-            listing,
+            part, i, flags, rect, bounds, ring, a, a_origins, b, b_origins, order, out, listing,
         );
         at = measured.next;
     }
@@ -197,10 +197,10 @@ pub fn answer_in(
         assume_simple: head.assume_simple,
         skip_boundary_fallback: head.skip_boundary_fallback,
     };
-    if head.kind == POLYGON {
+    if head.kind == FrameKind::Polygon as u8 {
+        let part = PartBytes { frame, at: HEAD };
         let answer = route_part(
-            frame, HEAD, 0, flags, rect, bounds, ring, a, a_origins, b, b_origins, order, out,
-            LEAST_ROOM,
+            part, 0, flags, rect, bounds, ring, a, a_origins, b, b_origins, order, out, LEAST_ROOM,
         );
         return finish_polygon(answer, out);
     }

@@ -5,6 +5,7 @@ ghost use Rattle.frame_bytes.specs.Internal.{check_of, frame_room};
 ghost use Rattle.frame_bytes.specs.Room.{answer_coord_size, read_call};
 ghost use Rattle.probe.specs.Reader as Reader;
 
+use frame_bytes::accepted::AcceptedFrame;
 use frame_bytes::reader::check_frame;
 use frame_bytes::room::{check_call, frame_room};
 
@@ -26,6 +27,6 @@ pub extern "C" fn probe_frame_room(frame: &[u8]) -> usize
 {
     match check_frame(frame) {
         Err(_) => 0,
-        Ok(()) => frame_room(frame),
+        Ok(()) => frame_room(AcceptedFrame { bytes: frame }),
     }
 }

@@ -15,26 +15,26 @@ use Rattle.frame_parts.proofs.overlay_or_dropped.Goals as goal
 pub returns-then-part_has_huge-clause-value : goal.returns-then-part_has_huge-clause-value
 unfolding overlay_or_dropped
 returns-then-part_has_huge-clause-value c = let a = c.args in
-    let e : any_huge_ring (part_at a.frame.now a.at) ≡ true =
-    sym (c.part_has_huge.ensures ∙ huge-in (read_part (drop a.at a.frame.now))) ∙ c.if-part_has_huge.true in rw e
+    let e : any_huge_ring (part_at a.part.frame.now a.part.at) ≡ true =
+    sym (c.part_has_huge.ensures ∙ huge-in (read_part (drop a.part.at a.part.frame.now))) ∙ c.if-part_has_huge.true in rw e
 
 pub returns-then-part_has_huge-clause-out_after : goal.returns-then-part_has_huge-clause-out_after
 unfolding overlay_or_dropped
 returns-then-part_has_huge-clause-out_after c = let a = c.args in
-    let e : any_huge_ring (part_at a.frame.now a.at) ≡ true =
-    sym (c.part_has_huge.ensures ∙ huge-in (read_part (drop a.at a.frame.now))) ∙ c.if-part_has_huge.true in rw e
+    let e : any_huge_ring (part_at a.part.frame.now a.part.at) ≡ true =
+    sym (c.part_has_huge.ensures ∙ huge-in (read_part (drop a.part.at a.part.frame.now))) ∙ c.if-part_has_huge.true in rw e
 
 pub returns-clause-value : goal.returns-clause-value
 unfolding overlay_or_dropped
 returns-clause-value c = let a = c.args in
-    let e : any_huge_ring (part_at a.frame.now a.at) ≡ false =
-    sym (c.part_has_huge.ensures ∙ huge-in (read_part (drop a.at a.frame.now))) ∙ c.if-part_has_huge.false in rw e (ap (λ (k : ℕ). Listed k) (omega (arith, overlay-length a.index a.reason)))
+    let e : any_huge_ring (part_at a.part.frame.now a.part.at) ≡ false =
+    sym (c.part_has_huge.ensures ∙ huge-in (read_part (drop a.part.at a.part.frame.now))) ∙ c.if-part_has_huge.false in rw e (ap (λ (k : ℕ). Listed k) (omega (arith, overlay-length a.index a.reason)))
 
 pub returns-clause-out_after : goal.returns-clause-out_after
 unfolding overlay_or_dropped
 returns-clause-out_after c = let a = c.args in
-    let e : any_huge_ring (part_at a.frame.now a.at) ≡ false =
-    sym (c.part_has_huge.ensures ∙ huge-in (read_part (drop a.at a.frame.now))) ∙ c.if-part_has_huge.false in rw e (overlay-written a.index a.reason _
-    c.reason_detail-detail.ensures a.to a.out.now _ _ _
+    let e : any_huge_ring (part_at a.part.frame.now a.part.at) ≡ false =
+    sym (c.part_has_huge.ensures ∙ huge-in (read_part (drop a.part.at a.part.frame.now))) ∙ c.if-part_has_huge.false in rw e (overlay-written a.index a.reason _
+    c.from-detail.ensures a.to a.out.now _ _ _
     c.put_part.ensures
     c.put_count.ensures c.put_count-2.ensures)

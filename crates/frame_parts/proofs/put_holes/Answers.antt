@@ -20,15 +20,17 @@ count_at-n-requires c = let l = c.loop in
       hole_whole c.args.bounds c.args.frame.now l.at k _ _ _ (omega arith) l.invariant.0,
     )
 
+pub invariant_of-from : goal.invariant_of-from
+invariant_of-from c = let l = c.loop in
+    let k = c.args.holes - l.counter in
+    let n = c.count_at-n.ensures.0 in
+    record { fits = omega (arith, n, hole_whole c.args.bounds c.args.frame.now l.at k _ _ _ (omega arith) l.invariant.0) }
+
 pub decode_ring-next-requires : goal.decode_ring-next-requires
 decode_ring-next-requires c = let l = c.loop in
     let k = c.args.holes - l.counter in
-    let f = c.args.frame.now in
     let n = c.count_at-n.ensures.0 in
-    let w = hole_whole c.args.bounds f l.at
-    k _ _ _ (omega arith) l.invariant.0 in
-    let r = hole_lent c.args.bounds f l.at
-    k _ _ _ (omega arith) l.invariant.0 l.ring refl in (omega (arith, n, w), omega (arith, n, r))
+    omega (arith, n, hole_lent c.args.bounds c.args.frame.now l.at k _ _ _ (omega arith) l.invariant.0 l.ring refl)
 
 pub clip_hole-m-requires-clause-ring_room : goal.clip_hole-m-requires-clause-ring_room
 clip_hole-m-requires-clause-ring_room c = let l = c.loop in

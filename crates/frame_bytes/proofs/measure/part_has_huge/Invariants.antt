@@ -5,4 +5,4 @@ use Rattle.frame_bytes.proofs.Measures.{HugeLeft}
 use Rattle.frame_bytes.proofs.measure.part_has_huge.Given as goal
 
 abbrev pub invariant-loop : goal.invariant-loop
-invariant-loop l = HugeLeft l.frame l.at false l.next (l.rings - l.counter)
+invariant-loop l = HugeLeft l.part.frame.now l.part.at false l.next (l.rings - l.counter)

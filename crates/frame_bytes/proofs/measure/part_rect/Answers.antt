@@ -7,24 +7,24 @@ use Rattle.frame_bytes.proofs.Measures.{rect_start, rect_next, rect_end}
 use Rattle.frame_bytes.proofs.measure.part_rect.Goals as goal
 
 pub count_at-rings-requires : goal.count_at-rings-requires
-count_at-rings-requires c = (part-rings c.args.frame.now c.args.at c.requires.0 c.requires.1).whole
+count_at-rings-requires c = (part-rings c.args.part.frame.now c.args.part.at c.args.part.within c.args.part.accepted).whole
 
 pub loop-init : goal.loop-init
-loop-init c = let all : c.count_at-rings.result - 0 ≡ c.count_at-rings.result = omega arith in rw (all, c.count_at-rings.ensures.0) (rect_start c.args.frame.now c.args.at c.args.rect c.requires.0 c.requires.1)
+loop-init c = let all : c.count_at-rings.result - 0 ≡ c.count_at-rings.result = omega arith in rw (all, c.count_at-rings.ensures.0) (rect_start c.args.part.frame.now c.args.part.at c.args.rect c.args.part.within c.args.part.accepted)
 
 pub count_at-n-requires : goal.count_at-n-requires
 count_at-n-requires c = let a = c.args in
-    let l = c.loop in let k = c.count_at-rings.result - l.counter in omega (arith, (rect_next a.frame.now a.at a.rect l.whole l.next k (omega arith) l.invariant).whole)
+    let l = c.loop in let k = c.count_at-rings.result - l.counter in omega (arith, (rect_next a.part.frame.now a.part.at a.rect l.whole l.next k (omega arith) l.invariant).whole)
 
 pub invariant_of-with_ring : goal.invariant_of-with_ring
 invariant_of-with_ring c = let a = c.args in
     let l = c.loop in let k = c.count_at-rings.result - l.counter in
-    let n = c.count_at-n.ensures.0 in omega (arith, (rect_next a.frame.now a.at a.rect l.whole l.next k (omega arith) l.invariant).whole)
+    let n = c.count_at-n.ensures.0 in omega (arith, (rect_next a.part.frame.now a.part.at a.rect l.whole l.next k (omega arith) l.invariant).whole)
 
 pub loop-preserved : goal.loop-preserved
 loop-preserved c = let next : c.count_at-rings.result - (c.loop.counter + 1) ≡ c.count_at-rings.result - c.loop.counter - 1 = omega arith in let a = c.args in
-    let l = c.loop in let k = c.count_at-rings.result - l.counter in rw (next, c.with_ring-whole.ensures, c.count_at-n.ensures.0) (rect_next a.frame.now a.at a.rect l.whole l.next
+    let l = c.loop in let k = c.count_at-rings.result - l.counter in rw (next, c.with_ring-whole.ensures, c.count_at-n.ensures.0) (rect_next a.part.frame.now a.part.at a.rect l.whole l.next
     k (omega arith) l.invariant).ahead
 
 pub returns : goal.returns
-returns c = let l = c.loop in let k = c.count_at-rings.result - l.counter in rect_end c.args.frame.now c.args.at c.args.rect l.whole l.next k c.requires.1 (omega arith) l.invariant
+returns c = let l = c.loop in let k = c.count_at-rings.result - l.counter in rect_end c.args.part.frame.now c.args.part.at c.args.rect l.whole l.next k c.args.part.accepted (omega arith) l.invariant

@@ -4,4 +4,4 @@ use Rattle.frame_bytes.proofs.Measures.{RectLeft}
 use Rattle.frame_bytes.proofs.measure.part_rect.Given as goal
 
 abbrev pub invariant-loop : goal.invariant-loop
-invariant-loop l = RectLeft l.frame l.at l.initial.whole l.whole l.next (l.rings - l.counter)
+invariant-loop l = RectLeft l.part.frame.now l.part.at l.initial.whole l.whole l.next (l.rings - l.counter)

@@ -5,4 +5,4 @@ use Rattle.frame_bytes.proofs.Measures.{PartsLeft}
 use Rattle.frame_bytes.proofs.measure.whole_rect.Given as goal
 
 abbrev pub invariant-loop : goal.invariant-loop
-invariant-loop l = PartsLeft l.frame l.rect l.at (l.parts - l.counter)
+invariant-loop l = PartsLeft l.frame.bytes.now l.rect l.at (l.parts - l.counter)

@@ -10,5 +10,5 @@ use Rattle.frame_bytes.proofs.Coordinates.{left}
 use Rattle.frame_bytes.proofs.ring.decode_ring.Given as goal
 
 abbrev pub invariant-loop-i : goal.invariant-loop-i
-invariant-loop-i l = (l.i ≤ l.n) × (length l.ring ≡ length l.initial.ring) × (sets l.initial.ring 0 (flat (coords_of l.n (drop l.at l.frame))) ≡ sets l.ring (2 * l.i)
-    (flat (left l.frame l.at l.n l.i)))
+invariant-loop-i l = (l.i ≤ l.from.n) × (length l.ring ≡ length l.initial.ring) × (sets l.initial.ring 0 (flat (coords_of l.from.n (drop l.from.at l.from.frame.now))) ≡ sets l.ring (2 * l.i)
+    (flat (left l.from.frame.now l.from.at l.from.n l.i)))

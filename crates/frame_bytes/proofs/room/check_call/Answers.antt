@@ -13,6 +13,9 @@ returns-in_err-check_frame c = let a = c.args in
     let p = err_from_is_err_and c.from_residual.result c.from_residual.ensures.1 in
     rw (p.1, p.2) (sym (call-refused a.frame.now a.out _ (sym c.in_err-check_frame.ensures)))
 
+pub invariant_of-frame_room : goal.invariant_of-frame_room
+invariant_of-frame_room c = record { accepted = sym c.in_ok-check_frame.ensures }
+
 pub returns-then-out-frame_room : goal.returns-then-out-frame_room
 returns-then-out-frame_room c = let a = c.args in
     let p : Accepted (read_frame a.frame.now) = sym c.in_ok-check_frame.ensures in rw (

@@ -22,40 +22,40 @@ whole frame =
     }
 
 pub count_at-parts-requires : goal.count_at-parts-requires
-count_at-parts-requires c = omega (arith, frame_head c.args.frame.now c.requires)
+count_at-parts-requires c = omega (arith, frame_head c.args.frame.bytes.now c.args.frame.accepted)
 
 pub loop-init : goal.loop-init
-loop-init c = let f = c.args.frame.now in let all : c.count_at-parts.result - 0 ≡ c.count_at-parts.result = omega arith in rw (all, c.count_at-parts.ensures.0) (
+loop-init c = let f = c.args.frame.bytes.now in let all : c.count_at-parts.result - 0 ≡ c.count_at-parts.result = omega arith in rw (all, c.count_at-parts.ensures.0) (
     record {
-      within = frame_head f c.requires;
-      accepted = frame_parts f c.requires;
+      within = frame_head f c.args.frame.accepted;
+      accepted = frame_parts f c.args.frame.accepted;
       sum =
           refl;
       end = refl;
     }
     )
 
-pub part_room-part-requires : goal.part_room-part-requires
-part_room-part-requires c = let l = c.loop in let k = c.count_at-parts.result - l.counter in (
-  l.invariant.within,
-  sum-here read_part (part_room answer_coord_size) c.args.frame.now l.at
-      k (omega arith) l.invariant.accepted,
-)
+pub invariant_of-part : goal.invariant_of-part
+invariant_of-part c = let l = c.loop in let k = c.count_at-parts.result - l.counter in
+    record {
+      within = l.invariant.within;
+      accepted = sum-here read_part (part_room answer_coord_size) c.args.frame.bytes.now l.at k (omega arith) l.invariant.accepted;
+    }
 
 pub overflow_add-room : goal.overflow_add-room
-overflow_add-room c = let f = c.args.frame.now in
+overflow_add-room c = let f = c.args.frame.bytes.now in
     let l = c.loop in let k = c.count_at-parts.result - l.counter in
-    let s = sum_step read_part (part_room answer_coord_size) f part_reads _ l.room l.at k c.part_room-part.result
-    (omega arith) c.part_room-part.ensures l.invariant in
+    let s = sum_step read_part (part_room answer_coord_size) f part_reads _ l.room l.at k c.part_room-measured.result
+    (omega arith) c.part_room-measured.ensures l.invariant in
     let e = s.sum in
-    let few = frame_few f c.requires in omega (arith, parts-le (length f) (part_count_of f) (drop head_bytes f) (frame_parts f c.requires))
+    let few = frame_few f c.args.frame.accepted in omega (arith, parts-le (length f) (part_count_of f) (drop head_bytes f) (frame_parts f c.args.frame.accepted))
 
 pub loop-preserved : goal.loop-preserved
-loop-preserved c = let next : c.count_at-parts.result - (c.loop.counter + 1) ≡ c.count_at-parts.result - c.loop.counter - 1 = omega arith in let f = c.args.frame.now in
+loop-preserved c = let next : c.count_at-parts.result - (c.loop.counter + 1) ≡ c.count_at-parts.result - c.loop.counter - 1 = omega arith in let f = c.args.frame.bytes.now in
     let l = c.loop in let k = c.count_at-parts.result - l.counter in rw next (sum_step read_part (part_room answer_coord_size) f part_reads _ l.room l.at k
-    c.part_room-part.result (omega arith) c.part_room-part.ensures l.invariant)
+    c.part_room-measured.result (omega arith) c.part_room-measured.ensures l.invariant)
 
 pub returns : goal.returns
-returns c = let f = c.args.frame.now in
+returns c = let f = c.args.frame.bytes.now in
     let l = c.loop in let k = c.count_at-parts.result - l.counter in
-    let e = sum_end read_part (part_room answer_coord_size) f (whole f) l.room l.at k (omega arith) l.invariant in rw (frame_passed f c.requires) (sym (ap (λ (p : MeasuredRoom). p.room) e))
+    let e = sum_end read_part (part_room answer_coord_size) f (whole f) l.room l.at k (omega arith) l.invariant in rw (frame_passed f c.args.frame.accepted) (sym (ap (λ (p : MeasuredRoom). p.room) e))

@@ -17,4 +17,4 @@ whole frame =
     }
 
 abbrev pub invariant-loop : goal.invariant-loop
-invariant-loop l = Summed read_part (part_room answer_coord_size) l.frame (whole l.frame) l.room l.at (l.parts - l.counter)
+invariant-loop l = Summed read_part (part_room answer_coord_size) l.frame.bytes.now (whole l.frame.bytes.now) l.room l.at (l.parts - l.counter)

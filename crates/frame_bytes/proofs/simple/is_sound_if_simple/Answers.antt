@@ -8,25 +8,20 @@ use Rattle.frame_bytes.proofs.simple.is_sound_if_simple.Goals as goal
 
 pub count_at-n-requires : goal.count_at-n-requires
 count_at-n-requires c = let a = c.args in
-    let w = (first_ring a.frame.now a.at c.requires.0 c.requires.1).whole in omega (arith, w)
+    let w = (first_ring a.part.frame.now a.part.at c.args.part.within c.args.part.accepted).whole in omega (arith, w)
 
-pub invariant_of-closed_count : goal.invariant_of-closed_count
-invariant_of-closed_count c = let a = c.args in record { fits = rw c.count_at-n.ensures.0 (first_ring a.frame.now a.at c.requires.0 c.requires.1).whole }
+pub invariant_of-exterior : goal.invariant_of-exterior
+invariant_of-exterior c = let a = c.args in record { fits = rw c.count_at-n.ensures.0 (first_ring a.part.frame.now a.part.at c.args.part.within c.args.part.accepted).whole }
 
 pub returns-then-count-lt4 : goal.returns-then-count-lt4
-returns-then-count-lt4 c = let a = c.args in sym (sound_short a.frame.now a.at c.requires.1 c.requires.0
+returns-then-count-lt4 c = let a = c.args in sym (sound_short a.part.frame.now a.part.at c.args.part.accepted c.args.part.within
     (rw (← c.count_at-n.ensures.0, ← c.closed_count-count.ensures) c.if-count-lt4.true))
 
 pub has_repeated-requires : goal.has_repeated-requires
-has_repeated-requires c = let a = c.args in (
-  rw c.count_at-n.ensures.0 (first_ring a.frame.now a.at c.requires.0
-      c.requires.1).whole,
-  c.closed_count-count.ensures,
-  omega (arith, c.if-count-lt4.false),
-)
+has_repeated-requires c = (c.closed_count-count.ensures, omega (arith, c.if-count-lt4.false))
 
 pub returns : goal.returns
-returns c = let a = c.args in sym (sound_long a.frame.now a.at c.requires.1
-    c.requires.0
+returns c = let a = c.args in sym (sound_long a.part.frame.now a.part.at c.args.part.accepted
+    c.args.part.within
     (rw (← c.count_at-n.ensures.0, ← c.closed_count-count.ensures) c.if-count-lt4.false)
     ∙ rw (← c.count_at-n.ensures.0) (ap not (sym c.has_repeated.ensures)))

@@ -11,29 +11,29 @@ use Rattle.frames.proofs.Entries.{holds, as-answer, unmeasured}
 use Rattle.frames.proofs.entry.answer.Goals as goal
 
 pub read_head-head-requires : goal.read_head-head-requires
-read_head-head-requires c = frame_head c.args.frame.now c.requires.0
+read_head-head-requires c = frame_head c.args.frame.bytes.now c.args.frame.accepted
 
 pub put_alone-requires : goal.put_alone-requires
 put_alone-requires c = omega (
   arith,
-  c.requires.1,
+  c.requires,
   (holds
-      c.args.frame.now
-      c.requires.0).fits,
+      c.args.frame.bytes.now
+      c.args.frame.accepted).fits,
 )
 
 pub put_alone-requires-in-NotFinite : goal.put_alone-requires-in-NotFinite
 put_alone-requires-in-NotFinite c = omega (
   arith,
-  c.requires.1,
+  c.requires,
   (holds
-      c.args.frame.now
-      c.requires.0).fits,
+      c.args.frame.bytes.now
+      c.args.frame.accepted).fits,
 )
 
 pub returns-in-Nothing : goal.returns-in-Nothing
 unfolding route_rect answer_bytes
-returns-in-Nothing c = let a = c.args in as-answer (unmeasured a.frame.now _ c.requires.0
+returns-in-Nothing c = let a = c.args in as-answer (unmeasured a.frame.bytes.now _ c.args.frame.accepted
     c.read_head-head.ensures Rects.Nothing (Nothing 0)
     (sym c.whole_rect.ensures
     ∙ c.in-Nothing.is) (λ b rings. refl) (λ other. refl))
@@ -42,7 +42,7 @@ returns-in-Nothing c = let a = c.args in as-answer (unmeasured a.frame.now _ c.r
 
 pub returns-in-NotFinite : goal.returns-in-NotFinite
 unfolding route_rect answer_bytes
-returns-in-NotFinite c = let a = c.args in as-answer (unmeasured a.frame.now _ c.requires.0
+returns-in-NotFinite c = let a = c.args in as-answer (unmeasured a.frame.bytes.now _ c.args.frame.accepted
     c.read_head-head.ensures Rects.NotFinite Dropped
     (sym c.whole_rect.ensures
     ∙ c.in-NotFinite.is) (λ b rings. refl) (λ other. refl))

@@ -8,11 +8,11 @@ use Rattle.frames.proofs.Entries.{holds, as-answer, apart, inside, measured}
 use Rattle.frames.proofs.entry.answer_measured.Goals as goal
 
 pub put_alone-requires : goal.put_alone-requires
-put_alone-requires c = let y = c.requires.0.answerable in omega (arith, y.output, (holds c.args.frame.now y.accepted).fits)
+put_alone-requires c = let y = c.requires.0.answerable in omega (arith, y.output, (holds c.args.frame.bytes.now c.args.frame.accepted).fits)
 
 pub returns-then-not-intersects_bounds : goal.returns-then-not-intersects_bounds
 unfolding answer_bytes
-returns-then-not-intersects_bounds c = let a = c.args in as-answer (apart a.frame.now a.head _ c.requires.0
+returns-then-not-intersects_bounds c = let a = c.args in as-answer (apart a.frame a.head _ c.requires.0
     a.rect _ c.requires.1
     c.buffered-bounds.ensures
     (sym c.intersects_bounds.ensures
@@ -24,13 +24,13 @@ pub put_alone-requires-then-is_unchanged_at_once : goal.put_alone-requires-then-
 put_alone-requires-then-is_unchanged_at_once c = let y = c.requires.0.answerable in omega (
   arith,
   y.output,
-  (holds c.args.frame.now
-      y.accepted).fits,
+  (holds c.args.frame.bytes.now
+      c.args.frame.accepted).fits,
 )
 
 pub returns-then-is_unchanged_at_once : goal.returns-then-is_unchanged_at_once
 unfolding answer_bytes
-returns-then-is_unchanged_at_once c = let a = c.args in as-answer (inside a.frame.now a.head _
+returns-then-is_unchanged_at_once c = let a = c.args in as-answer (inside a.frame a.head _
     c.requires.0 a.rect _
     c.requires.1
     c.buffered-bounds.ensures
@@ -41,7 +41,7 @@ returns-then-is_unchanged_at_once c = let a = c.args in as-answer (inside a.fram
     c.put_alone-then-is_unchanged_at_once.ensures.1)
 
 pub returns : goal.returns
-returns c = let a = c.args in as-answer (measured a.frame.now a.head _
+returns c = let a = c.args in as-answer (measured a.frame a.head _
     c.requires.0 a.rect _
     c.requires.1
     c.buffered-bounds.ensures

@@ -31,7 +31,7 @@ answer_with-requires-then-frame-le-LARGE-clause-room c = record {
 
 pub answer_with-requires-2-clause-room : goal.answer_with-requires-2-clause-room
 answer_with-requires-2-clause-room c = record {
-  short = omega (arith, (holds c.args.frame.now c.requires.answerable.accepted).long);
+  short = omega (arith, (holds c.args.frame.bytes.now c.args.frame.accepted).long);
   small = omega arith;
   origin-room = sym B-318;
   work-room = refl;

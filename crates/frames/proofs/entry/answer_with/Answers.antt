@@ -24,11 +24,11 @@ pub whole_as_slice-answer_in-6 : goal.whole_as_slice-answer_in-6
 whole_as_slice-answer_in-6 g c = omega (arith, few_origins _ _ _ _ c.requires.room)
 
 pub answer_in-requires : goal.answer_in-requires
-answer_in-requires g c = ready c.args.frame.now c.args.head (g.row.RING / 2) _ _ _ c.requires.cuttable
+answer_in-requires g c = ready c.args.frame c.args.head (g.row.RING / 2) _ _ _ c.requires.cuttable
     (omega (arith, c.requires.room.short))
     (enough _ _ _ _ _ _ c.requires.room (length-replicate g.row.RING _) (length-replicate g.row.WORK _) (length-replicate g.row.ORIGINS _)
     (length-replicate g.row.WORK _) (length-replicate g.row.ORIGINS _) (length-replicate g.row.ORIGINS _))
 
 pub returns : goal.returns
 returns g c = as-answer (ap (answer_measured c.args.head c.args.rect c.args.bounds)
-    (sym (parts-read c.args.frame.now c.args.head _ c.requires.cuttable.answerable))) c.answer_in.ensures
+    (sym (parts-read c.args.frame c.args.head _ c.requires.cuttable.answerable))) c.answer_in.ensures

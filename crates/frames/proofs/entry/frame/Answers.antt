@@ -6,8 +6,11 @@ use Rattle.frame_bytes.specs.Room.{read_call}
 use Rattle.frames.proofs.Entries.{call_accepts, call_answers, call_refuses}
 use Rattle.frames.proofs.entry.frame.Goals as goal
 
+pub invariant_of-accepted : goal.invariant_of-accepted
+invariant_of-accepted c = record { accepted = (call_accepts c.args.frame.now (length c.args.out.now) (sym c.in_ok-check_call.ensures)).0 }
+
 pub answer-requires : goal.answer-requires
-answer-requires c = call_accepts c.args.frame.now (length c.args.out.now) (sym c.in_ok-check_call.ensures)
+answer-requires c = (call_accepts c.args.frame.now (length c.args.out.now) (sym c.in_ok-check_call.ensures)).1
 
 pub returns-in_err-check_call-clause-answer : goal.returns-in_err-check_call-clause-answer
 returns-in_err-check_call-clause-answer c =

@@ -5,23 +5,21 @@ use Rattle.frame_bytes.proofs.Rooms.{frame_head}
 use Rattle.frames.proofs.Entries.{polygon-else, only_accepted, only_sound}
 use Rattle.frames.proofs.entry.is_unchanged_at_once.Goals as goal
 
-pub is_sound_if_simple-requires : goal.is_sound_if_simple-requires
-is_sound_if_simple-requires c = let a = c.args in (
-  frame_head a.frame.now c.requires.0,
-  only_accepted a.frame.now
-      c.requires.0
-      (polygon-else a.frame.now a.head c.requires.0
-      c.requires.1 c.if-head-eq-MULTIPOLYGON.false),
-)
+pub invariant_of-part : goal.invariant_of-part
+invariant_of-part c = let a = c.args in record {
+  within = frame_head a.frame.bytes.now a.frame.accepted;
+  accepted = only_accepted a.frame.bytes.now a.frame.accepted
+      (polygon-else a.frame.bytes.now a.head a.frame.accepted c.requires c.if-head.false);
+}
 
-pub returns-then-head : goal.returns-then-head
-returns-then-head c = let a = c.args in
-    let k = polygon-else a.frame.now a.head c.requires.0
-    c.requires.1 c.if-head-eq-MULTIPOLYGON.false in rw (
+pub returns-then-head-2 : goal.returns-then-head-2
+returns-then-head-2 c = let a = c.args in
+    let k = polygon-else a.frame.bytes.now a.head c.args.frame.accepted
+    c.requires c.if-head.false in rw (
       ← c.is_fully_inside.ensures,
       c.if-not-is_fully_inside.false,
       ne_eqb _ _
-          c.if-head-eq-MULTIPOLYGON.false,
-      c.if-head.true,
+          c.if-head.false,
+      c.if-head-2.true,
     ) (c.is_sound_if_simple.ensures
-    ∙ only_sound a.frame.now c.requires.0 k)
+    ∙ only_sound a.frame.bytes.now c.args.frame.accepted k)

@@ -16,7 +16,7 @@ returns-then-not-intersects_bounds c = let a = c.args in
 
 pub list_part-requires : goal.list_part-requires
 list_part-requires c = let a = c.args in
-    let p = c.requires in (part-head a.frame.now a.at _ _ _ p.0, p.2)
+    let p = c.requires in (part-head a.part _ _ _ p.0, p.2)
 
 pub returns-then-is_fully_inside : goal.returns-then-is_fully_inside
 unfolding route_part_as
@@ -36,7 +36,7 @@ list_part-requires-2 c = let a = c.args in
     let p = c.requires in (
       omega (
         arith,
-        part-head a.frame.now a.at _ _ _ p.0,
+        part-head a.part _ _ _ p.0,
         c.route_part-answer.auto.out,
       ),
       p.2,
@@ -48,7 +48,7 @@ returns c = let a = c.args in
     let list = c.list_part-2.ensures in
     let answer = c.route_part-answer.ensures in
     let e = c.if-not-intersects_bounds.false in
-    let part = part_at a.frame.now a.at in
+    let part = part_at a.part.frame.now a.part.at in
     let to = route_measured a.flags a.rect a.bounds part in rw (
       ← c.intersects_bounds.ensures,
       e,

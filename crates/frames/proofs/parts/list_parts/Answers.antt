@@ -12,13 +12,13 @@ use Rattle.frames.proofs.Listings.{parts_then, parts-one, parts_none, part_next,
 use Rattle.frames.proofs.Listings.{parts-room, listing_here, same-parts-room, parts_end, few_next}
 use Rattle.frames.proofs.parts.list_parts.Goals as goal
 
-pub part_rect-measured-requires : goal.part_rect-measured-requires
-part_rect-measured-requires c = let a = c.args in
-    let l = c.loop-i in (
-      l.invariant.0.within,
-      (part_next a.flags a.bounds a.frame.now l.at (a.parts - l.i) _ _ _ _ (omega (arith, c.loop-i-test.true)) l.invariant.0
-          ).accepted,
-    )
+pub invariant_of-part : goal.invariant_of-part
+invariant_of-part c = let a = c.args in
+    let l = c.loop-i in record {
+      within = l.invariant.0.within;
+      accepted =
+          (part_next a.flags a.bounds a.frame.now l.at (a.parts - l.i) _ _ _ _ (omega (arith, c.loop-i-test.true)) l.invariant.0).accepted;
+    }
 
 pub add_part-listing-requires : goal.add_part-listing-requires
 add_part-listing-requires c = let a = c.args in

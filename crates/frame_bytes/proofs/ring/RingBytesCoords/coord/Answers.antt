@@ -1,12 +1,10 @@
 -- `coord` of a ring in a frame meets its contract. Assumes nothing.
 use mathlib.Core.Path.{sym, ◌∙◌}
-use Prim.Native.Nat.{◌*◌}
 use native.Mathlib.Omega.{arith}
 use borrow.Author.Rules.{rules}
 use lib.ListN.{drop}
-use lib.Seq.{drop-drop}
 use Rattle.tile.specs.Internal.{nowhere}
-use Rattle.frame_bytes.proofs.Coordinates.{length-coords_of, coords_of-at}
+use Rattle.frame_bytes.proofs.Coordinates.{length-coords_of, coord_there}
 use Rattle.frame_bytes.proofs.ring.RingBytesCoords.coord.Goals as goal
 
 pub overflow_mul-i : goal.overflow_mul-i
@@ -24,5 +22,4 @@ coord_at-requires c = let r = c.args.self.now in
 pub returns : goal.returns
 returns c = let r = c.args.self.now in
     c.coord_at.ensures
-    ∙ rw (← drop-drop (16 * c.args.i) r.at r.frame.now)
-    (sym (coords_of-at c.args.i r.n (drop r.at r.frame.now) nowhere (omega (arith, length-coords_of r.n (drop r.at r.frame.now), c.requires))))
+    ∙ sym (coord_there r.frame.now r.at r.n c.args.i nowhere (omega (arith, length-coords_of r.n (drop r.at r.frame.now), c.requires)))
