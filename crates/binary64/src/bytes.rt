@@ -17,27 +17,6 @@ pub fn read_number<const N: usize>(b: &[u8], at: usize) -> u64
     n
 }
 
-pub fn read_u16(b: &[u8], at: usize) -> u64
-    requires { at + 2 ≤ length b.now }
-    ensures { (result ≡ Bytes.number_of Bytes.Little (take 2 (drop at b.now))) × (result < 2 ^ 16) }
-{
-    read_number::<2>(b, at)
-}
-
-pub fn read_u32(b: &[u8], at: usize) -> u64
-    requires { at + 4 ≤ length b.now }
-    ensures { (result ≡ Bytes.number_of Bytes.Little (take 4 (drop at b.now))) × (result < 2 ^ 32) }
-{
-    read_number::<4>(b, at)
-}
-
-pub fn read_u64(b: &[u8], at: usize) -> u64
-    requires { at + 8 ≤ length b.now }
-    ensures { result ≡ Bytes.number_of Bytes.Little (take 8 (drop at b.now)) }
-{
-    read_number::<8>(b, at)
-}
-
 // Every NaN pattern gives the NaN, which is 0.0 / 0.0.
 fn from_bits(n: u64) -> f64
     ensures { result ≡ of_bits binary64 n }
@@ -76,13 +55,6 @@ pub fn write_number<const N: usize>(out: &mut [u8], at: usize, n: u64)
         out[at + i] = (rest % 256) as u8;
         rest = rest / 256;
     }
-}
-
-pub fn write_u16(out: &mut [u8], at: usize, n: u64)
-    requires { at + 2 ≤ length out.old }
-    ensures { out.new ≡ sets out.old at (Bytes.bytes_of Bytes.Little 2 n) }
-{
-    write_number::<2>(out, at, n);
 }
 
 pub fn write_f64(out: &mut [u8], at: usize, x: f64)

@@ -16,7 +16,7 @@ pub mod pairs;
 // What is wrong with an exterior: nothing, fewer than 4 coordinates, two neighbours less than 1e-10 apart in x and in y
 // (the last segment excepted), two edges that cross. Neighbours are told by the position of the first, edges by their numbers, the lower
 // first: edge k runs from coordinate k to the next.
-// Stays an enum, where an Option of the other three would do: `clip::polygon::reason_detail` takes `Sound` too.
+// Stays an enum, where an Option of the other three would do: `ReasonDetail::from` of `clip` takes `Sound` too.
 #[derive(Clone, Copy)]
 pub enum Issue {
     Sound,

@@ -127,12 +127,6 @@ impl From<Reason> for ReasonDetail {
     }
 }
 
-pub fn reason_detail(reason: Reason) -> ReasonDetail
-    ensures { result ≡ Polygon.reason_detail reason }
-{
-    ReasonDetail::from(reason)
-}
-
 // The issue of the ring of n coordinates at the front of a slice, closed. A ring that is not lent closed is closed in the output.
 fn closed_issue(
     ring: &[f64],

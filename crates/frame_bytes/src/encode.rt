@@ -7,7 +7,7 @@ ghost use Rattle.frame_bytes.specs.Internal as Internal;
 ghost use Rattle.frame_bytes.specs.Encoding as Encoding;
 
 use super::ring::{COORD, COUNT};
-use binary64::bytes::{write_f64, write_u16};
+use binary64::bytes::{write_f64, write_number};
 use tile::Coord;
 use tile::ring::coord_at;
 
@@ -21,7 +21,7 @@ pub fn put_count(out: &mut [u8], at: usize, n: usize)
     requires { at + 2 ≤ length out.old }
     ensures { out.new ≡ sets out.old at (Encoding.count_bytes n) }
 {
-    write_u16(out, at, n as u64);
+    write_number::<2>(out, at, n as u64);
 }
 
 fn put_coord(out: &mut [u8], at: usize, p: Coord)

@@ -4,7 +4,7 @@ ghost use Rattle.std.proofs.lemmas.List.Edits.{sets};
 ghost use Rattle.tile.specs.Ring.{flat};
 ghost use Rattle.frame_bytes.specs.Frame as Frames;
 
-use binary64::bytes::{read_f64, read_u16};
+use binary64::bytes::{read_f64, read_number};
 use tile::Coord;
 use tile::ring::{Coords, put};
 
@@ -18,7 +18,7 @@ pub fn count_at(frame: &[u8], at: usize) -> usize
     requires { at + 2 ≤ length frame.now }
     ensures { (result ≡ Frames.count_of (drop at frame.now)) × (result < 2 ^ 16) }
 {
-    read_u16(frame, at) as usize
+    read_number::<2>(frame, at) as usize
 }
 
 pub fn coord_at(frame: &[u8], at: usize) -> Coord

@@ -4,7 +4,7 @@ ghost use Rattle.std.specs.Prelude.{◌≡◌, ◌+◌, ◌*◌, ◌≤◌, leng
 ghost use Rattle.binary64.specs.Bytes.{Little, number_of};
 
 use super::lent::Lent;
-use binary64::bytes::{read_u16, read_u32, read_u64};
+use binary64::bytes::read_number;
 use std::io::Read;
 
 // The most numbers that are read at a time.
@@ -27,7 +27,7 @@ pub fn whole_at(bytes: &[u8], at: usize) -> u32
     requires { at + 4 ≤ length bytes.now }
     ensures { result ≡ number_of Little (take 4 (drop at bytes.now)) }
 {
-    read_u32(bytes, at) as u32
+    read_number::<4>(bytes, at) as u32
 }
 
 pub fn count_at(bytes: &[u8], at: usize) -> usize
@@ -41,7 +41,7 @@ pub fn origin_at(bytes: &[u8], at: usize) -> u16
     requires { at + 2 ≤ length bytes.now }
     ensures { result ≡ number_of Little (take 2 (drop at bytes.now)) }
 {
-    read_u16(bytes, at) as u16
+    read_number::<2>(bytes, at) as u16
 }
 
 pub fn read_count<R: Read>(input: &mut R) -> Option<usize> {
@@ -54,7 +54,7 @@ pub fn read_count<R: Read>(input: &mut R) -> Option<usize> {
 pub fn read_code<R: Read>(input: &mut R) -> Option<u64> {
     let mut bytes = [0u8; 8];
     fill(input, &mut bytes)?;
-    Some(read_u64(&bytes, 0))
+    Some(read_number::<8>(&bytes, 0))
 }
 
 fn decode<T: Lent>(bytes: &[u8], n: usize, to: &mut [T])

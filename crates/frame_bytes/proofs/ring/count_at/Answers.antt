@@ -4,4 +4,4 @@ use Rattle.frame_bytes.proofs.ring.count_at.Goals as goal
 
 pub returns : goal.returns
 unfolding count_of
-returns c = c.read_u16.ensures
+returns c = c.read_number.ensures
