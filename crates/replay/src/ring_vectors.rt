@@ -7,8 +7,7 @@ ghost use Rattle.replay.specs.Calls.{answer_agrees, slices_agree, ring_agrees, r
 
 use super::code::{Outcome, is_refusal, numbers_of, of_ring};
 use super::lent::{MOST_NUMBERS, ROOM, answer_agrees, marks, no_numbers, slices_agree};
-use super::stream::{count_at, fill, read_code, read_count, read_numbers};
-use binary64::bytes::read_f64;
+use super::stream::{bounds_at, count_at, fill, read_code, read_count, read_numbers};
 use ring_calls::ring;
 use std::io::Read;
 use tile::TileBounds;
@@ -31,16 +30,12 @@ struct RingVector {
 fn read_head(bytes: &[u8]) -> RingVector
     requires { length bytes.now ≡ 56 }
 {
-    let west = read_f64(bytes, 16);
-    let south = read_f64(bytes, 24);
-    let east = read_f64(bytes, 32);
-    let north = read_f64(bytes, 40);
     RingVector {
         scratch: count_at(bytes, 0),
         origin_scratch: count_at(bytes, 4),
         out: count_at(bytes, 8),
         out_origins: count_at(bytes, 12),
-        bounds: TileBounds::new(west, south, east, north),
+        bounds: bounds_at(bytes, 16),
         numbers: count_at(bytes, 48),
         stored: count_at(bytes, 52),
     }

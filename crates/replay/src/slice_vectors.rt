@@ -7,7 +7,7 @@ ghost use Rattle.replay.specs.Calls.{answer_agrees, slices_agree, slice_agrees, 
 
 use super::code::{Outcome, is_refusal, of_slice, rings_of};
 use super::lent::{MOST_NUMBERS, ROOM, answer_agrees, marks, no_numbers, slices_agree};
-use super::stream::{count_at, fill, read_code, read_count, read_numbers};
+use super::stream::{bounds_at, count_at, fill, read_code, read_count, read_numbers};
 use binary64::bytes::read_f64;
 use clip::polygon::Flags;
 use slices::call::polygon;
@@ -45,16 +45,6 @@ fn read_flags(bytes: &[u8]) -> Flags
     }
 }
 
-fn read_bounds(bytes: &[u8]) -> TileBounds
-    requires { length bytes.now ≡ 72 }
-{
-    let west = read_f64(bytes, 28);
-    let south = read_f64(bytes, 36);
-    let east = read_f64(bytes, 44);
-    let north = read_f64(bytes, 52);
-    TileBounds::new(west, south, east, north)
-}
-
 fn read_head(bytes: &[u8]) -> SliceVector
     requires { length bytes.now ≡ 72 }
 {
@@ -66,7 +56,7 @@ fn read_head(bytes: &[u8]) -> SliceVector
         out: count_at(bytes, 16),
         out_lengths: count_at(bytes, 20),
         out_origins: count_at(bytes, 24),
-        bounds: read_bounds(bytes),
+        bounds: bounds_at(bytes, 28),
         buffer: read_f64(bytes, 60),
         rings: count_at(bytes, 68),
     }

@@ -4,8 +4,9 @@ ghost use Rattle.std.specs.Prelude.{◌≡◌, ◌+◌, ◌*◌, ◌≤◌, leng
 ghost use Rattle.binary64.specs.Bytes.{Little, number_of};
 
 use super::lent::Lent;
-use binary64::bytes::read_number;
+use binary64::bytes::{read_f64, read_number};
 use std::io::Read;
+use tile::TileBounds;
 
 // The most numbers that are read at a time.
 const MOST_READ: usize = 4096;
@@ -42,6 +43,17 @@ pub fn origin_at(bytes: &[u8], at: usize) -> u16
     ensures { result ≡ number_of Little (take 2 (drop at bytes.now)) }
 {
     read_number::<2>(bytes, at) as u16
+}
+
+// West, south, east and north.
+pub fn bounds_at(bytes: &[u8], at: usize) -> TileBounds
+    requires { at + 32 ≤ length bytes.now }
+{
+    let west = read_f64(bytes, at);
+    let south = read_f64(bytes, at + 8);
+    let east = read_f64(bytes, at + 16);
+    let north = read_f64(bytes, at + 24);
+    TileBounds::new(west, south, east, north)
 }
 
 pub fn read_count<R: Read>(input: &mut R) -> Option<usize> {
