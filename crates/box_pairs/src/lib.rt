@@ -34,6 +34,7 @@ pub fn has_issue(issue: Issue) -> bool
 }
 
 // The position of the first of the n coordinates that is near the next, the last segment excepted.
+// Stays apart from `frame_bytes::simple::has_repeated`: that looks at a count of its own; one for both would need it and a law for each.
 fn first_repeated(ring: &[f64], n: usize) -> Option<u32>
     requires { (2 * n ≤ length ring.now) × (n < 2 ^ 32) }
     ensures { result ≡ first_repeated (front ring.now n) }

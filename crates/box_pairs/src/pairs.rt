@@ -65,6 +65,7 @@ fn note_lows(edges: &Edges, work: &mut [f64])
 // A slot before which no edge crosses one in a later slot, or None exactly where no two edges cross: by a sweep over the edges in the
 // order of their lowest x, which stand in `lows`, as far as a pair that crosses. Past the first edge that starts beyond an edge's end no
 // other meets it.
+// Stays with `lows` and `order` as slices: that the lows are doubles, which the proof needs, is known of a lent slice, not of a field.
 fn sweep_sorted(edges: &Edges, lows: &[f64], order: &[u32]) -> Option<usize>
     requires lows { edges.now.count ≤ length lows.now }
     requires swept { Swept edges.now.count (ring_of edges.now) lows.now order.now }

@@ -1,27 +1,10 @@
 -- What the functions of this crate say to each other. No contract of an entry point reaches it. Definitions only.
-use Rattle.std.specs.Prelude.{ℕ, ◌+◌, ◌*◌, ◌^◌, ◌<◌, ◌≤◌, cond, Float, Option, Some, None}
+use Rattle.std.specs.Prelude.{ℕ, cond, Float, Option, Some, None}
 use Rattle.tile.specs.declared.Coord.{Coord}
 use Rattle.exact.specs.declared.segments.Side.{Side}
 use Rattle.exact.specs.declared.segments.Side.TheVariants as Sides
-use Rattle.exact.specs.declared.wide.Wide.{Wide}
 use Rattle.exact.specs.Segments.{Point, is_left}
 use Rattle.exact.specs.Grid.{on_grid, grid_steps, from_lowest, point_of, coord_on_grid}
-
--- ---- whole numbers of up to 116 binary digits, in three places to the base 2^30
-
-abbrev pub value : Wide → ℕ
-value w = w.high * 2 ^ 60 + w.middle * 2 ^ 30 + w.low
-
--- the places are small enough that three such numbers can be added
-pub record Addable (w : Wide) : Type 0 where
-  pub high_addable : w.high ≤ 2 ^ 54
-  pub middle_addable : w.middle ≤ 2 ^ 58
-  pub low_addable : w.low ≤ 2 ^ 60
-
--- each place but the highest is one digit to the base 2 ^ 30
-pub record Carried (w : Wide) : Type 0 where
-  pub middle_digit : w.middle < 2 ^ 30
-  pub low_digit : w.low < 2 ^ 30
 
 -- ---- points
 

@@ -1,7 +1,7 @@
 // Whether two closed segments between points of whole numbers share a point, exactly.
 ghost use Rattle.std.specs.Prelude.{◌≡◌};
 ghost use Rattle.exact.specs.Segments as Segments;
-ghost use Rattle.exact.specs.Internal.{value, Carried, side_of};
+ghost use Rattle.exact.specs.Internal.{side_of};
 
 use super::wide::{Wide, is_less, product, sum};
 use std::marker::Model;
@@ -36,7 +36,7 @@ enum Side {
 
 // The sum of the products of three points' numbers, taken round in this order; two such sums tell the side that c lies on.
 fn shoelace(a: Point, b: Point, c: Point) -> Wide
-    ensures { (value result ≡ Segments.shoelace a b c) × Carried result }
+    ensures { result ≡ Segments.shoelace a b c }
 {
     let ab = product(a.x, b.y);
     let bc = product(b.x, c.y);

@@ -1,20 +1,55 @@
 // Sums of products of whole numbers up to 2^57, each in three u64 places to the base 2^30, and their order.
 ghost use Rattle.std.specs.Prelude.{◌≡◌, ◌+◌, ◌*◌, ◌^◌, ◌≤◌, nat_lt};
-ghost use Rattle.exact.specs.Internal as Internal;
+
+use std::marker::Model;
 
 const BASE: u64 = 1_073_741_824;
 
-// high * 2^60 + middle * 2^30 + low. Where carried, the order of the fields is that of the numbers.
-#[derive(Clone, Copy, PartialEq, Eq, PartialOrd, Ord)]
-pub struct Wide {
-    pub high: u64,
-    pub middle: u64,
-    pub low: u64,
+// A product, not carried: high * 2^60 + middle * 2^30 + low, in places small enough that three products can be added.
+#[derive(Drop)]
+pub struct Uncarried {
+    high: u64,
+    middle: u64,
+    low: u64,
 }
 
-pub fn product(a: u64, b: u64) -> Wide
+impl Model for Uncarried {
+    ghost use Rattle.std.specs.Prelude.{ℕ, ◌+◌, ◌*◌, ◌^◌, ◌≤◌};
+
+    ghost Value = { ℕ };
+
+    ghost view = { λ p. p.high * 2 ^ 60 + p.middle * 2 ^ 30 + p.low };
+
+    ghost invariant = { λ p. (p.high ≤ 2 ^ 54) × (p.middle ≤ 2 ^ 58) × (p.low ≤ 2 ^ 60) };
+}
+
+// A sum of products: high * 2^60 + middle * 2^30 + low, where each place but the highest is one digit to the base 2^30. So the order of the
+// fields is that of the numbers.
+#[derive(Clone, Copy, PartialEq, Eq, PartialOrd, Ord)]
+pub struct Wide {
+    high: u64,
+    middle: u64,
+    low: u64,
+}
+
+impl Model for Wide {
+    ghost use Rattle.std.specs.Prelude.{ℕ, ◌+◌, ◌*◌, ◌/◌, ◌%◌, ◌^◌, ◌<◌};
+    ghost use Rattle.std.proofs.Common.{arith};
+
+    ghost Value = { ℕ };
+
+    ghost view = { λ w. w.high * 2 ^ 60 + w.middle * 2 ^ 30 + w.low };
+
+    ghost inverse = { λ n. record { high = n / 2 ^ 60; middle = n / 2 ^ 30 % 2 ^ 30; low = n % 2 ^ 30 } };
+
+    ghost inverse_ok = { λ w h. Prim.grind (arith, h.0, h.1) };
+
+    ghost invariant = { λ w. (w.middle < 2 ^ 30) × (w.low < 2 ^ 30) };
+}
+
+pub fn product(a: u64, b: u64) -> Uncarried
     requires { (a ≤ 2 ^ 57) × (b ≤ 2 ^ 57) }
-    ensures { (Internal.value result ≡ a * b) × Internal.Addable result }
+    ensures { result ≡ a * b }
 {
     let a1 = a / BASE;
     let a0 = a % BASE;
@@ -24,7 +59,7 @@ pub fn product(a: u64, b: u64) -> Wide
     let left = a1 * b0;
     let right = a0 * b1;
     let low = a0 * b0;
-    Wide {
+    Uncarried {
         high,
         middle: left + right,
         low,
@@ -32,9 +67,8 @@ pub fn product(a: u64, b: u64) -> Wide
 }
 
 // The sum, carried.
-pub fn sum(p: Wide, q: Wide, r: Wide) -> Wide
-    requires { Internal.Addable p × Internal.Addable q × Internal.Addable r }
-    ensures { (Internal.value result ≡ Internal.value p + Internal.value q + Internal.value r) × Internal.Carried result }
+pub fn sum(p: Uncarried, q: Uncarried, r: Uncarried) -> Wide
+    ensures { result ≡ p + q + r }
 {
     let low = p.low + q.low + r.low;
     let middle = p.middle + q.middle + r.middle + low / BASE;
@@ -47,8 +81,7 @@ pub fn sum(p: Wide, q: Wide, r: Wide) -> Wide
 }
 
 pub fn is_less(v: Wide, w: Wide) -> bool
-    requires { Internal.Carried v × Internal.Carried w }
-    ensures { result ≡ nat_lt (Internal.value v) (Internal.value w) }
+    ensures { result ≡ nat_lt v w }
 {
     v < w
 }

@@ -4,4 +4,4 @@ use Rattle.exact.proofs.segments.is_left.Goals as goal
 
 pub returns : goal.returns
 unfolding is_left
-returns c = rw (← c.shoelace.ensures.0, ← c.shoelace-2.ensures.0) c.is_less.ensures
+returns c = rw (← c.shoelace.ensures, ← c.shoelace-2.ensures) c.is_less.ensures
