@@ -14,7 +14,7 @@ ghost use Rattle.frame_bytes.specs.Internal.{measured_of, frame_rect, huge_of};
 
 use super::accepted::{AcceptedFrame, PartBytes};
 use super::head::{HEAD, PART_COUNT};
-use super::ring::{COORD, COUNT, RingBytes, count_at};
+use super::ring::{COORD, COUNT, count_at, ring_at};
 use rings::rectangle::{Rect, with_ring};
 use rings::representable::has_huge;
 
@@ -33,17 +33,9 @@ pub fn part_rect(part: PartBytes, rect: Rect) -> Measured
     let rings = count_at(part.frame, part.at);
     let mut next = part.at + COUNT;
     for _ in 0..rings {
-        let n = count_at(part.frame, next);
-        let coords = next + COUNT;
-        whole = with_ring(
-            whole,
-            RingBytes {
-                frame: part.frame,
-                at: coords,
-                n,
-            },
-        );
-        next = coords + COORD * n;
+        let ring = ring_at(part.frame, next);
+        whole = with_ring(whole, ring);
+        next = ring.at + COORD * ring.n;
     }
     Measured { rect: whole, next }
 }
@@ -75,17 +67,11 @@ pub fn part_has_huge(part: PartBytes) -> bool
     let rings = count_at(part.frame, part.at);
     let mut next = part.at + COUNT;
     for _ in 0..rings {
-        let n = count_at(part.frame, next);
-        let coords = next + COUNT;
-        let ring = RingBytes {
-            frame: part.frame,
-            at: coords,
-            n,
-        };
+        let ring = ring_at(part.frame, next);
         if has_huge(ring) {
             return true;
         }
-        next = coords + COORD * n;
+        next = ring.at + COORD * ring.n;
     }
     false
 }

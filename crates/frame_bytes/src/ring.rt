@@ -52,6 +52,19 @@ impl<'a> Coords for RingBytes<'a> {
     }
 }
 
+// The ring that begins at `at`: its count, and its coordinates behind that.
+pub fn ring_at<'a>(frame: &'a [u8], at: usize) -> RingBytes<'a>
+    requires { at + 2 + 16 * Frames.count_of (drop at frame.now) ≤ length frame.now }
+    ensures { (result.frame.now ≡ frame.now) × (result.at ≡ at + 2) × (result.n ≡ Frames.count_of (drop at frame.now)) }
+{
+    let n = count_at(frame, at);
+    RingBytes {
+        frame,
+        at: at + COUNT,
+        n,
+    }
+}
+
 // Writes the coordinates of a ring in a frame, not closed, to the front of `ring`, and answers where the next ring starts.
 pub fn decode_ring(from: RingBytes, ring: &mut [f64]) -> usize
     requires { 2 * from.n ≤ length ring.old }

@@ -10,7 +10,7 @@ use super::accepted::{AcceptedFrame, PartBytes};
 use super::encode::{ANSWER_COORD, PART};
 use super::head::{HEAD, PART_COUNT};
 use super::reader::{FrameRefusal, check_frame};
-use super::ring::{COORD, COUNT, RingBytes, count_at};
+use super::ring::{COORD, COUNT, count_at, ring_at};
 use sutherland_hodgman::growth::room_for;
 use tile::ring::closed_count;
 
@@ -32,16 +32,10 @@ fn ring_room(frame: &[u8], at: usize) -> MeasuredRoom
     requires { (at ≤ length frame.now) × Internal.Accepted (Frames.read_ring (drop at frame.now)) }
     ensures { result ≡ Internal.measured_room (length frame.now) ring_room (Frames.read_ring (drop at frame.now)) }
 {
-    let n = count_at(frame, at);
-    let coords = at + COUNT;
-    let ring = RingBytes {
-        frame,
-        at: coords,
-        n,
-    };
+    let ring = ring_at(frame, at);
     MeasuredRoom {
         room: room_for(closed_count(ring)),
-        next: coords + COORD * n,
+        next: ring.at + COORD * ring.n,
     }
 }
 

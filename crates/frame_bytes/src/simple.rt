@@ -8,7 +8,7 @@ ghost use Rattle.frame_bytes.specs.Accepted.{part_reading};
 ghost use Rattle.frame_bytes.specs.Internal.{sound_if_simple};
 
 use super::accepted::PartBytes;
-use super::ring::{COUNT, RingBytes, count_at};
+use super::ring::{COUNT, ring_at};
 use box_pairs::cross::is_degenerate;
 use tile::ring::{Coords, closed_count};
 
@@ -33,12 +33,7 @@ fn has_repeated<R: Coords + Copy>(ring: R, count: usize) -> bool
 pub fn is_sound_if_simple(part: PartBytes) -> bool
     ensures { result ≡ sound_if_simple (part_reading part.entry) }
 {
-    let n = count_at(part.frame, part.at + COUNT);
-    let exterior = RingBytes {
-        frame: part.frame,
-        at: part.at + COUNT + COUNT,
-        n,
-    };
+    let exterior = ring_at(part.frame, part.at + COUNT);
     let count = closed_count(exterior);
     if count < 4 {
         return false;

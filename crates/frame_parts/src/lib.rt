@@ -16,7 +16,7 @@ use clip::polygon::{AnswerKind, Flags, Reason, ReasonDetail, Route, clip_hole, r
 use frame_bytes::accepted::PartBytes;
 use frame_bytes::encode::{PART, put_count, put_part, put_ring};
 use frame_bytes::measure::part_has_huge;
-use frame_bytes::ring::{COORD, COUNT, RingBytes, count_at, decode_ring};
+use frame_bytes::ring::{COORD, COUNT, count_at, decode_ring, ring_at};
 use rings::rectangle::Rect;
 use tile::TileBounds;
 
@@ -84,14 +84,9 @@ fn put_holes(
     let mut written = exterior;
     let mut at = start;
     for _ in 0..holes {
-        let n = count_at(frame, at);
-        let from = RingBytes {
-            frame,
-            at: at + COUNT,
-            n,
-        };
+        let from = ring_at(frame, at);
         let next = decode_ring(from, ring);
-        let m = clip_hole(ring, n, bounds, a, a_origins, b, b_origins);
+        let m = clip_hole(ring, from.n, bounds, a, a_origins, b, b_origins);
         written = put_cut_ring(b, b_origins, m, out, written);
         at = next;
     }
@@ -232,15 +227,10 @@ pub fn route_part(
     ensures out_after { out.new ≡ sets out.old to (Internal.written_part
         (Internal.measured_part index flags rect bounds (rings_of part.entry))) }
 {
-    let n = count_at(part.frame, part.at + COUNT);
-    let from = RingBytes {
-        frame: part.frame,
-        at: part.at + COUNT + COUNT,
-        n,
-    };
+    let from = ring_at(part.frame, part.at + COUNT);
     decode_ring(from, ring);
     let route = route_exterior(
-        ring, n, flags, rect, bounds, a, a_origins, b, b_origins, order,
+        ring, from.n, flags, rect, bounds, a, a_origins, b, b_origins, order,
     );
     answer_route(
         part, index, route, bounds, ring, a, a_origins, b, b_origins, out, to,

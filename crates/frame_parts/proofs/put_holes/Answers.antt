@@ -13,23 +13,15 @@ use Rattle.frame_parts.proofs.Cutting.{same-lengths, ahead_then, ahead_hole, ahe
 use Rattle.frame_parts.proofs.Cutting.{hole_room, hole_origin-room, cut_put, cut-ring, next_room, holes_end, unless_count}
 use Rattle.frame_parts.proofs.put_holes.Goals as goal
 
-pub count_at-n-requires : goal.count_at-n-requires
-count_at-n-requires c = let l = c.loop in
-    let k = c.args.holes - l.counter in omega (
-      arith,
-      hole_whole c.args.bounds c.args.frame.now l.at k _ _ _ (omega arith) l.invariant.0,
-    )
-
-pub invariant_of-from : goal.invariant_of-from
-invariant_of-from c = let l = c.loop in
+pub ring_at-from-requires : goal.ring_at-from-requires
+ring_at-from-requires c = let l = c.loop in
     let k = c.args.holes - l.counter in
-    let n = c.count_at-n.ensures.0 in
-    record { fits = omega (arith, n, hole_whole c.args.bounds c.args.frame.now l.at k _ _ _ (omega arith) l.invariant.0) }
+    hole_whole c.args.bounds c.args.frame.now l.at k _ _ _ (omega arith) l.invariant.0
 
 pub decode_ring-next-requires : goal.decode_ring-next-requires
 decode_ring-next-requires c = let l = c.loop in
     let k = c.args.holes - l.counter in
-    let n = c.count_at-n.ensures.0 in
+    let n = c.ring_at-from.ensures.2 in
     omega (arith, n, hole_lent c.args.bounds c.args.frame.now l.at k _ _ _ (omega arith) l.invariant.0 l.ring refl)
 
 pub clip_hole-m-requires-clause-ring_room : goal.clip_hole-m-requires-clause-ring_room
@@ -37,29 +29,28 @@ clip_hole-m-requires-clause-ring_room c = let l = c.loop in
     let k = c.args.holes - l.counter in
     let f = c.args.frame.now in
     let bounds = c.args.bounds in
-    let h : 0 < k = omega arith in rw (
-      c.decode_ring-next.ensures.1,
-      c.count_at-n.ensures.0,
-    ) (hole_room bounds f l.at k _ _ _ h l.invariant.0 l.ring refl)
+    let h : 0 < k = omega arith in
+    let from = c.ring_at-from.ensures in
+    rw (c.decode_ring-next.ensures.1, from.0, from.1, from.2) (hole_room bounds f l.at k _ _ _ h l.invariant.0 l.ring refl)
 
 pub clip_hole-m-requires-clause-ring_origin_room : goal.clip_hole-m-requires-clause-ring_origin_room
 clip_hole-m-requires-clause-ring_origin_room c = let l = c.loop in
     let k = c.args.holes - l.counter in
     let f = c.args.frame.now in
     let bounds = c.args.bounds in
-    let h : 0 < k = omega arith in rw (
-      c.decode_ring-next.ensures.1,
-      c.count_at-n.ensures.0,
-    ) (hole_origin-room bounds f l.at k _ _ _ h l.invariant.0 l.ring refl)
+    let h : 0 < k = omega arith in
+    let from = c.ring_at-from.ensures in
+    rw (c.decode_ring-next.ensures.1, from.0, from.1, from.2) (hole_origin-room bounds f l.at k _ _ _ h l.invariant.0 l.ring refl)
 
 pub put_cut_ring-written-requires : goal.put_cut_ring-written-requires
 put_cut_ring-written-requires c = let l = c.loop in
     let k = c.args.holes - l.counter in
     let a = c.args in
     let cut = c.clip_hole-m.ensures in
+    let from = c.ring_at-from.ensures in
     let p = cut_put a.bounds a.frame.now l.at k _ _ _ (omega arith)
     l.invariant.0 _ l.ring _
-    c.count_at-n.ensures.0 c.decode_ring-next.ensures.1 refl _ _ _ cut.cut
+    from.2 (rw (from.0, from.1) at c.decode_ring-next.ensures.1) refl _ _ _ cut.cut
     cut.origins in (p.0, p.1, p.2, omega (arith, l.invariant.1))
 
 pub loop-preserved : goal.loop-preserved
@@ -68,12 +59,13 @@ loop-preserved c = let l = c.loop in
     let f = c.args.frame.now in
     let bounds = c.args.bounds in
     let h : 0 < k = omega arith in
-    let n = c.count_at-n.ensures.0 in
+    let from = c.ring_at-from.ensures in
+    let n = from.2 in
     let decode = c.decode_ring-next in
     let clip = c.clip_hole-m in
     let here = close (coords_of (count_of (drop l.at f)) (drop (l.at + 2) f)) in
     let put : PutRings (unless_none (hole_vertices bounds here) []) _ _ _ _ =
-    rw (cut-ring bounds f l.at k _ _ _ h l.invariant.0 _ l.ring _ n decode.ensures.1 refl _ _ _ clip.ensures.cut
+    rw (cut-ring bounds f l.at k _ _ _ h l.invariant.0 _ l.ring _ n (rw (from.0, from.1) at decode.ensures.1) refl _ _ _ clip.ensures.cut
     clip.ensures.origins) at c.put_cut_ring-written.ensures in
     let next = next_room bounds f l.at k _ _ _ h l.invariant.0 _ _ _ put in
     let ahead = ahead_hole bounds f l.at k _ _ _ h l.invariant.0 _ _ _ put in
@@ -84,7 +76,7 @@ loop-preserved c = let l = c.loop in
     let kbo = c.clip_hole-m.auto.out_origins in
     let ko = c.put_cut_ring-written.auto.out in
     let less : c.args.holes - (l.counter + 1) ≡ k - 1 = omega arith in
-    let at : decode.result ≡ l.at + 2 + 16 * count_of (drop l.at f) = decode.ensures.0 ∙ rw n in (
+    let at : decode.result ≡ l.at + 2 + 16 * count_of (drop l.at f) = decode.ensures.0 ∙ rw (from.1, n) in (
       rw (at, less, same-lengths kr ka kao kb kbo, ko) next,
       omega (arith, l.invariant.1, put.rings-after, unless_count (hole_vertices bounds here)),
       rw (at, less) (ahead_then l.invariant.2 ahead),

@@ -5,45 +5,38 @@ use Rattle.frame_parts.proofs.Cutting.{same-lengths}
 use Rattle.frame_parts.proofs.CutParts.{exterior-whole, exterior-lent, exterior-room, exterior-origin-room, exterior-read}
 use Rattle.frame_parts.proofs.route_part.Goals as goal
 
-pub count_at-n-requires : goal.count_at-n-requires
-count_at-n-requires c = omega (arith, exterior-whole c.args.part _ _ _ c.requires.part_room)
-
-pub invariant_of-from : goal.invariant_of-from
-invariant_of-from c = let n = c.count_at-n.ensures.0 in
-    record { fits = omega (arith, n, exterior-whole c.args.part _ _ _ c.requires.part_room) }
+pub ring_at-from-requires : goal.ring_at-from-requires
+ring_at-from-requires c = exterior-whole c.args.part _ _ _ c.requires.part_room
 
 pub decode_ring-requires : goal.decode_ring-requires
-decode_ring-requires c = let n = c.count_at-n.ensures.0 in
+decode_ring-requires c = let n = c.ring_at-from.ensures.2 in
     omega (arith, n, exterior-lent c.args.part _ _ _ c.requires.part_room c.args.ring.now refl)
 
 pub route_exterior-route-requires-clause-exterior_room : goal.route_exterior-route-requires-clause-exterior_room
-route_exterior-route-requires-clause-exterior_room c = rw (
-  c.decode_ring.ensures.1,
-  c.count_at-n.ensures.0,
-) (exterior-room c.args.part _ _ _ c.requires.part_room c.args.ring.now refl _ c.requires.positions_room)
+route_exterior-route-requires-clause-exterior_room c = let from = c.ring_at-from.ensures in rw (c.decode_ring.ensures.1, from.0, from.1, from.2) (exterior-room c.args.part _ _ _ c.requires.part_room c.args.ring.now refl _ c.requires.positions_room)
 
 pub route_exterior-route-requires-clause-ring_origin_room : goal.route_exterior-route-requires-clause-ring_origin_room
-route_exterior-route-requires-clause-ring_origin_room c = rw (
-  c.decode_ring.ensures.1,
-  c.count_at-n.ensures.0,
-) (exterior-origin-room c.args.part _ _ _ c.requires.part_room c.args.ring.now refl)
+route_exterior-route-requires-clause-ring_origin_room c = let from = c.ring_at-from.ensures in rw (c.decode_ring.ensures.1, from.0, from.1, from.2) (exterior-origin-room c.args.part _ _ _ c.requires.part_room c.args.ring.now refl)
 
 pub answer_route-requires-clause-cut_stands : goal.answer_route-requires-clause-cut_stands
-answer_route-requires-clause-cut_stands c = let route = c.route_exterior-route in
+answer_route-requires-clause-cut_stands c = let from = c.ring_at-from.ensures in
+    let route = c.route_exterior-route in
     let e = exterior-read c.args.part _ _ _ c.requires.part_room c.args.ring.now refl _ _
-    c.count_at-n.ensures.0 c.decode_ring.ensures.1 in
+    from.2 (rw (from.0, from.1) at c.decode_ring.ensures.1) in
     let kept = c.route_exterior-route.auto.scratch in
     let lent = same-lengths c.decode_ring.auto.ring
     kept c.route_exterior-route.auto.origin_scratch c.route_exterior-route.auto.out c.route_exterior-route.auto.out_origins in (rw e route.ensures.cut, rw e route.ensures.origins)
 
 pub returns-clause-value : goal.returns-clause-value
-returns-clause-value c = let e = exterior-read c.args.part _ _ _ c.requires.part_room c.args.ring.now refl _ _
-    c.count_at-n.ensures.0 c.decode_ring.ensures.1 in
+returns-clause-value c = let from = c.ring_at-from.ensures in
+    let e = exterior-read c.args.part _ _ _ c.requires.part_room c.args.ring.now refl _ _
+    from.2 (rw (from.0, from.1) at c.decode_ring.ensures.1) in
     let route = c.route_exterior-route.ensures.route in
     let answer = c.answer_route.ensures in rw (e, ← route) answer.value
 
 pub returns-clause-out_after : goal.returns-clause-out_after
-returns-clause-out_after c = let e = exterior-read c.args.part _ _ _ c.requires.part_room c.args.ring.now refl _ _
-    c.count_at-n.ensures.0 c.decode_ring.ensures.1 in
+returns-clause-out_after c = let from = c.ring_at-from.ensures in
+    let e = exterior-read c.args.part _ _ _ c.requires.part_room c.args.ring.now refl _ _
+    from.2 (rw (from.0, from.1) at c.decode_ring.ensures.1) in
     let route = c.route_exterior-route.ensures.route in
     let answer = c.answer_route.ensures in rw (e, ← route) answer.out_after

@@ -12,19 +12,17 @@ count_at-rings-requires c = (part-rings c.args.part.frame.now c.args.part.at c.a
 pub loop-init : goal.loop-init
 loop-init c = let all : c.count_at-rings.result - 0 ≡ c.count_at-rings.result = omega arith in rw (all, c.count_at-rings.ensures.0) (rect_start c.args.part.frame.now c.args.part.at c.args.rect c.args.part.within c.args.part.accepted)
 
-pub count_at-n-requires : goal.count_at-n-requires
-count_at-n-requires c = let a = c.args in
-    let l = c.loop in let k = c.count_at-rings.result - l.counter in omega (arith, (rect_next a.part.frame.now a.part.at a.rect l.whole l.next k (omega arith) l.invariant).whole)
-
-pub invariant_of-with_ring : goal.invariant_of-with_ring
-invariant_of-with_ring c = let a = c.args in
+pub ring_at-ring-requires : goal.ring_at-ring-requires
+ring_at-ring-requires c = let a = c.args in
     let l = c.loop in let k = c.count_at-rings.result - l.counter in
-    let n = c.count_at-n.ensures.0 in omega (arith, (rect_next a.part.frame.now a.part.at a.rect l.whole l.next k (omega arith) l.invariant).whole)
+    (rect_next a.part.frame.now a.part.at a.rect l.whole l.next k (omega arith) l.invariant).whole
 
 pub loop-preserved : goal.loop-preserved
-loop-preserved c = let next : c.count_at-rings.result - (c.loop.counter + 1) ≡ c.count_at-rings.result - c.loop.counter - 1 = omega arith in let a = c.args in
-    let l = c.loop in let k = c.count_at-rings.result - l.counter in rw (next, c.with_ring-whole.ensures, c.count_at-n.ensures.0) (rect_next a.part.frame.now a.part.at a.rect l.whole l.next
-    k (omega arith) l.invariant).ahead
+loop-preserved c = let less : c.count_at-rings.result - (c.loop.counter + 1) ≡ c.count_at-rings.result - c.loop.counter - 1 = omega arith in
+    let a = c.args in
+    let l = c.loop in let k = c.count_at-rings.result - l.counter in
+    let r = c.ring_at-ring.ensures in
+    rw (less, c.with_ring-whole.ensures, r.0, r.1, r.2) (rect_next a.part.frame.now a.part.at a.rect l.whole l.next k (omega arith) l.invariant).ahead
 
 pub returns : goal.returns
 returns c = let l = c.loop in let k = c.count_at-rings.result - l.counter in rect_end c.args.part.frame.now c.args.part.at c.args.rect l.whole l.next k c.args.part.accepted (omega arith) l.invariant

@@ -6,22 +6,19 @@ use Rattle.frame_bytes.proofs.SimpleExteriors.{sound_short, sound_long}
 use Rattle.frame_bytes.proofs.PartRings.{first_ring}
 use Rattle.frame_bytes.proofs.simple.is_sound_if_simple.Goals as goal
 
-pub count_at-n-requires : goal.count_at-n-requires
-count_at-n-requires c = let a = c.args in
-    let w = (first_ring a.part.frame.now a.part.at c.args.part.within c.args.part.accepted).whole in omega (arith, w)
-
-pub invariant_of-exterior : goal.invariant_of-exterior
-invariant_of-exterior c = let a = c.args in record { fits = rw c.count_at-n.ensures.0 (first_ring a.part.frame.now a.part.at c.args.part.within c.args.part.accepted).whole }
+pub ring_at-exterior-requires : goal.ring_at-exterior-requires
+ring_at-exterior-requires c = let p = c.args.part in (first_ring p.frame.now p.at p.within p.accepted).whole
 
 pub returns-then-count-lt4 : goal.returns-then-count-lt4
-returns-then-count-lt4 c = let a = c.args in sym (sound_short a.part.frame.now a.part.at c.args.part.accepted c.args.part.within
-    (rw (← c.count_at-n.ensures.0, ← c.closed_count-count.ensures) c.if-count-lt4.true))
+returns-then-count-lt4 c = let p = c.args.part in
+    let r = c.ring_at-exterior.ensures in
+    sym (sound_short p.frame.now p.at p.accepted p.within (rw (r.0, r.1, r.2) at (rw c.closed_count-count.ensures at c.if-count-lt4.true)))
 
 pub has_repeated-requires : goal.has_repeated-requires
 has_repeated-requires c = (c.closed_count-count.ensures, omega (arith, c.if-count-lt4.false))
 
 pub returns : goal.returns
-returns c = let a = c.args in sym (sound_long a.part.frame.now a.part.at c.args.part.accepted
-    c.args.part.within
-    (rw (← c.count_at-n.ensures.0, ← c.closed_count-count.ensures) c.if-count-lt4.false)
-    ∙ rw (← c.count_at-n.ensures.0) (ap not (sym c.has_repeated.ensures)))
+returns c = let p = c.args.part in
+    let r = c.ring_at-exterior.ensures in
+    sym (sound_long p.frame.now p.at p.accepted p.within (rw (r.0, r.1, r.2) at (rw c.closed_count-count.ensures at c.if-count-lt4.false))
+    ∙ ap not (sym (rw (r.0, r.1, r.2) at c.has_repeated.ensures)))
