@@ -11,6 +11,8 @@ use tile::{Coord, Edge, TileBounds};
 
 pub mod verdict;
 
+// Stays a line beside the bounds, here and above: so has the source, and a document names bounds that are passed by value.
+
 // Where the segment from a to b, one of which is in and the other out, crosses a line: within 1/2^40 of the exact crossing, if the line's
 // bound and the four numbers are at most 256 in magnitude (document 02, Point 8). Between other ends a coordinate that means nothing.
 pub fn intersect(a: Coord, b: Coord, edge: Edge, bounds: TileBounds) -> Coord

@@ -40,6 +40,9 @@ fn left_off(ring: &[f64], n: usize) -> usize
     n
 }
 
+// Stays an output beside that of its origins: parts of both are lent in one call, which the check covers for two slices, not two fields.
+// Stays a clause, the room of a walk: it is a relation of a ring, a place in it and the lengths of two outputs, which no one value holds.
+
 // Where a pass stands: before the i-th vertex, with len vertices written and so many verdicts worked out.
 #[derive(Clone, Copy)]
 struct Walk {

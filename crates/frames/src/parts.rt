@@ -20,6 +20,8 @@ use frame_parts::{PartAnswer, route_part};
 use rings::rectangle::{Rect, intersects_bounds, is_fully_inside};
 use tile::TileBounds;
 
+// Stays six working slices with their room in the clauses: two fields behind one `&mut` can't be lent in one call.
+
 // What is listed so far: the guard count, how many parts, and where the next stands in the output.
 #[derive(Clone, Copy)]
 struct ListedSoFar {

@@ -13,6 +13,7 @@ use frames::entry::frame;
 use frames::parts::put_alone;
 
 // Document 01's refusal 10.
+// Stays a number: no frame is refused so, and it is written where a frame's refusal has its own.
 const NOT_PAIRS: u8 = 10;
 
 // The room for an answer's bytes, and for the answer as a line.

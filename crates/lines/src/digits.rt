@@ -8,6 +8,7 @@ ghost use Rattle.lines.specs.Lines as Lines;
 pub const NEWLINE: u8 = 10;
 
 // What stands for the value of a character that is no digit.
+// Stays a number: in a table of bytes it is told by the load that reads a digit's value.
 pub const NOT_A_DIGIT: u8 = 16;
 
 // The value of each character, sixteen to a row: a table, as a branch on the digits of a coordinate goes wrong half the time.

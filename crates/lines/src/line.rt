@@ -6,6 +6,7 @@ ghost use Rattle.lines.specs.Internal as Internal;
 use super::digits::{DigitValues, NEWLINE, NOT_A_DIGIT, digit_of, digit_values};
 use frame_bytes::reader::LONGEST;
 
+// Stays a line beside the bytes kept of it: these are an array of the caller, lent for each block.
 // What is known of a line. The bytes stand at the front of a slice that holds the longest frame, which goes with it: a count over the
 // slice's length means all of it, and a digit's value its rest by 16.
 #[derive(Clone, Copy)]
@@ -56,6 +57,7 @@ struct Pairs {
     at: usize,
 }
 
+// Stays a `while`: it steps by two and stops at any pair, and is told how far it came.
 // Takes pairs of digits from the front of a block, as long as there are any and a byte more is kept: nearly every line is such pairs.
 fn take_pairs(block: &[u8], bytes: usize, values: &DigitValues, kept: &mut [u8]) -> Pairs
     requires { longest ≤ length kept.old }

@@ -8,6 +8,7 @@ use edge_pass::clip_ring_against_edge;
 use sutherland_hodgman::growth::{MOST_COORDINATES, half_growth};
 use tile::Edge;
 
+// Stays a function: every byte but three is Top, and neither type is of this crate.
 fn edge_at(number: u8) -> Edge
     ensures { result ≡ Passes.edge_at number }
 {

@@ -23,6 +23,7 @@ pub fn is_refusal(code: u64) -> bool
     code > LARGEST
 }
 
+// Stays a match: the bits of minus a number.
 fn of_refusal(refusal: Refusal) -> u64
     ensures { result ≡ bits_of (ring_call_code (Err refusal)) }
 {

@@ -19,6 +19,8 @@ use tile::{Edge, TileBounds};
 pub mod growth;
 pub mod origins;
 
+// Stays four lent slices with their room in the clauses: two fields behind one `&mut` can't be lent in one call.
+
 // Fewer than three vertices are none; else the ring is closed.
 fn finish(ring: &mut [f64], origins: &mut [u16], n: usize) -> usize
     requires numbers_room { (2 * n ≤ length ring.old) × (3 ≤ n → 2 * n + 2 ≤ length ring.old) }
