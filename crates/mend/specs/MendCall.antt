@@ -1,6 +1,7 @@
 -- The mending call (document 02, "Point 7: mend repeated corners"): what it answers, and what the output holds afterwards. Definitions
 -- only.
-use Rattle.std.specs.Prelude.{◌≡◌, Bool, true, false, List, ℕ, None, Result, Ok, Err, ◌*◌, ◌%◌, ltb, eqb, Float, ℤ, pos, neg_ℤ, length, take}
+use Rattle.std.specs.Prelude.{◌≡◌, Bool, true, false, List, ℕ, None, Result, Ok, Err, ◌*◌, ◌%◌, ltb, eqb}
+use Rattle.std.specs.Prelude.{Float, ℤ, pos, neg_ℤ, length, take}
 use Rattle.binary64.specs.Slices.{over}
 use Rattle.tile.specs.declared.Coord.{Coord}
 use Rattle.tile.specs.Ring.{coords, flat, close}

@@ -1,5 +1,6 @@
 -- What the calls on edges answer: the definitions of `box_pairs`, as codes, where there is room.
-use Rattle.std.specs.Prelude.{Bool, not, cond, ◌&&◌, ◌||◌, List, ℕ, ◌+◌, ◌-◌, ◌*◌, ◌/◌, ◌^◌, eqb, leb, ltb, Float, length, Option, None, Some}
+use Rattle.std.specs.Prelude.{Bool, not, cond, ◌&&◌, ◌||◌, List, ℕ, ◌+◌, ◌-◌, ◌*◌, ◌/◌, ◌^◌, eqb, leb, ltb}
+use Rattle.std.specs.Prelude.{Float, length, Option, None, Some}
 use Rattle.box_pairs.specs.declared.Issue.{Issue}
 use Rattle.box_pairs.specs.declared.Issue.TheVariants.{Sound, Short, Repeated, Crossing}
 use Rattle.box_pairs.specs.declared.pairs.Pair.{Pair}
