@@ -142,8 +142,8 @@ fn answer(frame: AcceptedFrame, out: &mut [u8]) -> usize
     }
 }
 
-// Answers a refusal, or the count of the answer's bytes. A refusal leaves the output as it was; an answer stands at its front, and what lies
-// past it stays.
+// Answers a refusal, or the count of the answer's bytes. A refusal leaves the output as it was; an answer stands at its front, and what
+// lies past it stays.
 pub fn frame(frame: &[u8], out: &mut [u8]) -> Result<usize, FrameRefusal>
     ensures answer { result ≡ frame_call_answer frame.now out.old }
     ensures lent { out.new ≡ frame_call_output frame.now out.old }

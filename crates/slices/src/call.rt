@@ -55,7 +55,7 @@ fn lent_rings<'a>(coords: &'a [f64], lengths: &'a [u32]) -> Result<LentRings<'a>
 
 // Refusals 21 and 22, of rings that fit; if there is none, for how many coordinates, and origins, 22 asks room in the outputs: by the
 // lengths of the scratch slice, that of the origins, the order slice, the output, the second length slice and the output of the origins.
-#[tactic(auto, unfolding(crate::specs::SliceCall::check_room, crate::specs::SliceCall::slice_call_room, crate::specs::SliceCall::slice_call_origin_room))]
+#[tactic(auto, unfolding(crate::specs::SliceCall::check_room, crate::specs::SliceCall::slice_call_origin_room))]
 fn check_room(
     rings: LentRings,
     scratch: usize,

@@ -16,6 +16,17 @@ overflow_mul-asked c = omega (
   c.room_of-room.ensures.whole_room,
 )
 
+pub returns-then-out-asked : goal.returns-then-out-asked
+unfolding check_room slice_call_room slice_call_origin_room
+returns-then-out-asked c = let room = c.room_of-room.ensures in rw (
+  ← room.largest-room,
+  ← room.whole_room,
+  le-ltb _ _ c.if-scratch-room.false,
+  le-ltb _ _ c.if-origin_scratch-room.false,
+  le-ltb _ _ c.if-order-room.false,
+  lt-ltb _ _ c.if-out-asked.true,
+)
+
 pub returns-then-out_lengths-rings : goal.returns-then-out_lengths-rings
 unfolding check_room slice_call_room slice_call_origin_room
 returns-then-out_lengths-rings c = let room = c.room_of-room.ensures in
@@ -28,6 +39,21 @@ returns-then-out_lengths-rings c = let room = c.room_of-room.ensures in
       le-ltb _ _ c.if-out-asked.false,
       length-closed a.rings.lengths.now a.rings.coords.now,
       lt-ltb _ _ c.if-out_lengths-rings.true,
+    )
+
+pub returns-then-out_origins-asked : goal.returns-then-out_origins-asked
+unfolding check_room slice_call_room slice_call_origin_room
+returns-then-out_origins-asked c = let room = c.room_of-room.ensures in
+    let a = c.args in rw (
+      ← room.largest-room,
+      ← room.whole_room,
+      le-ltb _ _ c.if-scratch-room.false,
+      le-ltb _ _ c.if-origin_scratch-room.false,
+      le-ltb _ _ c.if-order-room.false,
+      le-ltb _ _ c.if-out-asked.false,
+      length-closed a.rings.lengths.now a.rings.coords.now,
+      le-ltb _ _ c.if-out_lengths-rings.false,
+      lt-ltb _ _ c.if-out_origins-asked.true,
     )
 
 pub returns : goal.returns
