@@ -1,16 +1,16 @@
 -- The edges of the ring at the front of a slice: the sweep's law holds of their crossings, by their lowest x in the total order. Assumes
 -- nothing.
 use mathlib.Core.Path.{◌≡◌, refl, sym, ap, ap₂, subst, ◌∙◌}
-use mathlib.Core.Bool.{Bool, true, false, cond, ◌&&◌, and-false, true≢false}
+use mathlib.Core.Bool.{Bool, true, false, cond, ◌&&◌, and-false}
 use mathlib.Mathlib.Data.Bool.Basic.{eq-false_of_not-eq-true}
 use mathlib.Core.List.{List}
-use Prim.Native.Nat.{ℕ, ◌+◌, ◌*◌, ◌-◌, ◌≤◌, ◌<◌}
+use Prim.Native.Nat.{ℕ, ◌+◌, ◌*◌, ◌/◌, ◌-◌, ◌≤◌, ◌<◌}
 use native.Mathlib.Omega.{arith}
 use lib.Dec.{T, ltb}
 use borrow.Author.Tests.{lt-ltb, le-ltb, not-false}
 use lib.Ieee.{Float, nan, binary64, fits, is_nan, lt}
 use lib.ListN.{length, get_or, set, drop, length-set}
-use lib.Seq.{get_or-set_same, get_or-set_other, drop-set-lt, drop-drop, get_or-take}
+use lib.Seq.{take-length, get_or-set_same, get_or-set_other, drop-set-lt, drop-drop, get_or-take}
 use native.Mathlib.Decide.{ℕ_discrete}
 use Rattle.binary64.specs.Compare.{minimum, maximum}
 use Rattle.binary64.specs.Internal.{key}
@@ -20,11 +20,11 @@ use Rattle.binary64.proofs.FloatOrder.{lt-not-above}
 use Rattle.tile.specs.declared.Coord.{Coord}
 use Rattle.tile.specs.Internal.{coord_at}
 use Rattle.tile.specs.Ring.{coords}
-use Rattle.tile.proofs.Rings.{front_at, length_front}
+use Rattle.tile.proofs.Rings.{front_at, length_front, coords-take, count-coords}
 use Rattle.box_pairs.specs.declared.pairs.Pair.{Pair}
 use Rattle.std.specs.Prelude.{Option, Some, None}
 use Rattle.box_pairs.specs.Cross.{cross}
-use Rattle.box_pairs.specs.Internal.{key_at, Kept, Sorted, front, edges_at, may_meet_in_y, low_x, high_x, Noted, Swept, is_scanned, ScannedOrSwept}
+use Rattle.box_pairs.specs.Internal.{key_at, Kept, Sorted, front, edges_at, may_meet_in_y, low_x, high_x, Noted, Swept}
 use Rattle.box_pairs.specs.Internal.{Unused, pair_number, lesser, PairBelow}
 use Rattle.box_pairs.specs.Pairs.{vertex_at, edges_cross, first_from, first_pair}
 use Rattle.box_pairs.specs.Internal.{any_pair, self_intersecting}
@@ -206,29 +206,15 @@ pair_below n r h = go (first_from (edges_cross r) 0 (length r - 1)) (first_from_
     go None f = tt
     go (Some x) f = (omega (arith, f.1, f.2), omega (arith, f.2))
 
--- ---- a ring of no coordinate
+-- ---- a ring that is a whole slice
 
-pub first-none : (s : List Float) → first_pair (front s 0) ≡ None
+whole_front : (s : List Float) → front s (length s / 2) ≡ coords s
+whole_front s = coords-take (length s / 2) s ∙ rw (← count-coords s) (take-length (coords s))
+
+pub front-none : (s : List Float) → length s / 2 ≡ 0 → first_pair (coords s) ≡ None
 unfolding first_pair first_from coords
-first-none s = refl
+front-none s e = rw (← whole_front s, e)
 
--- ---- scan or sweep, by the test that decides it
-
-module _ (edges : ℕ) (r : List Coord) (b : Bool) (e : b ≡ is_scanned edges) where
-  pub after-scan : (w : List Float) (o : List ℕ) → b ≡ true → ScannedOrSwept edges r w o w o
-  after-scan w o t = record { scanned = λ _. (refl, refl); swept = λ f. absurd (true≢false (sym t ∙ e ∙ f)) }
-
-  pub after_sweep : (w w' : List Float) (o o' : List ℕ) → b ≡ false → Swept edges r w' o' → ScannedOrSwept edges r w o w' o'
-  after_sweep w w' o o' f s = record { scanned = λ t. absurd (true≢false (sym t ∙ sym e ∙ f)); swept = λ _. s }
-
--- a ring of no coordinate has no edge, and nothing is written for it
-pub after_none : (n : ℕ) (r : List Coord) (w : List Float) (o : List ℕ) → n ≡ 0 → ScannedOrSwept (n - 1) r w o w o
-after_none n r w o e = rw e (after-scan 0 r true refl w o refl)
-
--- what `first_edge_pair` says of a ring's edges, of which there is one less than of its n coordinates
-abbrev pub ByEdges : (m edges : ℕ) (s w w' : List Float) (o o' : List ℕ) (x : Option Pair) → Type 0
-ByEdges m edges s w w' o o' x = (x ≡ first_pair (front s m)) × (Unused m w o w' o' × ScannedOrSwept edges (front s m) w o w' o')
-
-pub by_edges : (n : ℕ) (s w w' : List Float) (o o' : List ℕ) (x : Option Pair) → (n ≡ 0 → ⊥)
-    → ByEdges (n - 1 + 1) (n - 1) s w w' o o' x → ByEdges n (n - 1) s w w' o o' x
-by_edges n s w w' o o' x h p = let q : n - 1 + 1 ≡ n = omega arith in subst (λ (m : ℕ). ByEdges m (n - 1) s w w' o o' x) q p
+-- of its edges there is one less than of its coordinates
+pub edges_whole : (s : List Float) → (length s / 2 ≡ 0 → ⊥) → front s (length s / 2 - 1 + 1) ≡ coords s
+edges_whole s h = let q : length s / 2 - 1 + 1 ≡ length s / 2 = omega arith in rw q (whole_front s)

@@ -2,7 +2,7 @@
 use mathlib.Core.Path.{◌≡◌, refl, sym, ap, ◌∙◌}
 use mathlib.Core.Bool.{Bool, true, false, not, ◌||◌, ◌&&◌, cond, and-false, true≢false}
 use mathlib.Core.List.{List, [], ◌∷◌}
-use Prim.Native.Nat.{ℕ, suc, ◌+◌, ◌*◌, ◌≤◌, ◌<◌}
+use Prim.Native.Nat.{ℕ, suc, ◌+◌, ◌/◌, ◌≤◌, ◌<◌}
 use native.Mathlib.Numerals.{add-one}
 use native.Mathlib.Omega.{arith}
 use lib.ListN.{length, get_or, drop, length-drop}
@@ -17,12 +17,13 @@ use Rattle.binary64.proofs.FloatOrder.{sub_nan}
 use Rattle.tile.specs.declared.Coord.{Coord}
 use Rattle.tile.specs.Internal.{coord_at}
 use Rattle.tile.specs.Ring.{same}
-use Rattle.tile.proofs.Rings.{front_at, length_front}
+use Rattle.tile.specs.Ring.{coords}
+use Rattle.tile.proofs.Rings.{coords-at, count-coords}
 use Rattle.box_pairs.specs.declared.Issue.TheVariants.{Sound, Short}
 use Rattle.box_pairs.specs.declared.pairs.Pair.{Pair}
 use Rattle.std.specs.Prelude.{Option, Some, None}
 use Rattle.box_pairs.specs.Cross.{degenerate}
-use Rattle.box_pairs.specs.Internal.{front, PairBelow, IssueBelow}
+use Rattle.box_pairs.specs.Internal.{PairBelow, IssueBelow}
 use Rattle.box_pairs.specs.Internal.{repeated, self_intersecting}
 use Rattle.box_pairs.specs.Pairs.{first_pair}
 use Rattle.box_pairs.specs.Issue.{repeated_from, first_repeated, crossing_at, crossing_of, repeated_or, issue_of, has_issue}
@@ -114,27 +115,27 @@ no_place (Some k) e = absurd (true≢false e)
 pub first-none : (l : List Coord) → repeated l ≡ false → first_repeated l ≡ None
 first-none l e = no_place (first_repeated l) (repeated_first l ∙ e)
 
-module _ (s : List Float) (n : ℕ) (room : 2 * n ≤ length s) where
-  pub repeated-next : (k : ℕ) → k + 2 < n
-      → repeated_from k (drop k (front s n)) ≡ cond (degenerate (coord_at s k) (coord_at s (k + 1))) (Some k)
-      (repeated_from (k + 1) (drop (k + 1) (front s n)))
+module _ (s : List Float) where
+  pub repeated-next : (k : ℕ) → k + 2 < length s / 2
+      → repeated_from k (drop k (coords s)) ≡ cond (degenerate (coord_at s k) (coord_at s (k + 1))) (Some k)
+      (repeated_from (k + 1) (drop (k + 1) (coords s)))
   repeated-next k l =
       let z : Coord = record { x = nan; y = nan } in
-      one_more_place k (front s n) k z (omega (arith, length_front s n room)) ∙
-      rw (front_at s n k z room (omega arith), front_at s n (k + 1) z room (omega arith))
+      one_more_place k (coords s) k z (omega (arith, count-coords s)) ∙
+      rw (coords-at k s z (omega arith), coords-at (k + 1) s z (omega arith))
 
-  pub repeated_end : (k : ℕ) → n ≤ k + 2 → repeated_from k (drop k (front s n)) ≡ None
-  repeated_end k l = few-place k (drop k (front s n)) (omega (arith, length-drop k (front s n), length_front s n room))
+  pub repeated_end : (k : ℕ) → length s / 2 ≤ k + 2 → repeated_from k (drop k (coords s)) ≡ None
+  repeated_end k l = few-place k (drop k (coords s)) (omega (arith, length-drop k (coords s), count-coords s))
 
   -- ---- the cases
 
-  pub issue_short : (b : Bool) → n < 4 → issue_of b (front s n) ≡ Short
+  pub issue_short : (b : Bool) → length s / 2 < 4 → issue_of b (coords s) ≡ Short
   unfolding issue_of
-  issue_short b l = rw (length_front s n room, lt-ltb n 4 l)
+  issue_short b l = rw (count-coords s, lt-ltb (length s / 2) 4 l)
 
-  pub issue_long : (b : Bool) → 4 ≤ n → issue_of b (front s n) ≡ repeated_or (first_repeated (front s n)) (crossing_of b (front s n))
+  pub issue_long : (b : Bool) → 4 ≤ length s / 2 → issue_of b (coords s) ≡ repeated_or (first_repeated (coords s)) (crossing_of b (coords s))
   unfolding issue_of
-  issue_long b l = rw (length_front s n room, le-ltb n 4 l)
+  issue_long b l = rw (count-coords s, le-ltb (length s / 2) 4 l)
 
 -- ---- the verdict, in the words of document 01
 

@@ -1,8 +1,9 @@
 // Which two edges of a ring cross first, by the lower and then by the higher edge number: all pairs for a short ring, and for a long one a
 // sweep over the edges by their lowest x, which is walked on for the least pair only where it comes upon a crossing.
-ghost use Rattle.std.specs.Prelude.{◌≡◌, ◌+◌, ◌*◌, ◌-◌, ◌<◌, ◌≤◌, ◌^◌, length, is_some, IfSome, unwrap_or};
+ghost use Rattle.std.specs.Prelude.{◌≡◌, ◌+◌, ◌/◌, ◌-◌, ◌<◌, ◌≤◌, ◌^◌, length, is_some, IfSome, unwrap_or};
+ghost use Rattle.tile.specs.Ring.{coords};
 ghost use Rattle.box_pairs.specs.Internal as Internal;
-ghost use Rattle.box_pairs.specs.Internal.{front, SortRoom, Swept, IssueRoom, Unused};
+ghost use Rattle.box_pairs.specs.Internal.{SortRoom, Swept, Unused};
 ghost use Rattle.box_pairs.specs.Edges.{ring_of};
 ghost use Rattle.box_pairs.specs.Pairs.{edges_cross, first_pair};
 
@@ -211,14 +212,15 @@ fn first_edge_pair(edges: &Edges, work: &mut [f64], order: &mut [u32]) -> Option
     sweep_pairs(edges, work, order)
 }
 
-// The first two edges of the ring of n coordinates that cross.
-pub fn first_pair(ring: &[f64], n: usize, work: &mut [f64], order: &mut [u32]) -> Option<Pair>
-    requires { IssueRoom n ring.now work.old order.old }
-    ensures value { result ≡ first_pair (front ring.now n) }
-    ensures unused { Unused n work.old order.old work.new order.new }
-    ensures scanned_or_swept { Internal.ScannedOrSwept (n - 1) (front ring.now n) work.old order.old
+// The first two edges of a ring that cross.
+pub fn first_pair(ring: &[f64], work: &mut [f64], order: &mut [u32]) -> Option<Pair>
+    requires { SortRoom (length ring.now / 2) work.old order.old }
+    ensures value { result ≡ first_pair (coords ring.now) }
+    ensures unused { Unused (length ring.now / 2) work.old order.old work.new order.new }
+    ensures scanned_or_swept { Internal.ScannedOrSwept (length ring.now / 2 - 1) (coords ring.now) work.old order.old
         work.new order.new }
 {
+    let n = ring.len() / 2;
     if n == 0 {
         return None;
     }

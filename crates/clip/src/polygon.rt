@@ -140,11 +140,11 @@ fn closed_issue(
     ensures { result ≡ issue_of assume_simple (Ring.close (Ring.coords (take (2 * n) ring.now))) }
 {
     if is_closed(&ring[..2 * n]) {
-        return find_issue(ring, n, assume_simple, scratch, order);
+        return find_issue(&ring[..2 * n], assume_simple, scratch, order);
     }
     out[..2 * n].copy_from_slice(&ring[..2 * n]);
     let m = close(out, n);
-    find_issue(out, m, assume_simple, scratch, order)
+    find_issue(&out[..2 * m], assume_simple, scratch, order)
 }
 
 // Whether the test for edges along a bound is left out.
@@ -205,7 +205,7 @@ fn route_cut(
         return Route::Nothing;
     }
     let m = close_with_origins(out, out_origins, clipped);
-    let issue = find_issue(out, m, flags.assume_simple, scratch, order);
+    let issue = find_issue(&out[..2 * m], flags.assume_simple, scratch, order);
     judge_cut(out, m, issue, flags, bounds)
 }
 

@@ -16,7 +16,7 @@ use Rattle.tile.specs.Ring.{flat}
 use Rattle.tile.specs.Internal.{Written}
 use Rattle.tile.proofs.Rings.{length-flat, length_front}
 use Rattle.box_pairs.specs.declared.pairs.Pair.{Pair}
-use Rattle.box_pairs.specs.Internal.{front, IssueRoom, PairBelow, IssueBelow}
+use Rattle.box_pairs.specs.Internal.{front, SortRoom, PairBelow, IssueBelow}
 use Rattle.box_pairs.specs.Pairs.{first_pair}
 use Rattle.box_pairs.specs.Issue.{issue_of}
 use Rattle.box_pairs.proofs.Offered.{issue_below, pair_below}
@@ -26,19 +26,12 @@ use Rattle.sutherland_hodgman.specs.Growth.{most_coordinates}
 use Rattle.probe.specs.Edges.{most, has_room, pair_code}
 use Rattle.probe.specs.Passes.{has_pass_room}
 
-pub room_of : (ring work : List Float) (order : List ℕ) → has_room (length ring / 2) work order ≡ true
-    → IssueRoom (length ring / 2) ring work order
+pub room_of : (n : ℕ) (work : List Float) (order : List ℕ) → has_room n work order ≡ true → SortRoom n work order
 unfolding has_room
-room_of ring work order h =
-    let n = length ring / 2 in
+room_of n work order h =
     let a = both (leb n (length work / 2)) (leb n (length order) && ltb n most) h in
     let b = both (leb n (length order)) (ltb n most) a.1 in
-    record {
-      ring-room = omega arith;
-      work_room = omega (arith, leb-true n (length work / 2) a.0);
-      order-room = leb-true n (length order) b.0;
-      small = omega (arith, ltb-true n most b.1);
-    }
+    (omega (arith, leb-true n (length work / 2) a.0), leb-true n (length order) b.0, omega (arith, ltb-true n most b.1))
 
 -- and the positions that are told have the bits that they are written in
 pub few-of : (n : ℕ) (work : List Float) (order : List ℕ) → has_room n work order ≡ true → n < most

@@ -68,7 +68,7 @@ pub extern "C" fn probe_find_issue(
 {
     let n = ring.len() / 2;
     if has_room(n, work, order) {
-        return issue_code(box_pairs::find_issue(ring, n, assume_simple != 0, work, order));
+        return issue_code(box_pairs::find_issue(&ring[..2 * n], assume_simple != 0, work, order));
     }
     u64::MAX
 }

@@ -16,15 +16,15 @@ verdict : (c : After-is_degenerate)
 verdict c = c.is_degenerate.ensures ∙ rw (c.coord_at-p.ensures, c.coord_at-q.ensures)
 
 pub returns-then-is_degenerate : goal.returns-then-is_degenerate
-returns-then-is_degenerate c = let l = c.loop-k in sym (l.invariant.1 ∙ repeated-next c.args.ring.now c.args.n c.requires.0 l.k
+returns-then-is_degenerate c = let l = c.loop-k in sym (l.invariant.1 ∙ repeated-next c.args.ring.now l.k
     (omega (arith, c.loop-k-test.true, c.saturating_sub-k-end.ensures)) ∙ rw (← verdict (goal.at.returns-then-is_degenerate c).After-is_degenerate, c.if-is_degenerate.true))
 
 pub loop-k-preserved : goal.loop-k-preserved
 loop-k-preserved c = let l = c.loop-k in (
   omega (arith, c.loop-k-test.true, c.saturating_sub-k-end.ensures),
-  l.invariant.1 ∙ repeated-next c.args.ring.now c.args.n c.requires.0 l.k
+  l.invariant.1 ∙ repeated-next c.args.ring.now l.k
       (omega (arith, c.loop-k-test.true, c.saturating_sub-k-end.ensures)) ∙ rw (← verdict (goal.at.loop-k-preserved c).After-is_degenerate, c.if-is_degenerate.false),
 )
 
 pub returns : goal.returns
-returns c = let l = c.loop-k in sym (l.invariant.1 ∙ repeated_end c.args.ring.now c.args.n c.requires.0 l.k (omega (arith, c.loop-k-test.false, c.saturating_sub-k-end.ensures)))
+returns c = let l = c.loop-k in sym (l.invariant.1 ∙ repeated_end c.args.ring.now l.k (omega (arith, c.loop-k-test.false, c.saturating_sub-k-end.ensures)))

@@ -21,7 +21,7 @@ sweeps : (c : After-high_x-end)
     (edges_cross (ring_of c.args.edges.now))
 sweeps c =
     edge_sweeps c.args.edges.now.count (ring_of c.args.edges.now) c.args.lows.now c.args.order.now c.requires.swept
-    (λ i. c.shared_slice_known-1.given i)
+    c.type_inv.lows
 
 -- the test that breaks the loop off
 stop-test : (c : After-high_x-end) (q : ℕ)

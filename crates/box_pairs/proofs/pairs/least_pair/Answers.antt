@@ -12,7 +12,7 @@ use Rattle.box_pairs.proofs.pairs.least_pair.Goals as goal
 pub returns : goal.returns
 returns c = let l = c.loop-p in
     let sweeps = edge_sweeps c.args.edges.now.count (ring_of c.args.edges.now) c.args.lows.now c.args.order.now c.requires.swept
-    (λ i. c.shared_slice_known-1.given i) in c.pair_of.ensures
+    c.type_inv.lows in c.pair_of.ensures
     ∙ rows_done (λ i. key (low_x (ring_of c.args.edges.now) i)) c.args.edges.now.count (stops (ring_of c.args.edges.now)) (edges_cross (ring_of c.args.edges.now)) sweeps
     c.args.order.now c.requires.swept.positions c.requires.swept.sorted
     l.p l.best c.args.edges.now.small c.loop-p-test.false l.invariant

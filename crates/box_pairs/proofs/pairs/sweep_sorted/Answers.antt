@@ -22,7 +22,7 @@ sweeps : (c : At-pairs)
     (edges_cross (ring_of c.args.edges.now))
 sweeps c =
     edge_sweeps c.args.edges.now.count (ring_of c.args.edges.now) c.args.lows.now c.args.order.now c.requires.swept
-    (λ i. c.shared_slice_known-1.given i)
+    c.type_inv.lows
 
 -- the verdict on the positions in the slots p and q
 verdict : (c : At-loop-q) (q : ℕ)

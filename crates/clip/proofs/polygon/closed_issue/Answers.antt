@@ -14,12 +14,9 @@ pub find_issue-requires : goal.find_issue-requires
 find_issue-requires c = let a = c.args in
     let p = c.requires in
     let l = lent-count a.n a.ring.now _ _ p.room in
-    let g = le-B (length (close (coords (take (2 * a.n) a.ring.now)))) in record {
-      ring-room = p.room.lent;
-      work_room = omega (arith, p.room.scratch-room);
-      order-room = omega (arith, p.positions);
-      small = omega (arith, p.room.few);
-    }
+    let g = le-B (length (close (coords (take (2 * a.n) a.ring.now)))) in
+    let t = length-take-le (2 * a.n) a.ring.now p.room.lent in
+    (omega (arith, t, p.room.scratch-room), omega (arith, t, p.positions), omega (arith, t, p.room.few))
 
 pub returns-then-is_closed : goal.returns-then-is_closed
 returns-then-is_closed c = let a = c.args in
@@ -54,12 +51,9 @@ find_issue-requires-2 c = let p = c.requires in
     let e = copied_front (2 * n) s c.copy_from_slice.new.self (drop (2 * n) c.args.out.now) p.room.lent c.copy_from_slice.ensures.after in
     let w = c.close-m.ensures in
     let m : c.close-m.result ≡ length (close (coords (take (2 * n) s))) = w.count ∙ rw e in
-    let g = le-B (length (close (coords (take (2 * n) s)))) in record {
-      ring-room = omega (arith, p.room.output-room);
-      work_room = omega (arith, p.room.scratch-room);
-      order-room = omega (arith, p.positions);
-      small = omega (arith, p.room.few);
-    }
+    let g = le-B (length (close (coords (take (2 * n) s)))) in
+    let t = length-take-le (2 * c.close-m.result) c.close-m.new.ring (omega (arith, p.room.output-room)) in
+    (omega (arith, t, p.room.scratch-room), omega (arith, t, p.positions), omega (arith, t, p.room.few))
 
 pub returns : goal.returns
 returns c = let p = c.requires in
@@ -67,3 +61,21 @@ returns c = let p = c.requires in
     let n = c.args.n in
     let e = copied_front (2 * n) s c.copy_from_slice.new.self (drop (2 * n) c.args.out.now) p.room.lent c.copy_from_slice.ensures.after in
     let f = written-front c.close-m.ensures in c.find_issue-2.ensures.value ∙ rw (f, e)
+
+pub slice_bounds-find_issue-end-2 : goal.slice_bounds-find_issue-end-2
+slice_bounds-find_issue-end-2 c = let p = c.requires in
+    let s = c.args.ring.now in
+    let n = c.args.n in
+    let e = copied_front (2 * n) s c.copy_from_slice.new.self (drop (2 * n) c.args.out.now) p.room.lent c.copy_from_slice.ensures.after in
+    let w = c.close-m.ensures in
+    let m : c.close-m.result ≡ length (close (coords (take (2 * n) s))) = w.count ∙ rw e in
+    let g = le-B (length (close (coords (take (2 * n) s)))) in omega (arith, p.room.output-room)
+
+pub slice_bounds-find_issue-end-3 : goal.slice_bounds-find_issue-end-3
+slice_bounds-find_issue-end-3 c = let p = c.requires in
+    let s = c.args.ring.now in
+    let n = c.args.n in
+    let e = copied_front (2 * n) s c.copy_from_slice.new.self (drop (2 * n) c.args.out.now) p.room.lent c.copy_from_slice.ensures.after in
+    let w = c.close-m.ensures in
+    let m : c.close-m.result ≡ length (close (coords (take (2 * n) s))) = w.count ∙ rw e in
+    let g = le-B (length (close (coords (take (2 * n) s)))) in sym (length-take-le (2 * c.close-m.result) c.close-m.new.ring (omega (arith, p.room.output-room)))

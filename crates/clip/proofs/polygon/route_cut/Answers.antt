@@ -1,8 +1,10 @@
 -- `route_cut` meets its contract: nothing is left, or what is left is judged. Assumes nothing.
+use mathlib.Core.Path.{sym}
 use native.Mathlib.Nat.{pos_of_ne-zero}
 use native.Mathlib.Omega.{arith}
 use Prim.Native.Nat.{◌*◌}
 use lib.ListN.{take}
+use lib.Seq.{length-take-le}
 use Rattle.tile.specs.Ring.{coords, close}
 use Rattle.tile.proofs.Rings.{written_stands, written-front}
 use Rattle.sutherland_hodgman.proofs.Offered.{B-le}
@@ -32,12 +34,13 @@ pub find_issue-issue-requires : goal.find_issue-issue-requires
 find_issue-issue-requires c = let k = c.clip_ring-clipped.auto in
     let l = c.close_with_origins-m.auto in
     let f = closed-fits c.args.n c.args.ring.now _ _ c.requires.exterior_room.room c.args.bounds _ _
-    c.clip_ring-clipped.ensures.ring _ _ c.close_with_origins-m.ensures.ring (omega (arith, c.if-clipped-eq0.false)) in record {
-      ring-room = omega (arith, k, l, f, c.requires.exterior_room.room.output-room);
-      work_room = omega (arith, k, f, c.requires.exterior_room.room.scratch-room);
-      order-room = omega (arith, f, c.requires.exterior_room.positions);
-      small = omega (arith, f, B-le _ c.requires.exterior_room.room.few);
-    }
+    c.clip_ring-clipped.ensures.ring _ _ c.close_with_origins-m.ensures.ring (omega (arith, c.if-clipped-eq0.false)) in
+    let t = length-take-le (2 * c.close_with_origins-m.result) c.close_with_origins-m.new.ring
+    (omega (arith, k, l, f, c.requires.exterior_room.room.output-room)) in (
+      omega (arith, t, k, f, c.requires.exterior_room.room.scratch-room),
+      omega (arith, t, f, c.requires.exterior_room.positions),
+      omega (arith, t, f, B-le _ c.requires.exterior_room.room.few),
+    )
 
 pub judge_cut-requires : goal.judge_cut-requires
 judge_cut-requires c = let k = c.clip_ring-clipped.auto in
@@ -79,3 +82,20 @@ returns-clause-origins c = let s = c.args.ring.now in
     let w = closed-written c.args.n s _ _ c.requires.exterior_room.room c.args.bounds _ _ cut.ring _ _ e.ring in
     let is = c.judge_cut.ensures in judged_origins c.args.flags c.args.bounds ring _ _ _ _ is _
     (closed-origins c.args.n s _ _ c.requires.exterior_room.room c.args.bounds _ _ cut.ring _ _ e.ring _ _ cut.origins e.origins)
+
+pub overflow_mul-m : goal.overflow_mul-m
+overflow_mul-m c =
+    let f = closed-fits c.args.n c.args.ring.now _ _ c.requires.exterior_room.room c.args.bounds _ _
+    c.clip_ring-clipped.ensures.ring _ _ c.close_with_origins-m.ensures.ring (omega (arith, c.if-clipped-eq0.false)) in record { fits = omega (arith, f, B-le _ c.requires.exterior_room.room.few) }
+
+pub slice_bounds-find_issue-end : goal.slice_bounds-find_issue-end
+slice_bounds-find_issue-end c = let k = c.clip_ring-clipped.auto in
+    let l = c.close_with_origins-m.auto in
+    let f = closed-fits c.args.n c.args.ring.now _ _ c.requires.exterior_room.room c.args.bounds _ _
+    c.clip_ring-clipped.ensures.ring _ _ c.close_with_origins-m.ensures.ring (omega (arith, c.if-clipped-eq0.false)) in omega (arith, k, l, f, c.requires.exterior_room.room.output-room)
+
+pub slice_bounds-find_issue-end-2 : goal.slice_bounds-find_issue-end-2
+slice_bounds-find_issue-end-2 c = let k = c.clip_ring-clipped.auto in
+    let l = c.close_with_origins-m.auto in
+    let f = closed-fits c.args.n c.args.ring.now _ _ c.requires.exterior_room.room c.args.bounds _ _
+    c.clip_ring-clipped.ensures.ring _ _ c.close_with_origins-m.ensures.ring (omega (arith, c.if-clipped-eq0.false)) in sym (length-take-le (2 * c.close_with_origins-m.result) c.close_with_origins-m.new.ring (omega (arith, k, l, f, c.requires.exterior_room.room.output-room)))

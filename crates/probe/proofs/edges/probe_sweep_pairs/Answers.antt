@@ -15,8 +15,8 @@ returns-then-n-eq0 c = rw (eq-eqb _ _ c.if-n-eq0.true)
 
 pub sweep_pairs-requires : goal.sweep_pairs-requires
 sweep_pairs-requires c = let s = c.args in
-    let room = room_of s.ring.now s.work.now s.order.now (sym c.has_room.ensures ∙ c.if-has_room.true) in
-    one_edge_less (λ n. SortRoom n s.work.now s.order.now) (length s.ring.now / 2) c.if-n-eq0.false (room.work_room, room.order-room, room.small)
+    let room = room_of (length s.ring.now / 2) s.work.now s.order.now (sym c.has_room.ensures ∙ c.if-has_room.true) in
+    one_edge_less (λ n. SortRoom n s.work.now s.order.now) (length s.ring.now / 2) c.if-n-eq0.false room
 
 pub pair_code-requires : goal.pair_code-requires
 pair_code-requires c = let s = c.args in
