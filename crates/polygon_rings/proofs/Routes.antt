@@ -8,23 +8,32 @@ use lib.Ieee.{Float}
 use Rattle.tile.specs.declared.Coord.{Coord}
 use Rattle.tile.specs.declared.TileBounds.{TileBounds}
 use Rattle.rings.specs.Representable.{any_huge_ring}
-use Rattle.rings.specs.Internal.{all_closed}
+use Rattle.rings.specs.declared.rectangle.Rect.TheVariants as Rects
+use Rattle.rings.specs.Rectangle.{rectangle}
+use Rattle.rings.specs.LentRings.{closed_rings}
+use Rattle.rings.proofs.Closing.{all_closed_lem, box_finite}
 use Rattle.clip.specs.declared.polygon.Reason.{Reason}
 use Rattle.clip.specs.Polygon.{dropped, overlay, overlay_or_dropped}
 use Rattle.clip.specs.Origins.{routed_origins}
 use Rattle.polygon_rings.specs.WrittenRings.{numbers_of, lengths_of, origins_of}
-use Rattle.polygon_rings.specs.Internal.{none_placed, LentRingsRoom, PolygonRoom, Filled, FilledOrigins}
+use Rattle.polygon_rings.proofs.Holes.{Rooms}
+use Rattle.polygon_rings.specs.Internal.{none_placed, LentOriginsRoom, PolygonRoom, Filled, FilledOrigins}
 
--- where closing closes every ring, all can be cut
-pub cuttable : (lent : List (List Coord)) (scratch order out lens : ℕ) → PolygonRoom lent scratch order out lens → all_closed lent ≡ true
-    → LentRingsRoom lent scratch out lens none_placed
-cuttable lent scratch order out lens p closes = record {
-  small = p.small;
-  closes = closes;
-  scratch-room = p.scratch-room;
-  output-room = omega (arith, p.output-room);
-  lengths-room = omega (arith, p.lengths-room);
-}
+-- where a box is found closing closes every ring, so that all can be cut
+pub boxed : (ns : List ℕ) (s : List Float) (scratch origin_scratch order out lens out_origins : ℕ) (w l e h : Float)
+    → PolygonRoom (closed_rings ns s) scratch order out lens → LentOriginsRoom (closed_rings ns s) origin_scratch out_origins none_placed
+    → rectangle (closed_rings ns s) ≡ Rects.Box w l e h
+    → Rooms (closed_rings ns s) scratch origin_scratch out lens out_origins none_placed
+boxed ns s scratch origin_scratch order out lens out_origins w l e h p o box = (
+  record {
+    small = p.small;
+    closes = all_closed_lem Rects.Nothing ns s (box_finite _ _ _ _ _ box);
+    scratch-room = p.scratch-room;
+    output-room = omega (arith, p.output-room);
+    lengths-room = omega (arith, p.lengths-room);
+  },
+  o,
+)
 
 -- an overlay, dropped or not, writes nothing
 pub overlay_filled : (b : TileBounds) (rings : List (List Coord)) (reason : Reason) (out : List Float) (lens os : List ℕ)

@@ -5,7 +5,7 @@ use mathlib.Core.List.{List, [], ◌∷◌}
 use Prim.Native.Nat.{ℕ, suc, ◌+◌, ◌*◌, ◌^◌, ◌<◌, ◌≤◌, max}
 use native.Mathlib.Omega.{arith}
 use lib.Ieee.{Float}
-use lib.ListN.{length, get_or, take, drop, drop_of_length-le, length-drop}
+use lib.ListN.{length, get_or, take, drop, length-drop}
 use Rattle.std.specs.List.{sum_by}
 use Rattle.std.proofs.lemmas.List.Recursion.{is_sum_by}
 use Rattle.tile.specs.declared.Coord.{Coord}
@@ -93,10 +93,6 @@ larger_least a b = (omega arith, omega arith)
 
 pub larger-most : (m a b : ℕ) → a ≤ m → b ≤ m → max a b ≤ m
 larger-most m a b ha hb = omega arith
-
-pub rings_end : (lengths : List ℕ) (s : List Float) (k : ℕ) → length lengths ≤ k → closed_rings (drop k lengths) s ≡ []
-unfolding closed_rings
-rings_end lengths s k h = rw (drop_of_length-le lengths h)
 
 -- ---- how much it can be
 

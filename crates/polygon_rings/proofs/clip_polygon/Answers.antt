@@ -1,9 +1,7 @@
 -- `clip_polygon` meets its contract: each arm knows the rectangle, and one of four numbers has closed rings. Assumes nothing.
 use mathlib.Core.Path.{refl, sym, ◌∙◌}
-use Rattle.rings.specs.declared.rectangle.Rect.TheVariants as Rects
-use Rattle.rings.proofs.Closing.{all_closed_lem, box_finite}
 use Rattle.clip.specs.Polygon.{route, route_rect}
-use Rattle.polygon_rings.proofs.Routes.{cuttable}
+use Rattle.polygon_rings.proofs.Routes.{boxed}
 use Rattle.polygon_rings.proofs.Holes.{exterior-here, some-lengths, first_room, first_positions, same-room}
 use Rattle.polygon_rings.proofs.clip_polygon.Goals as goal
 
@@ -14,38 +12,34 @@ pub route_exterior-route-requires-clause-exterior_room : goal.route_exterior-rou
 route_exterior-route-requires-clause-exterior_room c = let s = c.args.rings.coords.now in
     let ns = c.args.rings.lengths.now in
     let p = c.requires in
-    let r = cuttable _ _ _ _ _ p.polygon_room (all_closed_lem Rects.Nothing ns s (box_finite _ _ _ _ _
-    (sym c.polygon_rect_all_rings-rect.ensures ∙ c.in-Box.is))) in
-    let first = first_room ns s p.polygon_room.some c.args.rings.lent _ _ _ _ _ (r, p.lent_origins_room) in record { room = first.0; positions = first_positions ns s p.polygon_room.some _ p.polygon_room.positions }
+    let r = boxed ns s _ _ _ _ _ _ _ _ _ _ p.polygon_room p.lent_origins_room (sym c.polygon_rect_all_rings-rect.ensures ∙ c.in-Box.is) in
+    let first = first_room ns s p.polygon_room.some c.args.rings.lent _ _ _ _ _ r in record { room = first.0; positions = first_positions ns s p.polygon_room.some _ p.polygon_room.positions }
 
 pub route_exterior-route-requires-clause-ring_origin_room : goal.route_exterior-route-requires-clause-ring_origin_room
 route_exterior-route-requires-clause-ring_origin_room c = let s = c.args.rings.coords.now in
     let ns = c.args.rings.lengths.now in
     let p = c.requires in
-    let r = cuttable _ _ _ _ _ p.polygon_room (all_closed_lem Rects.Nothing ns s (box_finite _ _ _ _ _
-    (sym c.polygon_rect_all_rings-rect.ensures ∙ c.in-Box.is))) in
-    let first = first_room ns s p.polygon_room.some c.args.rings.lent _ _ _ _ _ (r, p.lent_origins_room) in first.1
+    let r = boxed ns s _ _ _ _ _ _ _ _ _ _ p.polygon_room p.lent_origins_room (sym c.polygon_rect_all_rings-rect.ensures ∙ c.in-Box.is) in
+    let first = first_room ns s p.polygon_room.some c.args.rings.lent _ _ _ _ _ r in first.1
 
 pub answer_route-requires-clause-lent_route_room : goal.answer_route-requires-clause-lent_route_room
 answer_route-requires-clause-lent_route_room c = let s = c.args.rings.coords.now in
     let ns = c.args.rings.lengths.now in
     let p = c.requires in
-    let r = cuttable _ _ _ _ _ p.polygon_room (all_closed_lem Rects.Nothing ns s (box_finite _ _ _ _ _
-    (sym c.polygon_rect_all_rings-rect.ensures ∙ c.in-Box.is))) in
+    let r = boxed ns s _ _ _ _ _ _ _ _ _ _ p.polygon_room p.lent_origins_room (sym c.polygon_rect_all_rings-rect.ensures ∙ c.in-Box.is) in
     let route = c.route_exterior-route in
     let kept = c.route_exterior-route.auto.scratch in
-    let rooms = same-room kept c.route_exterior-route.auto.origin_scratch c.route_exterior-route.auto.out refl c.route_exterior-route.auto.out_origins (r, p.lent_origins_room) in
+    let rooms = same-room kept c.route_exterior-route.auto.origin_scratch c.route_exterior-route.auto.out refl c.route_exterior-route.auto.out_origins r in
     let e = exterior-here ns s p.polygon_room.some in record { rings = rooms.0; some = p.polygon_room.some; stands = rw e route.ensures.cut }
 
 pub answer_route-requires-clause-lent_route_origin_room : goal.answer_route-requires-clause-lent_route_origin_room
 answer_route-requires-clause-lent_route_origin_room c = let s = c.args.rings.coords.now in
     let ns = c.args.rings.lengths.now in
     let p = c.requires in
-    let r = cuttable _ _ _ _ _ p.polygon_room (all_closed_lem Rects.Nothing ns s (box_finite _ _ _ _ _
-    (sym c.polygon_rect_all_rings-rect.ensures ∙ c.in-Box.is))) in
+    let r = boxed ns s _ _ _ _ _ _ _ _ _ _ p.polygon_room p.lent_origins_room (sym c.polygon_rect_all_rings-rect.ensures ∙ c.in-Box.is) in
     let route = c.route_exterior-route in
     let kept = c.route_exterior-route.auto.scratch in
-    let rooms = same-room kept c.route_exterior-route.auto.origin_scratch c.route_exterior-route.auto.out refl c.route_exterior-route.auto.out_origins (r, p.lent_origins_room) in
+    let rooms = same-room kept c.route_exterior-route.auto.origin_scratch c.route_exterior-route.auto.out refl c.route_exterior-route.auto.out_origins r in
     let e = exterior-here ns s p.polygon_room.some in record { rings = rooms.1; stands = rw e route.ensures.origins }
 
 pub returns-in-Nothing-clause-written : goal.returns-in-Nothing-clause-written
