@@ -38,6 +38,7 @@ struct RingCursor {
 
 // Writes the cut ring of n coordinates at the front of a slice, whose origins stand at the front of another; one without coordinates is
 // left out.
+// Stays with a count beside: clip_hole leaves a ring and its origins at the fronts of longer slices, and one count is that of both.
 fn put_cut_ring(
     ring: &[f64],
     origins: &[u16],
@@ -91,7 +92,7 @@ fn put_holes(
             n,
         };
         let next = decode_ring(from, ring);
-        let m = clip_hole(ring, n, bounds, a, a_origins, b, b_origins);
+        let m = clip_hole(&ring[..2 * n], bounds, a, a_origins, b, b_origins);
         written = put_cut_ring(b, b_origins, m, out, written);
         at = next;
     }
@@ -240,7 +241,15 @@ pub fn route_part(
     };
     decode_ring(from, ring);
     let route = route_exterior(
-        ring, n, flags, rect, bounds, a, a_origins, b, b_origins, order,
+        &ring[..2 * n],
+        flags,
+        rect,
+        bounds,
+        a,
+        a_origins,
+        b,
+        b_origins,
+        order,
     );
     answer_route(
         part, index, route, bounds, ring, a, a_origins, b, b_origins, out, to,
