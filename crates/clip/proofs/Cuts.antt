@@ -2,12 +2,13 @@
 use mathlib.Core.Path.{◌≡◌, refl, sym, ◌∙◌}
 use mathlib.Core.Bool.{Bool, true, false, cond}
 use mathlib.Core.List.{List, [], ◌∷◌, ◌++◌}
-use Prim.Native.Nat.{ℕ, suc, ◌*◌, ◌<◌, ◌≤◌}
+use Prim.Native.Nat.{ℕ, suc, ◌*◌, ◌/◌, ◌<◌, ◌≤◌}
 use native.Mathlib.Omega.{arith}
 use borrow.Author.Tests.{lt-ltb}
 use lib.Ieee.{Float}
 use lib.ListN.{length, take, drop}
 use lib.Seq.{take_at, length-take-le}
+use Rattle.std.proofs.lemmas.List.{take_all}
 use Rattle.std.specs.Prelude.{Option, None, Some}
 use Rattle.binary64.specs.Lists.{Every}
 use Rattle.tile.specs.declared.Coord.{Coord}
@@ -15,7 +16,7 @@ use Rattle.tile.specs.declared.TileBounds.{TileBounds}
 use Rattle.tile.specs.declared.Edge.{Edge}
 use Rattle.tile.specs.Ring.{coords, close}
 use Rattle.tile.specs.Internal.{Stands, Written}
-use Rattle.tile.proofs.Rings.{length_front, stands-front, length-close, close-most}
+use Rattle.tile.proofs.Rings.{stands-front, length-close, close-most, coords-take, count-coords}
 use Rattle.box_pairs.specs.declared.Issue.{Issue}
 use Rattle.box_pairs.specs.Issue.{has_issue, issue_of}
 use Rattle.sutherland_hodgman.specs.Growth.{B, most_coordinates}
@@ -86,60 +87,67 @@ copied_front k from front rest h e = rw e (take_at (take k from) rest k (length-
 
 -- ---- a lent ring, closed and cut
 
-module _ (n : ℕ) (s : List Float) (a b : ℕ) (room : RingRoom n s a b) where
-  pub lent-count : n ≤ length (close (coords (take (2 * n) s)))
-  lent-count = omega (arith, length_front s n room.lent, length-close (coords (take (2 * n) s)))
+-- the coordinates of a slice are those of its front that leaves an odd last number out
+pub whole_ring : (s : List Float) → coords (take (2 * (length s / 2)) s) ≡ coords s
+whole_ring s = coords-take (length s / 2) s ∙ take_all (length s / 2) (coords s) (omega (arith, count-coords s))
 
-  pub output-lent : 2 * n ≤ b
+module _ (s : List Float) (a b : ℕ) (room : RingRoom (coords s) a b) where
+  pub lent-count : length s / 2 ≤ length (close (coords s))
+  lent-count = omega (arith, count-coords s, length-close (coords s))
+
+  pub output-lent : 2 * (length s / 2) ≤ b
   output-lent =
-      let g = le-B (length (close (coords (take (2 * n) s)))) in omega (arith, lent-count, room.output-room)
+      let g = le-B (length (close (coords s))) in omega (arith, lent-count, room.output-room)
 
-  pub cutter_room : CutterRoom n (length s) a b
+  pub cutter_room : CutterRoom (length s / 2) (length s) a b
   cutter_room =
-      let m = B-mono n (length (close (coords (take (2 * n) s)))) lent-count in record
-      { vertices = room.lent; scratch-room = omega (arith, room.scratch-room); output-room = omega (arith, room.output-room) }
+      let m = B-mono (length s / 2) (length (close (coords s))) lent-count in record
+      { vertices = omega arith; scratch-room = omega (arith, room.scratch-room); output-room = omega (arith, room.output-room) }
 
-  pub origin-room : (c d : ℕ) → RingOriginRoom n s c d → OriginRoom n c d
+  pub origin-room : (c d : ℕ) → RingOriginRoom (coords s) c d → OriginRoom (length s / 2) c d
   origin-room c d o =
-      let m = B-mono n (length (close (coords (take (2 * n) s)))) lent-count in
+      let m = B-mono (length s / 2) (length (close (coords s))) lent-count in
       record {
         positions = omega (arith, lent-count, room.few);
         scratch-room = omega (arith, o.scratch-room);
         output-room = omega (arith, o.output-room);
       }
 
-  module _ (bounds : TileBounds) (k : ℕ) (after : List Float) (c : RingCut bounds (coords (take (2 * n) s)) k after) where
-    pub cut-ring : coords (take (2 * k) after) ≡ clip_ring bounds (close (coords (take (2 * n) s)))
-    cut-ring = stands-front c.stands ∙ sym (clip_close bounds (coords (take (2 * n) s)) room.closes)
+  module _ (bounds : TileBounds) (k : ℕ) (after : List Float) (cut : RingCut bounds (coords (take (2 * (length s / 2)) s)) k after) where
+    c : RingCut bounds (coords s) k after
+    c = rw (whole_ring s) at cut
 
-    pub cut-count : k ≡ length (clip_ring bounds (close (coords (take (2 * n) s))))
-    cut-count = c.stands.count ∙ rw (clip_close bounds (coords (take (2 * n) s)) room.closes)
+    pub cut-ring : coords (take (2 * k) after) ≡ clip_ring bounds (close (coords s))
+    cut-ring = stands-front c.stands ∙ sym (clip_close bounds (coords s) room.closes)
 
-    pub cut_fits : 0 < k → suc k ≤ B (length (close (coords (take (2 * n) s))))
-    cut_fits h = let m = clip_fits bounds (close (coords (take (2 * n) s))) (omega (arith, cut-count)) in omega (arith, cut-count)
+    pub cut-count : k ≡ length (clip_ring bounds (close (coords s)))
+    cut-count = c.stands.count ∙ rw (clip_close bounds (coords s) room.closes)
+
+    pub cut_fits : 0 < k → suc k ≤ B (length (close (coords s)))
+    cut_fits h = let m = clip_fits bounds (close (coords s)) (omega (arith, cut-count)) in omega (arith, cut-count)
 
     -- closed by the domain rule
     module _ (r : ℕ) (after' : List Float) (w : Written (close (coords (take (2 * k) after))) after r after') where
-      pub closed-written : Written (close (clip_ring bounds (close (coords (take (2 * n) s))))) after r after'
+      pub closed-written : Written (close (clip_ring bounds (close (coords s)))) after r after'
       closed-written = rw cut-ring at w
 
-      pub closed-fits : 0 < k → r ≤ B (length (close (coords (take (2 * n) s))))
+      pub closed-fits : 0 < k → r ≤ B (length (close (coords s)))
       closed-fits h =
-          omega (arith, closed-written.count, cut-count, cut_fits h, close-most (clip_ring bounds (close (coords (take (2 * n) s)))))
+          omega (arith, closed-written.count, cut-count, cut_fits h, close-most (clip_ring bounds (close (coords s))))
 
       -- the origins, likewise
-      pub closed-origins : (os os' : List ℕ) → take k os ≡ clip_origins bounds (coords (take (2 * n) s))
+      pub closed-origins : (os os' : List ℕ) → take k os ≡ clip_origins bounds (coords (take (2 * (length s / 2)) s))
           → os' ≡ close_origins (coords (take (2 * k) after)) (take k os) ++ drop r os
-          → take r os' ≡ exterior_origins bounds (close (coords (take (2 * n) s)))
+          → take r os' ≡ exterior_origins bounds (close (coords s))
       closed-origins os os' e h =
-          let ring = close (coords (take (2 * n) s)) in
-          let o : take k os ≡ clip_origins bounds ring = e ∙ sym (origins-close bounds (coords (take (2 * n) s)) room.closes) in
+          let ring = close (coords s) in
+          let o : take k os ≡ clip_origins bounds ring = (rw (whole_ring s) at e) ∙ sym (origins-close bounds (coords s) room.closes) in
           let q : os' ≡ exterior_origins bounds ring ++ drop r os = rw (cut-ring, o) at h in
           let m : length (exterior_origins bounds ring) ≡ r = exterior-origins-length bounds ring ∙ sym closed-written.count in
           rw q (take_at (exterior_origins bounds ring) (drop r os) r m)
 
       pub closed_some : 0 < k → 0 < r
-      closed_some h = omega (arith, closed-written.count, cut-count, length-close (clip_ring bounds (close (coords (take (2 * n) s)))))
+      closed_some h = omega (arith, closed-written.count, cut-count, length-close (clip_ring bounds (close (coords s))))
 
 -- ---- a cut exterior, judged
 

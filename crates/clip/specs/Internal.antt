@@ -3,7 +3,7 @@
 use Rattle.std.specs.Prelude.{◌≡◌, true, List, ℕ, ◌*◌, ◌<◌, ◌≤◌, Float, length, take}
 use Rattle.tile.specs.declared.Coord.{Coord}
 use Rattle.tile.specs.declared.TileBounds.{TileBounds}
-use Rattle.tile.specs.Ring.{coords, closed, close}
+use Rattle.tile.specs.Ring.{closed, close}
 use Rattle.tile.specs.Internal.{Stands}
 use Rattle.sutherland_hodgman.specs.Growth.{B, most_coordinates}
 use Rattle.clip.specs.declared.polygon.Route.{Route}
@@ -11,24 +11,23 @@ use Rattle.clip.specs.declared.polygon.Route.TheVariants as Routes
 use Rattle.clip.specs.Polygon.{cut_exterior}
 use Rattle.clip.specs.Origins.{exterior_origins}
 
--- A ring of n coordinates at the front of a slice can be closed and cut with a scratch slice and an output of these lengths. Its first
--- coordinate holds no NaN, so that closing closes it.
-pub record RingRoom (n : ℕ) (ring : List Float) (scratch out : ℕ) : Type 0 where
-  pub lent : 2 * n ≤ length ring
-  pub few : length (close (coords (take (2 * n) ring))) ≤ most_coordinates
-  pub closes : closed (close (coords (take (2 * n) ring))) ≡ true
-  pub scratch-room : 2 * B (length (close (coords (take (2 * n) ring)))) ≤ scratch
-  pub output-room : 2 * B (length (close (coords (take (2 * n) ring)))) ≤ out
+-- A ring can be closed and cut with a scratch slice and an output of these lengths. Its first coordinate holds no NaN, so that closing
+-- closes it.
+pub record RingRoom (ring : List Coord) (scratch out : ℕ) : Type 0 where
+  pub few : length (close ring) ≤ most_coordinates
+  pub closes : closed (close ring) ≡ true
+  pub scratch-room : 2 * B (length (close ring)) ≤ scratch
+  pub output-room : 2 * B (length (close ring)) ≤ out
 
 -- the origins of such a ring have room in a scratch slice and an output of these lengths
-pub record RingOriginRoom (n : ℕ) (ring : List Float) (scratch out : ℕ) : Type 0 where
-  pub scratch-room : B (length (close (coords (take (2 * n) ring)))) ≤ scratch
-  pub output-room : B (length (close (coords (take (2 * n) ring)))) ≤ out
+pub record RingOriginRoom (ring : List Coord) (scratch out : ℕ) : Type 0 where
+  pub scratch-room : B (length (close ring)) ≤ scratch
+  pub output-room : B (length (close ring)) ≤ out
 
 -- an exterior is searched for crossings too, for which the sweep takes positions
-pub record ExteriorRoom (n : ℕ) (ring : List Float) (scratch out order : ℕ) : Type 0 where
-  pub room : RingRoom n ring scratch out
-  pub positions : B (length (close (coords (take (2 * n) ring)))) ≤ order
+pub record ExteriorRoom (ring : List Coord) (scratch out order : ℕ) : Type 0 where
+  pub room : RingRoom ring scratch out
+  pub positions : B (length (close ring)) ≤ order
 
 -- where the route is a cut, the cut exterior stands at the front of the slice, and it is not empty
 abbrev pub CutStands : TileBounds → List Coord → Route → List Float → Type 0

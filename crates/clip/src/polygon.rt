@@ -1,6 +1,6 @@
 // The routing of one polygon by its exterior, and the cut of a hole: the source's `clip_polygon` and `clip_polygon_sh`. Rings are lent as
 // x, y numbers, closed or not, and closed here.
-ghost use Rattle.std.specs.Prelude.{◌≡◌, ◌&&◌, ◌*◌, ◌≤◌, length, take};
+ghost use Rattle.std.specs.Prelude.{◌≡◌, ◌&&◌, length, take};
 ghost use Rattle.tile.specs.Ring as Ring;
 ghost use Rattle.tile.specs.Internal as TileInternal;
 ghost use Rattle.box_pairs.specs.Issue.{issue_of};
@@ -127,20 +127,20 @@ impl From<Reason> for ReasonDetail {
     }
 }
 
-// The issue of the ring of n coordinates at the front of a slice, closed. A ring that is not lent closed is closed in the output.
+// The issue of a ring, closed. A ring that is not lent closed is closed in the output.
 fn closed_issue(
     ring: &[f64],
-    n: usize,
     assume_simple: bool,
     scratch: &mut [f64],
     out: &mut [f64],
     order: &mut [u32],
 ) -> Issue
-    requires { Internal.ExteriorRoom n ring.now (length scratch.old) (length out.old) (length order.old) }
-    ensures { result ≡ issue_of assume_simple (Ring.close (Ring.coords (take (2 * n) ring.now))) }
+    requires { Internal.ExteriorRoom (Ring.coords ring.now) (length scratch.old) (length out.old) (length order.old) }
+    ensures { result ≡ issue_of assume_simple (Ring.close (Ring.coords ring.now)) }
 {
-    if is_closed(&ring[..2 * n]) {
-        return find_issue(&ring[..2 * n], assume_simple, scratch, order);
+    let n = ring.len() / 2;
+    if is_closed(ring) {
+        return find_issue(ring, assume_simple, scratch, order);
     }
     out[..2 * n].copy_from_slice(&ring[..2 * n]);
     let m = close(out, n);
@@ -155,36 +155,33 @@ fn skips_bridges(flags: Flags) -> bool
 }
 
 #[tactic(auto, unfolding(crate::specs::Polygon::bridge_unless_skipped))]
-fn bridge_unless_skipped(ring: &[f64], n: usize, flags: Flags, bounds: TileBounds) -> Option<Edge>
-    requires { 2 * n ≤ length ring.now }
-    ensures { result ≡ Polygon.bridge_unless_skipped flags bounds (Ring.coords (take (2 * n) ring.now)) }
+fn bridge_unless_skipped(ring: &[f64], flags: Flags, bounds: TileBounds) -> Option<Edge>
+    ensures { result ≡ Polygon.bridge_unless_skipped flags bounds (Ring.coords ring.now) }
 {
     if skips_bridges(flags) {
         return None;
     }
-    first_bridge(ring, n, bounds)
+    first_bridge(ring, bounds)
 }
 
-// What becomes of a cut exterior of n coordinates, at the front of a slice, that has this issue.
-fn judge_cut(ring: &[f64], n: usize, issue: Issue, flags: Flags, bounds: TileBounds) -> Route
-    requires { 2 * n ≤ length ring.now }
+// What becomes of a cut exterior that has this issue.
+fn judge_cut(ring: &[f64], issue: Issue, flags: Flags, bounds: TileBounds) -> Route
     ensures { result ≡ Polygon.overlay_if_issue issue (Reason.Cut issue)
-        (Polygon.overlay_if_bridge (Polygon.bridge_unless_skipped flags bounds (Ring.coords (take (2 * n) ring.now)))
-        (Route.Cut n)) }
+        (Polygon.overlay_if_bridge (Polygon.bridge_unless_skipped flags bounds (Ring.coords ring.now))
+        (Route.Cut (length (Ring.coords ring.now)))) }
 {
     if has_issue(issue) {
         return Route::Overlay(Reason::Cut(issue));
     }
-    match bridge_unless_skipped(ring, n, flags, bounds) {
+    match bridge_unless_skipped(ring, flags, bounds) {
         Some(edge) => Route::Overlay(Reason::Bridge(edge)),
-        None => Route::Cut(n),
+        None => Route::Cut(ring.len() / 2),
     }
 }
 
 // Cuts the exterior; a cut that stays stands at the front of the output, and its origins at the front of theirs.
 fn route_cut(
     ring: &[f64],
-    n: usize,
     flags: Flags,
     bounds: TileBounds,
     scratch: &mut [f64],
@@ -193,28 +190,35 @@ fn route_cut(
     out_origins: &mut [u16],
     order: &mut [u32],
 ) -> Route
-    requires exterior_room { Internal.ExteriorRoom n ring.now (length scratch.old) (length out.old) (length order.old) }
-    requires ring_origin_room { Internal.RingOriginRoom n ring.now (length origin_scratch.old) (length out_origins.old) }
-    ensures route { result ≡ Polygon.route_cut flags bounds (Ring.close (Ring.coords (take (2 * n) ring.now))) }
-    ensures cut { Internal.CutStands bounds (Ring.close (Ring.coords (take (2 * n) ring.now))) result out.new }
-    ensures origins { Internal.OriginsStand bounds (Ring.close (Ring.coords (take (2 * n) ring.now))) result
+    requires exterior_room { Internal.ExteriorRoom (Ring.coords ring.now) (length scratch.old) (length out.old) (length order.old) }
+    requires ring_origin_room { Internal.RingOriginRoom (Ring.coords ring.now) (length origin_scratch.old) (length out_origins.old) }
+    ensures route { result ≡ Polygon.route_cut flags bounds (Ring.close (Ring.coords ring.now)) }
+    ensures cut { Internal.CutStands bounds (Ring.close (Ring.coords ring.now)) result out.new }
+    ensures origins { Internal.OriginsStand bounds (Ring.close (Ring.coords ring.now)) result
         out_origins.new }
 {
-    let clipped = clip_ring(ring, n, bounds, scratch, origin_scratch, out, out_origins);
+    let clipped = clip_ring(
+        ring,
+        ring.len() / 2,
+        bounds,
+        scratch,
+        origin_scratch,
+        out,
+        out_origins,
+    );
     if clipped == 0 {
         return Route::Nothing;
     }
     let m = close_with_origins(out, out_origins, clipped);
     let issue = find_issue(&out[..2 * m], flags.assume_simple, scratch, order);
-    judge_cut(out, m, issue, flags, bounds)
+    judge_cut(&out[..2 * m], issue, flags, bounds)
 }
 
-// What the exterior of n coordinates decides, rect being the rectangle of all rings; a cut exterior stands at the front of the output, and
-// its origins at the front of theirs.
+// What the exterior decides, rect being the rectangle of all rings; a cut exterior stands at the front of the output, and its origins at
+// the front of theirs.
 #[tactic(auto, unfolding(crate::specs::Polygon::route_exterior))]
 pub fn route_exterior(
     ring: &[f64],
-    n: usize,
     flags: Flags,
     rect: Rect,
     bounds: TileBounds,
@@ -224,17 +228,17 @@ pub fn route_exterior(
     out_origins: &mut [u16],
     order: &mut [u32],
 ) -> Route
-    requires exterior_room { Internal.ExteriorRoom n ring.now (length scratch.old) (length out.old) (length order.old) }
-    requires ring_origin_room { Internal.RingOriginRoom n ring.now (length origin_scratch.old) (length out_origins.old) }
-    ensures route { result ≡ Polygon.route_exterior flags rect bounds (Ring.close (Ring.coords (take (2 * n) ring.now))) }
-    ensures cut { Internal.CutStands bounds (Ring.close (Ring.coords (take (2 * n) ring.now))) result out.new }
-    ensures origins { Internal.OriginsStand bounds (Ring.close (Ring.coords (take (2 * n) ring.now))) result
+    requires exterior_room { Internal.ExteriorRoom (Ring.coords ring.now) (length scratch.old) (length out.old) (length order.old) }
+    requires ring_origin_room { Internal.RingOriginRoom (Ring.coords ring.now) (length origin_scratch.old) (length out_origins.old) }
+    ensures route { result ≡ Polygon.route_exterior flags rect bounds (Ring.close (Ring.coords ring.now)) }
+    ensures cut { Internal.CutStands bounds (Ring.close (Ring.coords ring.now)) result out.new }
+    ensures origins { Internal.OriginsStand bounds (Ring.close (Ring.coords ring.now)) result
         out_origins.new }
 {
     if !intersects_bounds(rect, bounds) {
         return Route::Nothing;
     }
-    let issue = closed_issue(ring, n, flags.assume_simple, scratch, out, order);
+    let issue = closed_issue(ring, flags.assume_simple, scratch, out, order);
     if has_issue(issue) {
         return Route::Overlay(Reason::Input(issue));
     }
@@ -243,7 +247,6 @@ pub fn route_exterior(
     }
     route_cut(
         ring,
-        n,
         flags,
         bounds,
         scratch,
@@ -261,21 +264,28 @@ const SHORTEST_HOLE: usize = 4;
 // left out has none.
 pub fn clip_hole(
     ring: &[f64],
-    n: usize,
     bounds: TileBounds,
     scratch: &mut [f64],
     origin_scratch: &mut [u16],
     out: &mut [f64],
     out_origins: &mut [u16],
 ) -> usize
-    requires ring_room { Internal.RingRoom n ring.now (length scratch.old) (length out.old) }
-    requires ring_origin_room { Internal.RingOriginRoom n ring.now (length origin_scratch.old) (length out_origins.old) }
-    ensures cut { TileInternal.Stands (Polygon.cut_hole bounds (Ring.close (Ring.coords (take (2 * n) ring.now)))) result
+    requires ring_room { Internal.RingRoom (Ring.coords ring.now) (length scratch.old) (length out.old) }
+    requires ring_origin_room { Internal.RingOriginRoom (Ring.coords ring.now) (length origin_scratch.old) (length out_origins.old) }
+    ensures cut { TileInternal.Stands (Polygon.cut_hole bounds (Ring.close (Ring.coords ring.now))) result
         out.new }
     ensures origins { take result out_origins.new
-        ≡ Origins.hole_origins bounds (Ring.close (Ring.coords (take (2 * n) ring.now))) }
+        ≡ Origins.hole_origins bounds (Ring.close (Ring.coords ring.now)) }
 {
-    let clipped = clip_ring(ring, n, bounds, scratch, origin_scratch, out, out_origins);
+    let clipped = clip_ring(
+        ring,
+        ring.len() / 2,
+        bounds,
+        scratch,
+        origin_scratch,
+        out,
+        out_origins,
+    );
     if clipped < SHORTEST_HOLE {
         return 0;
     }

@@ -342,13 +342,16 @@ module _ (part : PartBytes) (lent : Lengths) (out to : ℕ) (room : PartRoom (ri
     exterior-lent =
         ring-lent (exterior_of part) (holes_of part) lent part-working exterior_count (drop (part.at + 2 + 2) part.frame.now) s refl e
 
-    pub exterior-origin-room : RingOriginRoom (count_of (drop (part.at + 2) part.frame.now))
-        (sets s 0 (flat (coords_of (count_of (drop (part.at + 2) part.frame.now)) (drop (part.at + 2 + 2) part.frame.now)))) lent.a-origins lent.b-origins
+    abbrev lent_coords : List Coord
+    lent_coords =
+        coords (take (2 * count_of (drop (part.at + 2) part.frame.now))
+        (sets s 0 (flat (coords_of (count_of (drop (part.at + 2) part.frame.now)) (drop (part.at + 2 + 2) part.frame.now)))))
+
+    pub exterior-origin-room : RingOriginRoom lent_coords lent.a-origins lent.b-origins
     exterior-origin-room =
         working-origins (exterior_of part) (holes_of part) lent part-working exterior_count (drop (part.at + 2 + 2) part.frame.now) s refl e
 
-    pub exterior-room : (order : ℕ) → PositionsRoom (rings_of part) order → ExteriorRoom (count_of (drop (part.at + 2) part.frame.now))
-        (sets s 0 (flat (coords_of (count_of (drop (part.at + 2) part.frame.now)) (drop (part.at + 2 + 2) part.frame.now)))) lent.a lent.b order
+    pub exterior-room : (order : ℕ) → PositionsRoom (rings_of part) order → ExteriorRoom lent_coords lent.a lent.b order
     unfolding largest
     exterior-room order positions =
         record {

@@ -6,7 +6,7 @@ use Prim.Native.Nat.{ℕ, zero, suc, ◌+◌, ◌*◌, ◌-◌, ◌<◌, ◌≤�
 use native.Mathlib.Omega.{arith}
 use lib.Ieee.{Float}
 use lib.ListN.{length, take, drop, length-take, length-append}
-use lib.Seq.{sets, length-sets}
+use lib.Seq.{sets}
 use Rattle.binary64.proofs.Fill.{sets_append}
 use Rattle.binary64.proofs.Booleans.{both}
 use Rattle.tile.specs.declared.Coord.{Coord}
@@ -73,19 +73,18 @@ module _ (r : List Coord) (rs : List (List Coord)) (lent : Lengths) (w : Working
     unfolding largest
     room-here = B-mono (length r) (largest length (r ∷ rs)) (larger_least (length r) (largest length rs)).0
 
-    pub working-ring : RingRoom n (sets s 0 (flat (coords_of n l))) lent.a lent.b
+    pub working-ring : RingRoom (coords (take (2 * n) (sets s 0 (flat (coords_of n l))))) lent.a lent.b
     unfolding largest all_closed
     working-ring =
         let g = larger_least (length r) (largest length rs) in
         record {
-          lent = omega (arith, ring-lent, length-sets s 0 (flat (coords_of n l)));
           few = rw read_back (omega (arith, w.small));
           closes = rw read_back (both (closed r) (all_closed rs) w.closes).0;
           scratch-room = rw read_back (omega (arith, room-here, w.a-room));
           output-room = rw read_back (omega (arith, room-here, w.b-room));
         }
 
-    pub working-origins : RingOriginRoom n (sets s 0 (flat (coords_of n l))) lent.a-origins lent.b-origins
+    pub working-origins : RingOriginRoom (coords (take (2 * n) (sets s 0 (flat (coords_of n l))))) lent.a-origins lent.b-origins
     working-origins =
         record {
           scratch-room = rw read_back (omega (arith, room-here, w.a-origin-room));
@@ -216,12 +215,14 @@ module _ (bounds : TileBounds) (frame : List ℕ) (at k : ℕ) (lent : Lengths) 
     pub hole_lent : 2 * count_of (drop at frame) ≤ lent.ring
     hole_lent = ring-lent ring_here rest lent working-here (count_of (drop at frame)) (drop (at + 2) frame) s refl e
 
-    pub hole_room : RingRoom (count_of (drop at frame)) (sets s 0 (flat (coords_of (count_of (drop at frame)) (drop (at + 2) frame))))
-        lent.a lent.b
+    abbrev lent_coords : List Coord
+    lent_coords =
+        coords (take (2 * count_of (drop at frame)) (sets s 0 (flat (coords_of (count_of (drop at frame)) (drop (at + 2) frame)))))
+
+    pub hole_room : RingRoom lent_coords lent.a lent.b
     hole_room = working-ring ring_here rest lent working-here (count_of (drop at frame)) (drop (at + 2) frame) s refl e
 
-    pub hole_origin-room : RingOriginRoom (count_of (drop at frame))
-        (sets s 0 (flat (coords_of (count_of (drop at frame)) (drop (at + 2) frame)))) lent.a-origins lent.b-origins
+    pub hole_origin-room : RingOriginRoom lent_coords lent.a-origins lent.b-origins
     hole_origin-room = working-origins ring_here rest lent working-here (count_of (drop at frame)) (drop (at + 2) frame) s refl e
 
   -- read into a slice as n coordinates and cut, it stands at the front of slices and has room in the output

@@ -38,6 +38,7 @@ struct RingCursor {
 
 // Writes the cut ring of n coordinates at the front of a slice, whose origins stand at the front of another; one without coordinates is
 // left out.
+// Stays with a count beside: clip_hole leaves a ring and its origins at the fronts of longer slices, and one count is that of both.
 fn put_cut_ring(
     ring: &[f64],
     origins: &[u16],
@@ -86,7 +87,7 @@ fn put_holes(
     for _ in 0..holes {
         let from = ring_at(frame, at);
         let next = decode_ring(from, ring);
-        let m = clip_hole(ring, from.n, bounds, a, a_origins, b, b_origins);
+        let m = clip_hole(&ring[..2 * from.n], bounds, a, a_origins, b, b_origins);
         written = put_cut_ring(b, b_origins, m, out, written);
         at = next;
     }
@@ -230,7 +231,15 @@ pub fn route_part(
     let from = ring_at(part.frame, part.at + COUNT);
     decode_ring(from, ring);
     let route = route_exterior(
-        ring, from.n, flags, rect, bounds, a, a_origins, b, b_origins, order,
+        &ring[..2 * from.n],
+        flags,
+        rect,
+        bounds,
+        a,
+        a_origins,
+        b,
+        b_origins,
+        order,
     );
     answer_route(
         part, index, route, bounds, ring, a, a_origins, b, b_origins, out, to,

@@ -2,13 +2,12 @@
 -- what is left to write is always the same. Assumes nothing.
 use mathlib.Core.Path.{◌≡◌, refl, sym, ◌∙◌, ap, subst}
 use mathlib.Core.List.{List, [], ◌∷◌, ◌++◌, append_assoc, append-nil}
-use Prim.Native.Nat.{ℕ, zero, suc, ◌+◌, ◌*◌, ◌-◌, ◌/◌, ◌^◌, ◌<◌, ◌≤◌}
+use Prim.Native.Nat.{ℕ, zero, suc, ◌+◌, ◌*◌, ◌-◌, ◌^◌, ◌<◌, ◌≤◌}
 use native.Mathlib.Nat.{zero-add}
 use native.Mathlib.Omega.{arith}
 use lib.Ieee.{Float}
 use lib.ListN.{length, get_or, take, drop, length-append}
 use lib.Seq.{sets, drop-cons}
-use Rattle.std.proofs.lemmas.List.{take_all}
 use Rattle.std.specs.Prelude.{Option, None, Some, MatchOption}
 use Rattle.binary64.proofs.Fill.{sets_append, whole-over, front-part}
 use Rattle.binary64.proofs.Booleans.{both}
@@ -16,7 +15,7 @@ use Rattle.tile.specs.declared.Coord.{Coord}
 use Rattle.tile.specs.declared.TileBounds.{TileBounds}
 use Rattle.tile.specs.Ring.{coords, flat, closed, close}
 use Rattle.tile.specs.Internal.{Stands}
-use Rattle.tile.proofs.Rings.{length-flat, coords-take, count-coords}
+use Rattle.tile.proofs.Rings.{length-flat}
 use Rattle.sutherland_hodgman.proofs.Offered.{B-le}
 use Rattle.rings.specs.LentRings.{Lent, exterior, closed_rings, total, largest, ring_room}
 use Rattle.rings.specs.Internal.{all_closed}
@@ -48,18 +47,16 @@ Rooms lent scratch origin_scratch out lens out_origins at =
 
 module _ (ring : List Coord) (rest : List (List Coord)) (scratch origin_scratch out lens out_origins : ℕ) (at : Placed)
     (rooms : Rooms (ring ∷ rest) scratch origin_scratch out lens out_origins at) where
-  -- the first ring, where it stands at the front of a slice
-  pub hole_room : (n : ℕ) (s : List Float) → 2 * n ≤ length s → ring ≡ close (coords (take (2 * n) s))
-      → HoleRoom n s scratch out lens at × HoleOriginRoom n s origin_scratch out_origins at
+  -- the first ring, as it is lent
+  pub hole_room : (r : List Coord) → ring ≡ close r → HoleRoom r scratch out lens at × HoleOriginRoom r origin_scratch out_origins at
   unfolding total largest all_closed
-  hole_room n s h e =
+  hole_room r e =
       let l = larger_least (ring_room ring) (largest ring_room rest) in
       let b = ap ring_room e in
       let room = rooms.0 in
       let origins = rooms.1 in (
         record {
           room = record {
-            lent = h;
             few = omega (arith, room.small, ap length e);
             closes = ap closed (sym e) ∙ (both (closed ring) (all_closed rest) room.closes).0;
             scratch-room = omega (arith, room.scratch-room, b);
@@ -94,15 +91,14 @@ module _ (ring : List Coord) (rest : List (List Coord)) (scratch origin_scratch 
       )
 
 -- a ring that a slice has room for can be counted
-module _ (n : ℕ) (s : List Float) (scratch out : ℕ) (room : RingRoom n s scratch out) (c : List Coord)
-    (fits : length c ≤ ring_room (close (coords (take (2 * n) s)))) where
+module _ (r : List Coord) (scratch out : ℕ) (room : RingRoom r scratch out) (c : List Coord) (fits : length c ≤ ring_room (close r)) where
   pub cut_fits : (m : ℕ) → m ≡ length c → 2 * m ≤ out
   cut_fits m e = omega (arith, room.output-room)
 
   pub cut_small : (m : ℕ) → m ≡ length c → m < 2 ^ 32
-  cut_small m e = omega (arith, B-le (length (close (coords (take (2 * n) s)))) room.few)
+  cut_small m e = omega (arith, B-le (length (close r)) room.few)
 
-  pub cut-origins_fit : (origin_scratch out_origins m : ℕ) → RingOriginRoom n s origin_scratch out_origins → m ≡ length c → m ≤ out_origins
+  pub cut-origins_fit : (origin_scratch out_origins m : ℕ) → RingOriginRoom r origin_scratch out_origins → m ≡ length c → m ≤ out_origins
   cut-origins_fit origin_scratch out_origins m o e = omega (arith, o.output-room)
 
 -- ---- what is written, and what is left to write
@@ -181,12 +177,6 @@ pub ahead_origins : (new : List ℕ) (others : List (List ℕ)) (at r : ℕ) (os
 ahead_origins new others at r os os' e = rw (unless_origins new others, e, append_assoc)
 
 -- ---- one ring after the other
-
--- the numbers of a ring are the front of themselves
-pub whole_ring : (s : List Float) → coords (take (2 * (length s / 2)) s) ≡ coords s
-whole_ring s =
-    coords-take (length s / 2) s
-    ∙ take_all (length s / 2) (coords s) (omega (arith, count-coords s))
 
 -- the slices have kept their lengths
 pub same-room : {lent : List (List Coord)} {p : Placed} {scratch origin_scratch out lens out_origins : ℕ}
@@ -319,22 +309,19 @@ module _ (lengths : List ℕ) (s : List Float) (some : 0 < length (closed_rings 
             (largest ring_room (closed_rings (drop 1 lengths) (drop (2 * get_or lengths 0 0) s))),
       )
 
-  pub first_room : Lent lengths s → (scratch origin_scratch out lens out_origins : ℕ)
+  pub first-lent : Lent lengths s → 2 * get_or lengths 0 0 ≤ length s
+  first-lent fits = first-fits lengths s (get_or lengths 0 0) (drop 1 lengths) (drop-cons lengths 0 0 some-lengths) fits
+
+  pub first_room : (scratch origin_scratch out lens out_origins : ℕ)
       → Rooms (closed_rings lengths s) scratch origin_scratch out lens out_origins none_placed
-      → RingRoom (get_or lengths 0 0) s scratch out × RingOriginRoom (get_or lengths 0 0) s origin_scratch out_origins
-  first_room fits scratch origin_scratch out lens out_origins rooms =
+      → RingRoom (coords (take (2 * get_or lengths 0 0) s)) scratch out
+      × RingOriginRoom (coords (take (2 * get_or lengths 0 0) s)) origin_scratch out_origins
+  first_room scratch origin_scratch out lens out_origins rooms =
       let all = subst (λ (l : List (List Coord)). Rooms l scratch origin_scratch out lens out_origins none_placed) rings-here rooms in
-      let within = first-fits lengths s (get_or lengths 0 0) (drop 1 lengths) (drop-cons lengths 0 0 some-lengths) fits in
-      let h = hole_room _ _ _ _ _ _ _ _ all (get_or lengths 0 0) s within refl in
+      let h = hole_room _ _ _ _ _ _ _ _ all (coords (take (2 * get_or lengths 0 0) s)) refl in
       let r = h.0.room in
       let o = h.1.room in (
-        record {
-          lent = r.lent;
-          few = r.few;
-          closes = r.closes;
-          scratch-room = r.scratch-room;
-          output-room = omega (arith, r.output-room);
-        },
+        record { few = r.few; closes = r.closes; scratch-room = r.scratch-room; output-room = omega (arith, r.output-room) },
         record { scratch-room = o.scratch-room; output-room = omega (arith, o.output-room) },
       )
 

@@ -49,15 +49,15 @@ pub record Counted (n : ℕ) (at : Placed) (out_lengths : List ℕ) (r : Placed)
   pub coordinates-after : r.coordinates ≡ at.coordinates + n
   pub rings-after : r.rings ≡ at.rings + length (length_unless_none n)
 
--- a ring of n coordinates at the front of a slice can be cut in the output behind the rings counted so far
-pub record HoleRoom (n : ℕ) (ring : List Float) (scratch out out_lengths : ℕ) (at : Placed) : Type 0 where
-  pub room : RingRoom n ring scratch (out - 2 * at.coordinates)
+-- a ring can be cut in the output behind the rings counted so far
+pub record HoleRoom (ring : List Coord) (scratch out out_lengths : ℕ) (at : Placed) : Type 0 where
+  pub room : RingRoom ring scratch (out - 2 * at.coordinates)
   pub output-room : 2 * at.coordinates ≤ out
   pub lengths-room : at.rings < out_lengths
 
 -- and its origins in theirs, behind those of the rings counted so far
-pub record HoleOriginRoom (n : ℕ) (ring : List Float) (origin_scratch out_origins : ℕ) (at : Placed) : Type 0 where
-  pub room : RingOriginRoom n ring origin_scratch (out_origins - at.coordinates)
+pub record HoleOriginRoom (ring : List Coord) (origin_scratch out_origins : ℕ) (at : Placed) : Type 0 where
+  pub room : RingOriginRoom ring origin_scratch (out_origins - at.coordinates)
   pub output-room : at.coordinates ≤ out_origins
 
 -- the ring stands there, the rings before it are as they were, and it is counted

@@ -2,7 +2,7 @@
 // origins beside them.
 #![tactic(auto)]
 
-ghost use Rattle.std.specs.Prelude.{◌≡◌, ◌++◌, ◌*◌, length, take};
+ghost use Rattle.std.specs.Prelude.{◌≡◌, ◌++◌, length, take};
 ghost use Rattle.tile.specs.Ring as Ring;
 ghost use Rattle.rings.specs.Internal.{rings_of};
 ghost use Rattle.clip.specs.Polygon as Polygon;
@@ -49,11 +49,9 @@ fn count_ring(n: usize, out_lengths: &mut [u32], at: Placed) -> Placed
     }
 }
 
-// Cuts as a hole the ring of n coordinates at the front of a slice. It is cut in the output behind the rings counted so far, where it is to
-// stand, and so are its origins in theirs.
+// Cuts a ring as a hole. It is cut in the output behind the rings counted so far, where it is to stand, and so are its origins in theirs.
 fn put_hole(
     ring: &[f64],
-    n: usize,
     bounds: TileBounds,
     scratch: &mut [f64],
     origin_scratch: &mut [u16],
@@ -62,18 +60,17 @@ fn put_hole(
     out_origins: &mut [u16],
     at: Placed,
 ) -> Placed
-    requires hole_room { Internal.HoleRoom n ring.now (length scratch.old) (length out.old) (length out_lengths.old) at }
-    requires hole_origin_room { Internal.HoleOriginRoom n ring.now (length origin_scratch.old) (length out_origins.old) at }
-    ensures ring { Internal.Put (Polygon.cut_hole bounds (Ring.close (Ring.coords (take (2 * n) ring.now)))) at
+    requires hole_room { Internal.HoleRoom (Ring.coords ring.now) (length scratch.old) (length out.old) (length out_lengths.old) at }
+    requires hole_origin_room { Internal.HoleOriginRoom (Ring.coords ring.now) (length origin_scratch.old) (length out_origins.old) at }
+    ensures ring { Internal.Put (Polygon.cut_hole bounds (Ring.close (Ring.coords ring.now))) at
         out.old out_lengths.old result out.new out_lengths.new }
     ensures origins { take result.coordinates out_origins.new ≡ take at.coordinates out_origins.old
-        ++ Origins.hole_origins bounds (Ring.close (Ring.coords (take (2 * n) ring.now))) }
+        ++ Origins.hole_origins bounds (Ring.close (Ring.coords ring.now)) }
 {
     let placed = at.coordinates;
     let numbers = 2 * placed;
     let m = clip_hole(
         ring,
-        n,
         bounds,
         scratch,
         origin_scratch,
@@ -108,7 +105,6 @@ fn put_holes(
     for ring in rings {
         placed = put_hole(
             ring,
-            ring.len() / 2,
             bounds,
             scratch,
             origin_scratch,
@@ -274,8 +270,7 @@ pub fn clip_polygon(
             let found = Rect::Box(west, south, east, north);
             let n = rings.lengths[0] as usize;
             let route = route_exterior(
-                rings.coords,
-                n,
+                &rings.coords[..2 * n],
                 flags,
                 found,
                 bounds,

@@ -1,12 +1,11 @@
 // Edges of a cut exterior that run along a bound: the source's `has_boundary_connecting_edges`, which also says along which.
-ghost use Rattle.std.specs.Prelude.{◌≡◌, ◌&&◌, ◌*◌, ◌≤◌, length, take};
+ghost use Rattle.std.specs.Prelude.{◌≡◌, ◌&&◌};
 ghost use Rattle.binary64.specs.Compare.{near};
-ghost use Rattle.tile.specs.Ring.{coords};
 ghost use Rattle.rings.specs.Bridge as Bridges;
 
 use binary64::compare::is_near;
 use box_pairs::cross::is_degenerate;
-use tile::ring::coord_at;
+use tile::ring::Coords;
 use tile::{Coord, Edge, TileBounds};
 
 fn both_near(a: f64, b: f64, bound: f64) -> bool
@@ -43,13 +42,12 @@ fn bridge_of(p: Coord, q: Coord, bounds: TileBounds) -> Option<Edge>
     None
 }
 
-// The first bridge of the ring of n coordinates at the front of a slice, and the bound that it runs along.
-pub fn first_bridge(ring: &[f64], n: usize, bounds: TileBounds) -> Option<Edge>
-    requires { 2 * n ≤ length ring.now }
-    ensures { result ≡ Bridges.first_bridge bounds (coords (take (2 * n) ring.now)) }
+// The first bridge of a ring, and the bound that it runs along.
+pub fn first_bridge<R: Coords + Copy>(ring: R, bounds: TileBounds) -> Option<Edge>
+    ensures { result ≡ Bridges.first_bridge bounds (R.coords ring) }
 {
-    for k in 1..n {
-        if let Some(edge) = bridge_of(coord_at(ring, k - 1), coord_at(ring, k), bounds) {
+    for k in 1..ring.count() {
+        if let Some(edge) = bridge_of(ring.coord(k - 1), ring.coord(k), bounds) {
             return Some(edge);
         }
     }

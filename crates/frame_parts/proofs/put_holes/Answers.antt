@@ -1,10 +1,11 @@
 -- `put_holes` meets its contract. The invariant: the holes that are left are there and have room, and what is written with what is left to
 -- write is all that was to be written. Assumes nothing.
-use mathlib.Core.Path.{◌≡◌, refl, ◌∙◌}
+use mathlib.Core.Path.{◌≡◌, refl, sym, ◌∙◌}
 use mathlib.Core.List.{[]}
 use Prim.Native.Nat.{◌+◌, ◌*◌, ◌-◌, ◌<◌}
 use native.Mathlib.Omega.{arith}
 use lib.ListN.{drop}
+use lib.Seq.{length-take-le}
 use Rattle.tile.specs.Ring.{close}
 use Rattle.clip.specs.Polygon.{unless_none}
 use Rattle.frame_bytes.specs.Frame.{count_of, coords_of}
@@ -23,6 +24,19 @@ decode_ring-next-requires c = let l = c.loop in
     let k = c.args.holes - l.counter in
     let n = c.ring_at-from.ensures.2 in
     omega (arith, n, hole_lent c.args.bounds c.args.frame.now l.at k _ _ _ (omega arith) l.invariant.0 l.ring refl)
+
+pub slice_bounds-clip_hole-end : goal.slice_bounds-clip_hole-end
+slice_bounds-clip_hole-end c = let l = c.loop in
+    let k = c.args.holes - l.counter in
+    let h = hole_lent c.args.bounds c.args.frame.now l.at k _ _ _ (omega arith) l.invariant.0 l.ring refl in
+    omega (arith, h, c.count_at-n.ensures.0, c.decode_ring-next.auto.ring)
+
+pub slice_bounds-clip_hole-end-in-loop : goal.slice_bounds-clip_hole-end-in-loop
+slice_bounds-clip_hole-end-in-loop c = let l = c.loop in
+    let k = c.args.holes - l.counter in
+    let h = hole_lent c.args.bounds c.args.frame.now l.at k _ _ _ (omega arith) l.invariant.0 l.ring refl in
+    sym (length-take-le (2 * c.count_at-n.result) c.decode_ring-next.new.ring
+    (omega (arith, h, c.count_at-n.ensures.0, c.decode_ring-next.auto.ring)))
 
 pub clip_hole-m-requires-clause-ring_room : goal.clip_hole-m-requires-clause-ring_room
 clip_hole-m-requires-clause-ring_room c = let l = c.loop in

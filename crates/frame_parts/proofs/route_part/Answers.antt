@@ -1,6 +1,8 @@
 -- `route_part` meets its contract: the exterior is read and routed, and its route answered. Assumes nothing.
-use mathlib.Core.Path.{refl}
+use mathlib.Core.Path.{refl, sym}
+use Prim.Native.Nat.{◌*◌}
 use native.Mathlib.Omega.{arith}
+use lib.Seq.{length-take-le}
 use Rattle.frame_parts.proofs.Cutting.{same-lengths}
 use Rattle.frame_parts.proofs.CutParts.{exterior-whole, exterior-lent, exterior-room, exterior-origin-room, exterior-read}
 use Rattle.frame_parts.proofs.route_part.Goals as goal
@@ -11,6 +13,14 @@ ring_at-from-requires c = exterior-whole c.args.part _ _ _ c.requires.part_room
 pub decode_ring-requires : goal.decode_ring-requires
 decode_ring-requires c = let n = c.ring_at-from.ensures.2 in
     omega (arith, n, exterior-lent c.args.part _ _ _ c.requires.part_room c.args.ring.now refl)
+
+pub slice_bounds-route_exterior-end : goal.slice_bounds-route_exterior-end
+slice_bounds-route_exterior-end c = let h = exterior-lent c.args.part _ _ _ c.requires.part_room c.args.ring.now refl in
+    omega (arith, h, c.count_at-n.ensures.0, c.decode_ring.auto.ring)
+
+pub slice_bounds-route_exterior-end-2 : goal.slice_bounds-route_exterior-end-2
+slice_bounds-route_exterior-end-2 c = let h = exterior-lent c.args.part _ _ _ c.requires.part_room c.args.ring.now refl in
+    sym (length-take-le (2 * c.count_at-n.result) c.decode_ring.new.ring (omega (arith, h, c.count_at-n.ensures.0, c.decode_ring.auto.ring)))
 
 pub route_exterior-route-requires-clause-exterior_room : goal.route_exterior-route-requires-clause-exterior_room
 route_exterior-route-requires-clause-exterior_room c = let from = c.ring_at-from.ensures in rw (c.decode_ring.ensures.1, from.0, from.1, from.2) (exterior-room c.args.part _ _ _ c.requires.part_room c.args.ring.now refl _ c.requires.positions_room)

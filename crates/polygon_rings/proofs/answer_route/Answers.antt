@@ -1,5 +1,7 @@
 -- `answer_route` meets its contract: each arm knows its route. Assumes nothing.
+use mathlib.Core.Path.{refl}
 use Rattle.rings.specs.Internal.{rings_of}
+use Rattle.polygon_rings.specs.WrittenRings.{numbers_of, lengths_of, origins_of}
 use Rattle.polygon_rings.proofs.Routes.{overlay_filled}
 use Rattle.polygon_rings.proofs.answer_route.Goals as goal
 

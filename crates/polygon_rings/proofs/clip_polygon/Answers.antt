@@ -1,26 +1,35 @@
 -- `clip_polygon` meets its contract: each arm knows the rectangle, and one of four numbers has closed rings. Assumes nothing.
 use mathlib.Core.Path.{refl, sym, ◌∙◌}
+use Prim.Native.Nat.{◌*◌}
+use lib.ListN.{get_or}
+use lib.Seq.{length-take-le}
 use Rattle.clip.specs.Polygon.{route, route_rect}
+use Rattle.polygon_rings.specs.WrittenRings.{numbers_of, lengths_of, origins_of}
 use Rattle.polygon_rings.proofs.Routes.{boxed}
-use Rattle.polygon_rings.proofs.Holes.{exterior-here, some-lengths, first_room, first_positions, same-room}
+use Rattle.polygon_rings.proofs.Holes.{exterior-here, some-lengths, first-lent, first_room, first_positions, same-room}
 use Rattle.polygon_rings.proofs.clip_polygon.Goals as goal
 
 pub bounds-rings-0 : goal.bounds-rings-0
 bounds-rings-0 c = some-lengths c.args.rings.lengths.now c.args.rings.coords.now c.requires.polygon_room.some
+
+pub slice_bounds-route_exterior-end : goal.slice_bounds-route_exterior-end
+slice_bounds-route_exterior-end c = let s = c.args.rings.coords.now in
+    let ns = c.args.rings.lengths.now in
+    sym (length-take-le (2 * get_or ns 0 0) s (first-lent ns s c.requires.polygon_room.some c.args.rings.lent))
 
 pub route_exterior-route-requires-clause-exterior_room : goal.route_exterior-route-requires-clause-exterior_room
 route_exterior-route-requires-clause-exterior_room c = let s = c.args.rings.coords.now in
     let ns = c.args.rings.lengths.now in
     let p = c.requires in
     let r = boxed ns s _ _ _ _ _ _ _ _ _ _ p.polygon_room p.lent_origins_room (sym c.polygon_rect_all_rings-rect.ensures ∙ c.in-Box.is) in
-    let first = first_room ns s p.polygon_room.some c.args.rings.lent _ _ _ _ _ r in record { room = first.0; positions = first_positions ns s p.polygon_room.some _ p.polygon_room.positions }
+    let first = first_room ns s p.polygon_room.some _ _ _ _ _ r in record { room = first.0; positions = first_positions ns s p.polygon_room.some _ p.polygon_room.positions }
 
 pub route_exterior-route-requires-clause-ring_origin_room : goal.route_exterior-route-requires-clause-ring_origin_room
 route_exterior-route-requires-clause-ring_origin_room c = let s = c.args.rings.coords.now in
     let ns = c.args.rings.lengths.now in
     let p = c.requires in
     let r = boxed ns s _ _ _ _ _ _ _ _ _ _ p.polygon_room p.lent_origins_room (sym c.polygon_rect_all_rings-rect.ensures ∙ c.in-Box.is) in
-    let first = first_room ns s p.polygon_room.some c.args.rings.lent _ _ _ _ _ r in first.1
+    let first = first_room ns s p.polygon_room.some _ _ _ _ _ r in first.1
 
 pub answer_route-requires-clause-lent_route_room : goal.answer_route-requires-clause-lent_route_room
 answer_route-requires-clause-lent_route_room c = let s = c.args.rings.coords.now in

@@ -1,28 +1,26 @@
 -- `put_holes` meets its contract. The invariant: the holes that are left have room, and what is written with what is left to write is all
 -- that was to be written, of the rings and of their origins. Assumes nothing.
-use mathlib.Core.Path.{◌≡◌, ◌∙◌, ap, sym}
+use mathlib.Core.Path.{◌≡◌, refl, ◌∙◌}
 use mathlib.Core.List.{◌++◌}
-use native.Mathlib.Omega.{arith}
-use Prim.Native.Nat.{◌/◌}
-use lib.ListN.{length, take}
+use lib.ListN.{take}
 use Rattle.tile.specs.Ring.{coords, close}
 use Rattle.rings.specs.Internal.{rings_of}
 use Rattle.clip.specs.Polygon.{cut_hole, cut_holes}
 use Rattle.clip.specs.Origins.{hole_origins, holes_origins}
 use Rattle.clip.proofs.Cuts.{hole_fits-room}
 use Rattle.polygon_rings.specs.Internal.{Put}
-use Rattle.polygon_rings.proofs.Holes.{ahead_then, ahead_ring, ahead_origins, ahead_end, origins_end, hole_room, next_room, same-room, whole_ring}
+use Rattle.polygon_rings.proofs.Holes.{ahead_then, ahead_ring, ahead_origins, ahead_end, origins_end, hole_room, next_room, same-room}
 use Rattle.polygon_rings.proofs.put_holes.Goals as goal
 
 pub put_hole-placed-requires-clause-hole_room : goal.put_hole-placed-requires-clause-hole_room
 put_hole-placed-requires-clause-hole_room c = let ring = c.in-Some.ring.now in
     let rooms = rw c.in-Some.ensures.steps at c.loop-ring.invariant.2 in
-    (hole_room _ _ _ _ _ _ _ _ rooms (length ring / 2) ring (omega arith) (ap close (sym (whole_ring ring)))).0
+    (hole_room _ _ _ _ _ _ _ _ rooms (coords ring) refl).0
 
 pub put_hole-placed-requires-clause-hole_origin_room : goal.put_hole-placed-requires-clause-hole_origin_room
 put_hole-placed-requires-clause-hole_origin_room c = let ring = c.in-Some.ring.now in
     let rooms = rw c.in-Some.ensures.steps at c.loop-ring.invariant.2 in
-    (hole_room _ _ _ _ _ _ _ _ rooms (length ring / 2) ring (omega arith) (ap close (sym (whole_ring ring)))).1
+    (hole_room _ _ _ _ _ _ _ _ rooms (coords ring) refl).1
 
 pub loop-ring-preserved : goal.loop-ring-preserved
 unfolding cut_holes holes_origins
@@ -32,12 +30,10 @@ loop-ring-preserved c = let bounds = c.args.bounds in
     let kept = c.put_hole-placed.auto in
     let ring = close (coords c.in-Some.ring.now) in
     let rest = rings_of c.next.new.self in
-    let put : Put (cut_hole bounds ring) l.placed l.out l.out_lengths c.put_hole-placed.result _ _ =
-    rw (whole_ring c.in-Some.ring.now) at c.put_hole-placed.ensures.ring in
+    let put : Put (cut_hole bounds ring) l.placed l.out l.out_lengths c.put_hole-placed.result _ _ = c.put_hole-placed.ensures.ring in
     let after = c.put_hole-placed.new.out_origins in
     let os : take c.put_hole-placed.result.coordinates after ≡
-    take l.placed.coordinates l.out_origins ++ hole_origins bounds ring =
-    rw (whole_ring c.in-Some.ring.now) at c.put_hole-placed.ensures.origins in
+    take l.placed.coordinates l.out_origins ++ hole_origins bounds ring = c.put_hole-placed.ensures.origins in
     let rooms = rw steps at l.invariant.2 in
     let n = next_room _ _ _ _ _ _ _ _ rooms (cut_hole bounds ring)
     (hole_fits-room bounds ring) _ put.counted.coordinates-after put.counted.rings-after in

@@ -1,81 +1,81 @@
 -- `closed_issue` meets its contract: a ring that is lent closed is looked at where it is, another in the output. Assumes nothing.
 use native.Mathlib.Omega.{arith}
-use Prim.Native.Nat.{◌*◌}
+use Prim.Native.Nat.{◌*◌, ◌/◌}
 use mathlib.Core.Path.{◌≡◌, ◌∙◌, sym}
-use lib.ListN.{length, take, drop, length-append, length-drop}
+use lib.ListN.{length, drop, length-append, length-drop}
 use lib.Seq.{length-take-le}
 use Rattle.tile.specs.Ring.{coords, close}
-use Rattle.tile.proofs.Rings.{close-closed, count_open, length_front, written-front}
+use Rattle.tile.proofs.Rings.{close-closed, count_open, count-coords, written-front}
 use Rattle.sutherland_hodgman.proofs.Offered.{le-B}
-use Rattle.clip.proofs.Cuts.{lent-count, copied_front, output-lent}
+use Rattle.clip.proofs.Cuts.{lent-count, copied_front, output-lent, whole_ring}
 use Rattle.clip.proofs.polygon.closed_issue.Goals as goal
 
 pub find_issue-requires : goal.find_issue-requires
 find_issue-requires c = let a = c.args in
     let p = c.requires in
-    let l = lent-count a.n a.ring.now _ _ p.room in
-    let g = le-B (length (close (coords (take (2 * a.n) a.ring.now)))) in
-    let t = length-take-le (2 * a.n) a.ring.now p.room.lent in
-    (omega (arith, t, p.room.scratch-room), omega (arith, t, p.positions), omega (arith, t, p.room.few))
+    let l = lent-count a.ring.now _ _ p.room in
+    let g = le-B (length (close (coords a.ring.now))) in
+    (omega (arith, p.room.scratch-room), omega (arith, p.positions), omega (arith, p.room.few))
 
 pub returns-then-is_closed : goal.returns-then-is_closed
 returns-then-is_closed c = let a = c.args in
-    let t = close-closed (coords (take (2 * a.n) a.ring.now))
+    let t = close-closed (coords a.ring.now)
     (sym c.is_closed.ensures
     ∙ c.if-is_closed.true) in c.find_issue.ensures.value ∙ rw t
 
 pub slice_bounds-copy_from_slice-end : goal.slice_bounds-copy_from_slice-end
-slice_bounds-copy_from_slice-end c = output-lent c.args.n c.args.ring.now _ _ c.requires.room
+slice_bounds-copy_from_slice-end c = output-lent c.args.ring.now _ _ c.requires.room
 
 pub slice_bounds-copy_from_slice-end-2 : goal.slice_bounds-copy_from_slice-end-2
-slice_bounds-copy_from_slice-end-2 c = sym (length-take-le (2 * c.args.n) c.args.out.now (output-lent c.args.n c.args.ring.now _ _ c.requires.room))
+slice_bounds-copy_from_slice-end-2 c = sym (length-take-le (2 * (length c.args.ring.now / 2)) c.args.out.now (output-lent c.args.ring.now _ _ c.requires.room))
 
 pub copy_from_slice-requires : goal.copy_from_slice-requires
-copy_from_slice-requires c = length-take-le (2 * c.args.n) c.args.out.now (output-lent c.args.n c.args.ring.now _ _ c.requires.room)
-    ∙ sym (length-take-le (2 * c.args.n) c.args.ring.now c.requires.room.lent)
+copy_from_slice-requires c = length-take-le (2 * (length c.args.ring.now / 2)) c.args.out.now (output-lent c.args.ring.now _ _ c.requires.room)
+    ∙ sym (length-take-le (2 * (length c.args.ring.now / 2)) c.args.ring.now (omega arith))
 
 pub close-m-requires : goal.close-m-requires
 close-m-requires c = let p = c.requires in
     let s = c.args.ring.now in
-    let n = c.args.n in
-    let m = count_open (coords (take (2 * n) s)) (sym c.is_closed.ensures
+    let n = length s / 2 in
+    let m = count_open (coords s) (sym c.is_closed.ensures
     ∙ c.if-is_closed.false) in
-    let g = le-B (length (close (coords (take (2 * n) s)))) in
-    let k = length-take-le (2 * n) c.args.out.now (output-lent n s _ _ p.room) in
-    simp (length-append, length-drop) (omega (arith, p.room.output-room, length_front s n p.room.lent, c.copy_from_slice.ensures.len))
+    let g = le-B (length (close (coords s))) in
+    let k = length-take-le (2 * n) c.args.out.now (output-lent s _ _ p.room) in
+    simp (length-append, length-drop) (omega (arith, p.room.output-room, count-coords s, c.copy_from_slice.ensures.len))
 
 pub find_issue-requires-2 : goal.find_issue-requires-2
 find_issue-requires-2 c = let p = c.requires in
     let s = c.args.ring.now in
-    let n = c.args.n in
-    let e = copied_front (2 * n) s c.copy_from_slice.new.self (drop (2 * n) c.args.out.now) p.room.lent c.copy_from_slice.ensures.after in
+    let n = length s / 2 in
+    let e = copied_front (2 * n) s c.copy_from_slice.new.self (drop (2 * n) c.args.out.now) (omega arith) c.copy_from_slice.ensures.after in
     let w = c.close-m.ensures in
-    let m : c.close-m.result ≡ length (close (coords (take (2 * n) s))) = w.count ∙ rw e in
-    let g = le-B (length (close (coords (take (2 * n) s)))) in
+    let m : c.close-m.result ≡ length (close (coords s)) = w.count ∙ rw (e, whole_ring s) in
+    let g = le-B (length (close (coords s))) in
     let t = length-take-le (2 * c.close-m.result) c.close-m.new.ring (omega (arith, p.room.output-room)) in
     (omega (arith, t, p.room.scratch-room), omega (arith, t, p.positions), omega (arith, t, p.room.few))
 
-pub returns : goal.returns
-returns c = let p = c.requires in
+pub slice_bounds-find_issue-end : goal.slice_bounds-find_issue-end
+slice_bounds-find_issue-end c = let p = c.requires in
     let s = c.args.ring.now in
-    let n = c.args.n in
-    let e = copied_front (2 * n) s c.copy_from_slice.new.self (drop (2 * n) c.args.out.now) p.room.lent c.copy_from_slice.ensures.after in
-    let f = written-front c.close-m.ensures in c.find_issue-2.ensures.value ∙ rw (f, e)
+    let n = length s / 2 in
+    let e = copied_front (2 * n) s c.copy_from_slice.new.self (drop (2 * n) c.args.out.now) (omega arith) c.copy_from_slice.ensures.after in
+    let w = c.close-m.ensures in
+    let m : c.close-m.result ≡ length (close (coords s)) = w.count ∙ rw (e, whole_ring s) in
+    let g = le-B (length (close (coords s))) in omega (arith, p.room.output-room)
 
 pub slice_bounds-find_issue-end-2 : goal.slice_bounds-find_issue-end-2
 slice_bounds-find_issue-end-2 c = let p = c.requires in
     let s = c.args.ring.now in
-    let n = c.args.n in
-    let e = copied_front (2 * n) s c.copy_from_slice.new.self (drop (2 * n) c.args.out.now) p.room.lent c.copy_from_slice.ensures.after in
+    let n = length s / 2 in
+    let e = copied_front (2 * n) s c.copy_from_slice.new.self (drop (2 * n) c.args.out.now) (omega arith) c.copy_from_slice.ensures.after in
     let w = c.close-m.ensures in
-    let m : c.close-m.result ≡ length (close (coords (take (2 * n) s))) = w.count ∙ rw e in
-    let g = le-B (length (close (coords (take (2 * n) s)))) in omega (arith, p.room.output-room)
+    let m : c.close-m.result ≡ length (close (coords s)) = w.count ∙ rw (e, whole_ring s) in
+    let g = le-B (length (close (coords s))) in
+    sym (length-take-le (2 * c.close-m.result) c.close-m.new.ring (omega (arith, p.room.output-room)))
 
-pub slice_bounds-find_issue-end-3 : goal.slice_bounds-find_issue-end-3
-slice_bounds-find_issue-end-3 c = let p = c.requires in
+pub returns : goal.returns
+returns c = let p = c.requires in
     let s = c.args.ring.now in
-    let n = c.args.n in
-    let e = copied_front (2 * n) s c.copy_from_slice.new.self (drop (2 * n) c.args.out.now) p.room.lent c.copy_from_slice.ensures.after in
-    let w = c.close-m.ensures in
-    let m : c.close-m.result ≡ length (close (coords (take (2 * n) s))) = w.count ∙ rw e in
-    let g = le-B (length (close (coords (take (2 * n) s)))) in sym (length-take-le (2 * c.close-m.result) c.close-m.new.ring (omega (arith, p.room.output-room)))
+    let n = length s / 2 in
+    let e = copied_front (2 * n) s c.copy_from_slice.new.self (drop (2 * n) c.args.out.now) (omega arith) c.copy_from_slice.ensures.after in
+    let f = written-front c.close-m.ensures in c.find_issue-2.ensures.value ∙ rw (f, e, whole_ring s)
