@@ -54,6 +54,15 @@ find_issue-requires-2 c = let p = c.requires in
     let t = length-take-le (2 * c.close-m.result) c.close-m.new.ring (omega (arith, p.room.output-room)) in
     (omega (arith, t, p.room.scratch-room), omega (arith, t, p.positions), omega (arith, t, p.room.few))
 
+pub overflow_mul-m : goal.overflow_mul-m
+overflow_mul-m c = let p = c.requires in
+    let s = c.args.ring.now in
+    let n = length s / 2 in
+    let e = copied_front (2 * n) s c.copy_from_slice.new.self (drop (2 * n) c.args.out.now) (omega arith) c.copy_from_slice.ensures.after in
+    let w = c.close-m.ensures in
+    let m : c.close-m.result ≡ length (close (coords s)) = w.count ∙ rw (e, whole_ring s) in
+    let g = le-B (length (close (coords s))) in omega (arith, p.room.few)
+
 pub slice_bounds-find_issue-end : goal.slice_bounds-find_issue-end
 slice_bounds-find_issue-end c = let p = c.requires in
     let s = c.args.ring.now in

@@ -63,6 +63,13 @@ overflow_mul-m c = let k = c.clip_ring-clipped.auto in
     c.close_with_origins-m.ensures.ring (omega (arith, c.if-clipped-eq0.false)) in
     omega (arith, f, B-le _ c.requires.exterior_room.room.few)
 
+pub overflow_mul-m-2 : goal.overflow_mul-m-2
+overflow_mul-m-2 c = let k = c.clip_ring-clipped.auto in
+    let l = c.close_with_origins-m.auto in
+    let f = closed-fits c.args.ring.now _ _ c.requires.exterior_room.room c.args.bounds _ _ c.clip_ring-clipped.ensures.ring _ _
+    c.close_with_origins-m.ensures.ring (omega (arith, c.if-clipped-eq0.false)) in
+    omega (arith, f, B-le _ c.requires.exterior_room.room.few)
+
 pub slice_bounds-judge_cut-end : goal.slice_bounds-judge_cut-end
 slice_bounds-judge_cut-end c = let k = c.clip_ring-clipped.auto in
     let l = c.close_with_origins-m.auto in
