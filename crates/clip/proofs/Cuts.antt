@@ -8,7 +8,6 @@ use borrow.Author.Tests.{lt-ltb}
 use lib.Ieee.{Float}
 use lib.ListN.{length, take, drop}
 use lib.Seq.{take_at, length-take-le}
-use Rattle.std.proofs.lemmas.List.{take_all}
 use Rattle.std.specs.Prelude.{Option, None, Some}
 use Rattle.binary64.specs.Lists.{Every}
 use Rattle.tile.specs.declared.Coord.{Coord}
@@ -16,7 +15,7 @@ use Rattle.tile.specs.declared.TileBounds.{TileBounds}
 use Rattle.tile.specs.declared.Edge.{Edge}
 use Rattle.tile.specs.Ring.{coords, close}
 use Rattle.tile.specs.Internal.{Stands, Written}
-use Rattle.tile.proofs.Rings.{stands-front, length-close, close-most, coords-take, count-coords}
+use Rattle.tile.proofs.Rings.{stands-front, length-close, close-most, count-coords}
 use Rattle.box_pairs.specs.declared.Issue.{Issue}
 use Rattle.box_pairs.specs.Issue.{has_issue, issue_of}
 use Rattle.sutherland_hodgman.specs.Growth.{B, most_coordinates}
@@ -87,10 +86,6 @@ copied_front k from front rest h e = rw e (take_at (take k from) rest k (length-
 
 -- ---- a lent ring, closed and cut
 
--- the coordinates of a slice are those of its front that leaves an odd last number out
-pub whole_ring : (s : List Float) → coords (take (2 * (length s / 2)) s) ≡ coords s
-whole_ring s = coords-take (length s / 2) s ∙ take_all (length s / 2) (coords s) (omega (arith, count-coords s))
-
 module _ (s : List Float) (a b : ℕ) (room : RingRoom (coords s) a b) where
   pub lent-count : length s / 2 ≤ length (close (coords s))
   lent-count = omega (arith, count-coords s, length-close (coords s))
@@ -113,10 +108,7 @@ module _ (s : List Float) (a b : ℕ) (room : RingRoom (coords s) a b) where
         output-room = omega (arith, o.output-room);
       }
 
-  module _ (bounds : TileBounds) (k : ℕ) (after : List Float) (cut : RingCut bounds (coords (take (2 * (length s / 2)) s)) k after) where
-    c : RingCut bounds (coords s) k after
-    c = rw (whole_ring s) at cut
-
+  module _ (bounds : TileBounds) (k : ℕ) (after : List Float) (c : RingCut bounds (coords s) k after) where
     pub cut-ring : coords (take (2 * k) after) ≡ clip_ring bounds (close (coords s))
     cut-ring = stands-front c.stands ∙ sym (clip_close bounds (coords s) room.closes)
 
@@ -135,13 +127,16 @@ module _ (s : List Float) (a b : ℕ) (room : RingRoom (coords s) a b) where
       closed-fits h =
           omega (arith, closed-written.count, cut-count, cut_fits h, close-most (clip_ring bounds (close (coords s))))
 
+      pub closed-lent : 0 < k → 2 * r ≤ b
+      closed-lent h = omega (arith, closed-fits h, room.output-room)
+
       -- the origins, likewise
-      pub closed-origins : (os os' : List ℕ) → take k os ≡ clip_origins bounds (coords (take (2 * (length s / 2)) s))
+      pub closed-origins : (os os' : List ℕ) → take k os ≡ clip_origins bounds (coords s)
           → os' ≡ close_origins (coords (take (2 * k) after)) (take k os) ++ drop r os
           → take r os' ≡ exterior_origins bounds (close (coords s))
       closed-origins os os' e h =
           let ring = close (coords s) in
-          let o : take k os ≡ clip_origins bounds ring = (rw (whole_ring s) at e) ∙ sym (origins-close bounds (coords s) room.closes) in
+          let o : take k os ≡ clip_origins bounds ring = e ∙ sym (origins-close bounds (coords s) room.closes) in
           let q : os' ≡ exterior_origins bounds ring ++ drop r os = rw (cut-ring, o) at h in
           let m : length (exterior_origins bounds ring) ≡ r = exterior-origins-length bounds ring ∙ sym closed-written.count in
           rw q (take_at (exterior_origins bounds ring) (drop r os) r m)

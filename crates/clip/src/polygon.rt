@@ -197,15 +197,7 @@ fn route_cut(
     ensures origins { Internal.OriginsStand bounds (Ring.close (Ring.coords ring.now)) result
         out_origins.new }
 {
-    let clipped = clip_ring(
-        ring,
-        ring.len() / 2,
-        bounds,
-        scratch,
-        origin_scratch,
-        out,
-        out_origins,
-    );
+    let clipped = clip_ring(ring, bounds, scratch, origin_scratch, out, out_origins);
     if clipped == 0 {
         return Route::Nothing;
     }
@@ -277,15 +269,7 @@ pub fn clip_hole(
     ensures origins { take result out_origins.new
         ≡ Origins.hole_origins bounds (Ring.close (Ring.coords ring.now)) }
 {
-    let clipped = clip_ring(
-        ring,
-        ring.len() / 2,
-        bounds,
-        scratch,
-        origin_scratch,
-        out,
-        out_origins,
-    );
+    let clipped = clip_ring(ring, bounds, scratch, origin_scratch, out, out_origins);
     if clipped < SHORTEST_HOLE {
         return 0;
     }

@@ -134,7 +134,6 @@ pub extern "C" fn probe_clip_ring(
         Err(_) => 0,
         Ok(()) => clip_ring(
             ring,
-            ring.len() / 2,
             bounds_at(bounds),
             scratch,
             origin_scratch,

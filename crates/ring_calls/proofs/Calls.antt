@@ -68,9 +68,6 @@ passes_cuttable numbers scratch origin_scratch out out_origins e =
 
 -- ---- cut, and the rest cleared
 
-pub whole-ring : (ring : List Float) → 2 * (length ring / 2) ≡ length ring → coords (take (2 * (length ring / 2)) ring) ≡ coords ring
-whole-ring ring numbers = rw (numbers, take-length ring)
-
 -- a slice at whose front so many elements are the answer, and whose rest is cleared
 pub rest_cleared : {A : Type 0} (zero : A) (new part fill : List A) (used : ℕ) → take used part ≡ new
     → fill ≡ replicate (length (take (length part - used) (drop used part))) zero
@@ -126,22 +123,19 @@ module _ (ring : List Float) (bounds : TileBounds) (lent : RingSlices) where
   -- where no check fails, and the ring is cut in the parts of the outputs that 22 asks for
   module _ (passes : ring_call_check ring lent ≡ Ok tt) (room : ℕ) (is : room ≡ B (length ring / 2)) (r : ℕ) (part : List Float)
       (origins : List ℕ)
-      (cut : PaddedCut bounds (coords (take (2 * (length ring / 2)) ring)) (length (take (2 * room) lent.output)) r part)
-      (traced : PaddedOrigins bounds (coords (take (2 * (length ring / 2)) ring)) (length (take room lent.out_origins)) r origins) where
-    whole : coords (take (2 * (length ring / 2)) ring) ≡ coords ring
-    whole = whole-ring ring (passes_cuttable (length ring) _ _ _ _ passes).even
-
+      (cut : PaddedCut bounds (coords ring) (length (take (2 * room) lent.output)) r part)
+      (traced : PaddedOrigins bounds (coords ring) (length (take room lent.out_origins)) r origins) where
     cut-whole : PaddedCut bounds (coords ring) (2 * room) r part
     cut-whole =
         let p = passes_cuttable (length ring) _ _ _ _ passes in
         let l = length-take-le (2 * room) lent.output (omega (arith, is, p.output-room)) in
-        rw (whole, l) at cut
+        rw l at cut
 
     traced-whole : PaddedOrigins bounds (coords ring) room r origins
     traced-whole =
         let p = passes_cuttable (length ring) _ _ _ _ passes in
         let l = length-take-le room lent.out_origins (omega (arith, is, p.origin-output-room)) in
-        rw (whole, l) at traced
+        rw l at traced
 
     pub clipped-answer : Ok r ≡ ring_call_answer ring bounds lent
     unfolding ring_call_answer

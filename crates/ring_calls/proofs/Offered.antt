@@ -23,7 +23,7 @@ not-refused = calls.not-refused
 pub cleared : {A : Type 0} (zero : A) (m n : ℕ) (l : List A) → l ≡ replicate m zero → m ≡ n → l ≡ replicate n zero
 cleared = calls.cleared
 
--- a ring that a ring call does not refuse has room for the cutter, and is all of what is lent
+-- a ring that a ring call does not refuse has room for the cutter
 pub lent-room : (ring : List Float) (lent : RingSlices) → ring_call_check ring lent ≡ Ok tt
     → CutterRoom (length ring / 2) (length ring) (length lent.scratch) (length lent.output)
     × OriginRoom (length ring / 2) (length lent.origin_scratch) (length lent.out_origins)
@@ -32,10 +32,6 @@ lent-room ring lent e =
       record { vertices = omega (arith, p.even); scratch-room = p.scratch-room; output-room = p.output-room },
       record { positions = p.few; scratch-room = p.origin-scratch-room; output-room = p.origin-output-room },
     )
-
-pub lent-whole : (ring : List Float) (lent : RingSlices) → ring_call_check ring lent ≡ Ok tt
-    → coords (take (2 * (length ring / 2)) ring) ≡ coords ring
-lent-whole ring lent e = calls.whole-ring ring (calls.passes_cuttable (length ring) _ _ _ _ e).even
 
 -- a ring call answers fewer than 2^19 coordinates, so that the count fits an i64
 pub answer-few : (ring : List Float) (bounds : TileBounds) (lent : RingSlices) (n : ℕ) → ring_call_answer ring bounds lent ≡ Ok n

@@ -2,7 +2,7 @@
 // open to callers and refuses what it can't cut.
 #![tactic(auto)]
 
-ghost use Rattle.std.specs.Prelude.{◌≡◌, ◌*◌, length, take};
+ghost use Rattle.std.specs.Prelude.{◌≡◌, ◌/◌, length};
 ghost use Rattle.tile.specs.Ring.{coords};
 ghost use Rattle.sutherland_hodgman.specs.Internal.{CutterRoom, OriginRoom};
 ghost use Rattle.ring_calls.specs.RingCall.{refusal_number, check_ring, ring_slices, ring_call_answer, ring_call_slices, RingCallPromise};
@@ -67,23 +67,23 @@ pub fn check_ring(
     Ok(())
 }
 
-// Cuts the ring of n vertices at the front of a slice as `clip_ring` does, and fills the output past the cut with zeros, and the slice of
-// its origins likewise. The scratch slices hold what the passes left there.
+// Cuts a ring as `clip_ring` does, and fills the output past the cut with zeros, and the slice of its origins likewise. The scratch slices
+// hold what the passes left there.
 fn clip_padded(
     ring: &[f64],
-    n: usize,
     bounds: TileBounds,
     scratch: &mut [f64],
     origin_scratch: &mut [u16],
     out: &mut [f64],
     out_origins: &mut [u16],
 ) -> usize
-    requires cutter_room { CutterRoom n (length ring.now) (length scratch.old) (length out.old) }
-    requires origin_room { OriginRoom n (length origin_scratch.old) (length out_origins.old) }
-    ensures ring { PaddedCut bounds (coords (take (2 * n) ring.now)) (length out.old) result out.new }
-    ensures origins { PaddedOrigins bounds (coords (take (2 * n) ring.now)) (length out_origins.old) result
+    requires cutter_room { CutterRoom (length ring.now / 2) (length ring.now) (length scratch.old) (length out.old) }
+    requires origin_room { OriginRoom (length ring.now / 2) (length origin_scratch.old) (length out_origins.old) }
+    ensures ring { PaddedCut bounds (coords ring.now) (length out.old) result out.new }
+    ensures origins { PaddedOrigins bounds (coords ring.now) (length out_origins.old) result
         out_origins.new }
 {
+    let n = ring.len() / 2;
     let bottom = clip_three_edges(ring, n, bounds, scratch, origin_scratch, out, out_origins);
     let len = clip_top(scratch, origin_scratch, bottom, bounds, out, out_origins);
     let used = 2 * len;
@@ -123,7 +123,6 @@ pub fn ring(
     let room = 2 * origin_room;
     let len = clip_padded(
         ring,
-        n,
         bounds,
         scratch,
         origin_scratch,

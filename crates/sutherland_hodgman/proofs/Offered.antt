@@ -1,13 +1,14 @@
 -- Laws that this crate offers to those above it beside its contracts. By these they know the cut of a ring, and the room that it takes;
 -- they unfold neither. Assumes nothing.
-use mathlib.Core.Path.{◌≡◌, refl}
+use mathlib.Core.Path.{◌≡◌, refl, ◌∙◌}
 use mathlib.Core.Bool.{true}
 use mathlib.Core.List.{List, [], ◌∷◌}
-use Prim.Native.Nat.{ℕ, zero, suc, ◌+◌, ◌*◌, ◌<◌, ◌≤◌}
+use Prim.Native.Nat.{ℕ, zero, suc, ◌+◌, ◌*◌, ◌/◌, ◌<◌, ◌≤◌}
 use native.Mathlib.Omega.{arith}
 use lib.Dec.{T}
 use lib.Ieee.{Float, nan, binary64, fits}
 use lib.ListN.{length, get_or, take}
+use Rattle.std.proofs.lemmas.List.{take_all}
 use Rattle.binary64.specs.Lists.{Every}
 use Rattle.tile.specs.declared.Coord.{Coord}
 use Rattle.tile.specs.declared.TileBounds.{TileBounds}
@@ -15,7 +16,7 @@ use Rattle.tile.specs.declared.Edge.{Edge}
 use Rattle.tile.specs.declared.Edge.TheVariants.{Top}
 use Rattle.tile.specs.Ring.{coords, closed, close}
 use Rattle.tile.specs.Internal.{Stands}
-use Rattle.tile.proofs.Rings.{length_front}
+use Rattle.tile.proofs.Rings.{length_front, coords-take, count-coords}
 use Rattle.cutting_lines.specs.CuttingLines.{fixed, bound}
 use Rattle.edge_pass.specs.Pass.{leave_off, around, pass}
 use Rattle.edge_pass.specs.Growth.{half_growth}
@@ -169,6 +170,10 @@ origins_fit = laws.origins_fit
 
 pub close-fits : (r : List Coord) (os : List ℕ) → Every Fits16 os → Every Fits16 (close_origins r os)
 close-fits = laws.close-fits
+
+-- the coordinates of a slice are those of its front that leaves an odd last number out
+pub whole_ring : (s : List Float) → coords (take (2 * (length s / 2)) s) ≡ coords s
+whole_ring s = coords-take (length s / 2) s ∙ take_all (length s / 2) (coords s) (omega (arith, count-coords s))
 
 -- ---- the passes in two: the first three, and the last with the closing
 

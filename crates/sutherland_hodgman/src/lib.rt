@@ -2,7 +2,7 @@
 // kept stands its origin.
 #![tactic(auto)]
 
-ghost use Rattle.std.specs.Prelude.{◌≡◌, ◌++◌, ◌+◌, ◌*◌, ◌≤◌, ◌<◌, length, take, drop};
+ghost use Rattle.std.specs.Prelude.{◌≡◌, ◌++◌, ◌+◌, ◌*◌, ◌/◌, ◌≤◌, ◌<◌, length, take, drop};
 ghost use Rattle.tile.specs.Ring.{coords};
 ghost use Rattle.tile.specs.Internal.{Stands, Written};
 ghost use Rattle.edge_pass.specs.Pass.{pass};
@@ -22,6 +22,8 @@ pub mod origins;
 // Stays four lent slices with their room in the clauses: two fields behind one `&mut` can't be lent in one call.
 
 // Fewer than three vertices are none; else the ring is closed.
+// Stays with a count beside, and so do the passes: each reads what the one before left at the front of a longer slice, and closing writes
+// behind it.
 fn finish(ring: &mut [f64], origins: &mut [u16], n: usize) -> usize
     requires numbers_room { (2 * n ≤ length ring.old) × (3 ≤ n → 2 * n + 2 ≤ length ring.old) }
     requires origins_room { (n ≤ length origins.old) × (3 ≤ n → n + 1 ≤ length origins.old) }
@@ -114,23 +116,23 @@ pub fn clip_top(
     finish(out, out_origins, top.len)
 }
 
-// Cuts the ring of n vertices at the front of a slice at all four edges. The output serves for every second pass; the result stands at its
-// front, its origins at the front of their slice, and the answer is its length. Demand 3 holds of it. What lies past it in the output, and
-// all of the scratch slice, is left open, and so it is with the slices of the origins.
+// Cuts a ring at all four edges. The output serves for every second pass; the result stands at its front, its origins at the front of
+// their slice, and the answer is its length. Demand 3 holds of it. What lies past it in the output, and all of the scratch slice, is left
+// open, and so it is with the slices of the origins.
 pub fn clip_ring(
     ring: &[f64],
-    n: usize,
     bounds: TileBounds,
     scratch: &mut [f64],
     origin_scratch: &mut [u16],
     out: &mut [f64],
     out_origins: &mut [u16],
 ) -> usize
-    requires cutter_room { CutterRoom n (length ring.now) (length scratch.old) (length out.old) }
-    requires origin_room { OriginRoom n (length origin_scratch.old) (length out_origins.old) }
-    ensures ring { RingCut bounds (coords (take (2 * n) ring.now)) result out.new }
-    ensures origins { take result out_origins.new ≡ Origins.clip_origins bounds (coords (take (2 * n) ring.now)) }
+    requires cutter_room { CutterRoom (length ring.now / 2) (length ring.now) (length scratch.old) (length out.old) }
+    requires origin_room { OriginRoom (length ring.now / 2) (length origin_scratch.old) (length out_origins.old) }
+    ensures ring { RingCut bounds (coords ring.now) result out.new }
+    ensures origins { take result out_origins.new ≡ Origins.clip_origins bounds (coords ring.now) }
 {
+    let n = ring.len() / 2;
     let len = clip_three_edges(ring, n, bounds, scratch, origin_scratch, out, out_origins);
     clip_top(scratch, origin_scratch, len, bounds, out, out_origins)
 }

@@ -1,32 +1,30 @@
 -- `clip_padded` meets its contract: the cut and its origins have room in their outputs, and the rest of these is cleared. Assumes nothing.
 use mathlib.Core.Path.{◌≡◌, ◌∙◌}
-use Prim.Native.Nat.{◌*◌, ◌≤◌}
+use Prim.Native.Nat.{◌*◌, ◌/◌, ◌≤◌}
 use native.Mathlib.Omega.{arith}
 use lib.Ieee.{of_bits}
 use lib.ListN.{length, take}
 use borrow.Author.Rules.{rules}
 use Rattle.tile.specs.Ring.{coords}
-use Rattle.tile.proofs.Rings.{length_front}
+use Rattle.tile.proofs.Rings.{count-coords}
 use Rattle.sutherland_hodgman.specs.Growth.{B, most_coordinates}
 use Rattle.sutherland_hodgman.specs.Internal.{RingCut}
 use Rattle.sutherland_hodgman.specs.Origins.{clip_origins}
-use Rattle.sutherland_hodgman.proofs.Offered.{B-le, last-room, last-origin-room, last-cut, last-origins}
+use Rattle.sutherland_hodgman.proofs.Offered.{B-le, last-room, last-origin-room, last-cut, last-origins, whole_ring}
 use Rattle.ring_calls.proofs.Calls.{cut-room, cut-padded, rest_cleared}
 use Rattle.ring_calls.proofs.clip_padded.Goals as goal
 use Rattle.ring_calls.proofs.clip_padded.Goals.{After-clip_top-len}
 
 -- what the two leave in the outputs is the cut with its origins, and the outputs are as long as they were
 record Done (c : After-clip_top-len) : Type 0 where
-  cut : RingCut c.args.bounds (coords (take
-      (2 * c.args.n) c.args.ring.now))
+  cut : RingCut c.args.bounds (coords c.args.ring.now)
       c.clip_top-len.result c.clip_top-len.new.out
   origins : take c.clip_top-len.result c.clip_top-len.new.out_origins
-      ≡ clip_origins c.args.bounds (coords
-      (take (2 * c.args.n) c.args.ring.now))
+      ≡ clip_origins c.args.bounds (coords c.args.ring.now)
   same : length c.clip_top-len.new.out ≡ length c.args.out.now
   origins-same : length c.clip_top-len.new.out_origins ≡ length c.args.out_origins.now
-  within : c.clip_top-len.result ≤ B c.args.n
-  few : B c.args.n ≤ 8 * most_coordinates
+  within : c.clip_top-len.result ≤ B (length c.args.ring.now / 2)
+  few : B (length c.args.ring.now / 2) ≤ 8 * most_coordinates
 
 done : (c : After-clip_top-len) → Done c
 done c =
@@ -34,22 +32,24 @@ done c =
     let e = c.clip_three_edges-bottom.ensures in
     let t = c.clip_top-len.ensures in
     let doubles = c.shared_slice_known-1.given in
-    let cut = last-cut c.args.bounds s c.args.n _ _ e.ring (search rules, search rules, search rules, search rules) doubles _ _
+    let cut = last-cut c.args.bounds s (length c.args.ring.now / 2) _ _ e.ring (search rules, search rules, search rules, search rules) doubles _ _
     t.ring in
+    let whole : RingCut c.args.bounds (coords s) _ _ = rw (whole_ring s) at cut in
+    let origins = last-origins c.args.bounds s (length s / 2) _ _ e.ring _ _ e.origins t.origins in
     record {
-      cut = cut;
-      origins = last-origins c.args.bounds s c.args.n _ _ e.ring _ _ e.origins t.origins;
+      cut = whole;
+      origins = rw (whole_ring s) at origins;
       same = c.clip_top-len.auto.out ∙ c.clip_three_edges-bottom.auto.out;
       origins-same = c.clip_top-len.auto.out_origins ∙ c.clip_three_edges-bottom.auto.out_origins;
-      within = cut-room c.args.bounds _ c.args.n (length_front s c.args.n c.requires.cutter_room.vertices) _ _ cut;
-      few = B-le c.args.n c.requires.origin_room.positions;
+      within = cut-room c.args.bounds _ (length c.args.ring.now / 2) (count-coords s) _ _ whole;
+      few = B-le (length c.args.ring.now / 2) c.requires.origin_room.positions;
     }
 
 pub clip_top-len-requires-clause-numbers_room : goal.clip_top-len-requires-clause-numbers_room
 clip_top-len-requires-clause-numbers_room c = let p = c.requires.cutter_room in
     let q = c.requires.origin_room in
     let k = c.clip_three_edges-bottom.auto in
-    let t = c.clip_three_edges-bottom.ensures.ring in last-room c.args.bounds c.args.ring.now c.args.n _ _ t (record {
+    let t = c.clip_three_edges-bottom.ensures.ring in last-room c.args.bounds c.args.ring.now (length c.args.ring.now / 2) _ _ t (record {
       vertices = p.vertices;
       scratch-room = omega (arith, p.scratch-room, k);
       output-room = omega (arith, p.output-room, k);
@@ -59,7 +59,7 @@ pub clip_top-len-requires-clause-origins_room : goal.clip_top-len-requires-claus
 clip_top-len-requires-clause-origins_room c = let p = c.requires.cutter_room in
     let q = c.requires.origin_room in
     let k = c.clip_three_edges-bottom.auto in
-    let t = c.clip_three_edges-bottom.ensures.ring in last-origin-room c.args.bounds c.args.ring.now c.args.n _ _ t p.vertices (record {
+    let t = c.clip_three_edges-bottom.ensures.ring in last-origin-room c.args.bounds c.args.ring.now (length c.args.ring.now / 2) _ _ t p.vertices (record {
       positions = q.positions;
       scratch-room = omega (arith, q.scratch-room, k);
       output-room = omega (arith, q.output-room, k);
@@ -109,8 +109,8 @@ slice_bounds-fill-start-2 c = let d = done (goal.at.slice_bounds-fill-start-2 c)
 pub returns-clause-ring : goal.returns-clause-ring
 unfolding of_bits
 returns-clause-ring c = let s = c.args.ring.now in
-    let d = done (goal.at.returns-clause-ring c).After-clip_top-len in rw (← d.same) (cut-padded c.args.bounds (coords (take (2 * c.args.n) s)) c.args.n
-    (length_front s c.args.n c.requires.cutter_room.vertices) _ _ d.cut _
+    let d = done (goal.at.returns-clause-ring c).After-clip_top-len in rw (← d.same) (cut-padded c.args.bounds (coords s) (length c.args.ring.now / 2)
+    (count-coords s) _ _ d.cut _
     (c.fill.ensures.after (λ y e. e)))
 
 pub returns-clause-origins : goal.returns-clause-origins

@@ -6,8 +6,8 @@ use lib.ListN.{length, drop, length-append, length-drop}
 use lib.Seq.{length-take-le}
 use Rattle.tile.specs.Ring.{coords, close}
 use Rattle.tile.proofs.Rings.{close-closed, count_open, count-coords, written-front}
-use Rattle.sutherland_hodgman.proofs.Offered.{le-B}
-use Rattle.clip.proofs.Cuts.{lent-count, copied_front, output-lent, whole_ring}
+use Rattle.sutherland_hodgman.proofs.Offered.{le-B, whole_ring}
+use Rattle.clip.proofs.Cuts.{lent-count, copied_front, output-lent}
 use Rattle.clip.proofs.polygon.closed_issue.Goals as goal
 
 pub find_issue-requires : goal.find_issue-requires

@@ -9,7 +9,7 @@ use Rattle.tile.specs.Ring.{coords, close}
 use Rattle.tile.proofs.Rings.{length_front, written_stands, written-front}
 use Rattle.sutherland_hodgman.proofs.Offered.{B-le}
 use Rattle.clip.specs.Polygon.{route_cut}
-use Rattle.clip.proofs.Cuts.{cutter_room, origin-room, cut-count, cut_fits, closed-written, closed-fits, closed-origins, closed_some}
+use Rattle.clip.proofs.Cuts.{cutter_room, origin-room, cut-count, cut_fits, closed-written, closed-fits, closed-lent, closed-origins, closed_some}
 use Rattle.clip.proofs.Cuts.{judged_route, judged_stands, judged_origins}
 use Rattle.clip.proofs.polygon.route_cut.Goals as goal
 
@@ -57,9 +57,7 @@ slice_bounds-find_issue-end-2 c = let k = c.clip_ring-clipped.auto in
     sym (length-take-le (2 * c.close_with_origins-m.result) c.close_with_origins-m.new.ring (omega (arith, k, l, f, c.requires.exterior_room.room.output-room)))
 
 pub overflow_mul-m : goal.overflow_mul-m
-overflow_mul-m c = let k = c.clip_ring-clipped.auto in
-    let l = c.close_with_origins-m.auto in
-    let f = closed-fits c.args.ring.now _ _ c.requires.exterior_room.room c.args.bounds _ _ c.clip_ring-clipped.ensures.ring _ _
+overflow_mul-m c = let f = closed-fits c.args.ring.now _ _ c.requires.exterior_room.room c.args.bounds _ _ c.clip_ring-clipped.ensures.ring _ _
     c.close_with_origins-m.ensures.ring (omega (arith, c.if-clipped-eq0.false)) in
     omega (arith, f, B-le _ c.requires.exterior_room.room.few)
 
@@ -71,19 +69,15 @@ overflow_mul-m-2 c = let k = c.clip_ring-clipped.auto in
     omega (arith, f, B-le _ c.requires.exterior_room.room.few)
 
 pub slice_bounds-judge_cut-end : goal.slice_bounds-judge_cut-end
-slice_bounds-judge_cut-end c = let k = c.clip_ring-clipped.auto in
-    let l = c.close_with_origins-m.auto in
-    let f = closed-fits c.args.ring.now _ _ c.requires.exterior_room.room c.args.bounds _ _ c.clip_ring-clipped.ensures.ring _ _
+slice_bounds-judge_cut-end c = let f = closed-lent c.args.ring.now _ _ c.requires.exterior_room.room c.args.bounds _ _ c.clip_ring-clipped.ensures.ring _ _
     c.close_with_origins-m.ensures.ring (omega (arith, c.if-clipped-eq0.false)) in
-    omega (arith, k, l, f, c.requires.exterior_room.room.output-room)
+    omega (arith, f, c.clip_ring-clipped.auto, c.close_with_origins-m.auto)
 
 pub slice_bounds-judge_cut-end-2 : goal.slice_bounds-judge_cut-end-2
-slice_bounds-judge_cut-end-2 c = let k = c.clip_ring-clipped.auto in
-    let l = c.close_with_origins-m.auto in
-    let f = closed-fits c.args.ring.now _ _ c.requires.exterior_room.room c.args.bounds _ _ c.clip_ring-clipped.ensures.ring _ _
+slice_bounds-judge_cut-end-2 c = let f = closed-lent c.args.ring.now _ _ c.requires.exterior_room.room c.args.bounds _ _ c.clip_ring-clipped.ensures.ring _ _
     c.close_with_origins-m.ensures.ring (omega (arith, c.if-clipped-eq0.false)) in
     sym (length-take-le (2 * c.close_with_origins-m.result) c.close_with_origins-m.new.ring
-    (omega (arith, k, l, f, c.requires.exterior_room.room.output-room)))
+    (omega (arith, f, c.clip_ring-clipped.auto, c.close_with_origins-m.auto)))
 
 pub returns-clause-route : goal.returns-clause-route
 returns-clause-route c = let s = c.args.ring.now in
@@ -92,10 +86,9 @@ returns-clause-route c = let s = c.args.ring.now in
     let ring = close (coords s) in
     let e = c.close_with_origins-m.ensures in
     let w = closed-written s _ _ c.requires.exterior_room.room c.args.bounds _ _ cut.ring _ _ e.ring in
-    let k = c.clip_ring-clipped.auto in
-    let l = c.close_with_origins-m.auto in
-    let f = closed-fits s _ _ c.requires.exterior_room.room c.args.bounds _ _ cut.ring _ _ e.ring (omega (arith, c.if-clipped-eq0.false)) in
-    let fits : 2 * c.close_with_origins-m.result ≤ length c.close_with_origins-m.new.ring = omega (arith, k, l, f, c.requires.exterior_room.room.output-room) in
+    let f = closed-lent s _ _ c.requires.exterior_room.room c.args.bounds _ _ cut.ring _ _ e.ring h in
+    let fits : 2 * c.close_with_origins-m.result ≤ length c.close_with_origins-m.new.ring =
+    omega (arith, f, c.clip_ring-clipped.auto, c.close_with_origins-m.auto) in
     let is = rw (length_front _ _ fits) at c.judge_cut.ensures in judged_route c.args.flags c.args.bounds ring _ _ _ _ is
     (omega (arith, cut-count s _ _ c.requires.exterior_room.room c.args.bounds _ _ cut.ring, h)) (written-front w)
     c.find_issue-issue.ensures.value w.count
@@ -107,10 +100,9 @@ returns-clause-cut c = let s = c.args.ring.now in
     let ring = close (coords s) in
     let e = c.close_with_origins-m.ensures in
     let w = closed-written s _ _ c.requires.exterior_room.room c.args.bounds _ _ cut.ring _ _ e.ring in
-    let k = c.clip_ring-clipped.auto in
-    let l = c.close_with_origins-m.auto in
-    let f = closed-fits s _ _ c.requires.exterior_room.room c.args.bounds _ _ cut.ring _ _ e.ring (omega (arith, c.if-clipped-eq0.false)) in
-    let fits : 2 * c.close_with_origins-m.result ≤ length c.close_with_origins-m.new.ring = omega (arith, k, l, f, c.requires.exterior_room.room.output-room) in
+    let f = closed-lent s _ _ c.requires.exterior_room.room c.args.bounds _ _ cut.ring _ _ e.ring h in
+    let fits : 2 * c.close_with_origins-m.result ≤ length c.close_with_origins-m.new.ring =
+    omega (arith, f, c.clip_ring-clipped.auto, c.close_with_origins-m.auto) in
     let is = rw (length_front _ _ fits) at c.judge_cut.ensures in judged_stands c.args.flags c.args.bounds ring _ _ _ _ is _ (written_stands w)
     (closed_some s _ _ c.requires.exterior_room.room c.args.bounds _ _ cut.ring _ _ e.ring h)
 
@@ -121,9 +113,8 @@ returns-clause-origins c = let s = c.args.ring.now in
     let ring = close (coords s) in
     let e = c.close_with_origins-m.ensures in
     let w = closed-written s _ _ c.requires.exterior_room.room c.args.bounds _ _ cut.ring _ _ e.ring in
-    let k = c.clip_ring-clipped.auto in
-    let l = c.close_with_origins-m.auto in
-    let f = closed-fits s _ _ c.requires.exterior_room.room c.args.bounds _ _ cut.ring _ _ e.ring (omega (arith, c.if-clipped-eq0.false)) in
-    let fits : 2 * c.close_with_origins-m.result ≤ length c.close_with_origins-m.new.ring = omega (arith, k, l, f, c.requires.exterior_room.room.output-room) in
+    let f = closed-lent s _ _ c.requires.exterior_room.room c.args.bounds _ _ cut.ring _ _ e.ring h in
+    let fits : 2 * c.close_with_origins-m.result ≤ length c.close_with_origins-m.new.ring =
+    omega (arith, f, c.clip_ring-clipped.auto, c.close_with_origins-m.auto) in
     let is = rw (length_front _ _ fits) at c.judge_cut.ensures in judged_origins c.args.flags c.args.bounds ring _ _ _ _ is _
     (closed-origins s _ _ c.requires.exterior_room.room c.args.bounds _ _ cut.ring _ _ e.ring _ _ cut.origins e.origins)
