@@ -127,6 +127,8 @@ impl From<Reason> for ReasonDetail {
     }
 }
 
+// Stays a clause, the room for a ring: it is a relation of the ring and of four lent slices, which no one value holds.
+
 // The issue of a ring, closed. A ring that is not lent closed is closed in the output.
 fn closed_issue(
     ring: &[f64],

@@ -29,6 +29,8 @@ pub enum PartAnswer {
     Listed(usize),
 }
 
+// Stays six working slices with their room in the clauses: two fields behind one `&mut` can't be lent in one call.
+
 // How far the rings of a part are written: how many, and where the next stands in the output.
 #[derive(Clone, Copy)]
 struct RingCursor {

@@ -21,6 +21,8 @@ const ANSWER_ROOM: usize = 12 * LONGEST;
 
 pub const LINE_ROOM: usize = 2 * ANSWER_ROOM + 1;
 
+// Stays a clause, the room of a line: it is asked of the caller's own array.
+
 // Writes a refusal's bytes: its number stands where an answer that lists nothing has its own.
 fn refuse(out: &mut [u8], number: u8) -> usize
     requires { least_room ≤ length out.old }
