@@ -1,5 +1,5 @@
 -- What the call answers and leaves in the output, case by case. Assumes nothing.
-use mathlib.Core.Path.{◌≡◌, sym, ◌∙◌, ap}
+use mathlib.Core.Path.{◌≡◌, refl, sym, ◌∙◌, ap}
 use mathlib.Core.Bool.{Bool, true, false}
 use mathlib.Core.List.{List}
 use Prim.Native.Nat.{ℕ, ◌+◌, ◌*◌, ◌-◌, ◌/◌, ◌%◌, ◌≤◌, ◌<◌}
@@ -8,12 +8,11 @@ use borrow.Author.Tests.{lt-ltb, le-ltb, eq-eqb, ne_eqb}
 use lib.Dec.{ltb}
 use lib.Ieee.{Float}
 use lib.ListN.{length, take}
-use lib.Seq.{take_all}
 use Rattle.std.specs.Prelude.{Result, Ok, Err}
 use Rattle.tile.specs.declared.Coord.{Coord}
 use Rattle.tile.specs.Ring.{coords, flat, close}
 use Rattle.tile.specs.Internal.{Written}
-use Rattle.tile.proofs.Rings.{length-flat, length_front, close-most, written-front}
+use Rattle.tile.proofs.Rings.{length-flat, count-coords, close-most, written-front}
 use Rattle.sutherland_hodgman.specs.Growth.{most_coordinates}
 use Rattle.mend.specs.declared.MendRefusal.{MendRefusal}
 use Rattle.mend.specs.declared.MendRefusal.TheVariants.{Lengths, Coordinates, Output, Short}
@@ -37,18 +36,17 @@ module _ (s out : List Float) where
   refused-lengths e = refused Lengths (rw (eq-eqb _ _ e))
 
   -- m coordinates stand in the closed ring
-  module _ (even : length s % 2 ≡ 1 → ⊥) (m : ℕ) (count : m ≡ length (close (coords (take (2 * (length s / 2)) s)))) where
-    whole : close (coords (take (2 * (length s / 2)) s)) ≡ closed_ring s
+  module _ (even : length s % 2 ≡ 1 → ⊥) (m : ℕ) (count : m ≡ length (close (coords s))) where
+    whole : close (coords s) ≡ closed_ring s
     unfolding closed_ring
-    whole = ap (λ (t : List Float). close (coords t)) (take_all (2 * (length s / 2)) s (omega (arith, even)))
+    whole = refl
 
     pub closed-count : length (closed_ring s) ≡ m
     closed-count = sym (count ∙ ap length whole)
 
     -- closing adds at most one
     pub closed-most : m ≤ length s / 2 + 1
-    closed-most =
-        omega (arith, count, close-most (coords (take (2 * (length s / 2)) s)), length_front s (length s / 2) (omega (arith, even)))
+    closed-most = omega (arith, count, close-most (coords s), count-coords s)
 
     pub refused-coordinates : most_coordinates < m → Outcome s out (Err Coordinates) out
     unfolding mend_call_answer
@@ -70,7 +68,7 @@ module _ (s out : List Float) where
         refused-few h =
             refused Short (remaining true (lt-ltb (length (mended_ring s)) 4 (omega (arith, none_more (closed_ring s), closed-count))))
 
-        module _ (closing : Coord) (by : close (coords (take (2 * (length s / 2)) s)) ≡ closed_by s (m - 1) closing) where
+        module _ (closing : Coord) (by : close (coords s) ≡ closed_by s (m - 1) closing) where
           same : mend (closed_by s (m - 1) closing) ≡ mended_ring s
           unfolding mended_ring
           same = ap mend (sym by ∙ whole)
@@ -90,5 +88,5 @@ module _ (s out : List Float) where
 
         pub refused_short : 4 ≤ m → FewKept s (m - 1) true → Outcome s out (Err Short) out
         refused_short four few =
-            let c = closes s (length s / 2) m (omega (arith, even)) (omega (arith, four, closed-most)) count in
+            let c = closes s m (omega (arith, four, closed-most, count-coords s)) count in
             refused Short (remaining true (few_remain c.0 c.1 true few))

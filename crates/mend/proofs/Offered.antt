@@ -27,7 +27,7 @@ module _ (s out : List Float) (n : ℕ) (e : mend_call_answer s out ≡ Ok n) wh
   mended_count = lengths (eqb (length s % 2) 1) refl
     where
       m : ℕ
-      m = length (close (coords (take (2 * (length s / 2)) s)))
+      m = length (close (coords s))
 
       remain : (length s % 2 ≡ 1 → ⊥) → m ≤ most_coordinates → 2 * m ≤ length out → (t : Bool) → ltb (length (mended_ring s)) 4 ≡ t
           → (4 ≤ n) × (n ≤ most_coordinates)

@@ -3,7 +3,7 @@
 use mathlib.Core.Path.{◌≡◌, refl, sym, ◌∙◌, ap}
 use mathlib.Core.Bool.{Bool, true, false}
 use mathlib.Core.List.{List, [], ◌∷◌}
-use Prim.Native.Nat.{ℕ, suc, ◌+◌, ◌*◌, ◌-◌, ◌≤◌, ◌<◌}
+use Prim.Native.Nat.{ℕ, suc, ◌+◌, ◌*◌, ◌-◌, ◌/◌, ◌≤◌, ◌<◌}
 use native.Mathlib.Numerals.{add-one}
 use native.Mathlib.Omega.{arith}
 use lib.Dec.{ltb, eqb}
@@ -15,7 +15,9 @@ use Rattle.binary64.proofs.Fill.{whole-over}
 use Rattle.tile.specs.declared.Coord.{Coord}
 use Rattle.tile.specs.Ring.{coords, flat, closed, close}
 use Rattle.tile.specs.Internal.{coord_at, Written}
-use Rattle.tile.proofs.Rings.{length-flat, length_front, front_at, front-front, close-closed, close_open, count-closed, count_open}
+use Rattle.tile.proofs.Rings.{length-flat, length_front, front_at, count-coords, coords-at, coords-take, close-closed, close_open}
+use Rattle.tile.proofs.Rings.{count-closed, count_open}
+use Rattle.sutherland_hodgman.proofs.Offered.{whole_ring}
 use Rattle.box_pairs.specs.Cross.{degenerate}
 use Rattle.mend.specs.Mend.{kept_after, mend}
 use Rattle.mend.specs.Internal.{closed_by, NextKept, FewKept}
@@ -143,36 +145,39 @@ module _ (s : List Float) (end : ℕ) (fits : 2 * end ≤ length s) where
 
 -- ---- the closed ring, by its last coordinate
 
-module _ (s : List Float) (n m : ℕ) (fits : 2 * n ≤ length s) (some : 0 < n) (count : m ≡ length (close (coords (take (2 * n) s)))) where
+module _ (s : List Float) (m : ℕ) (some : 0 < length (coords s)) (count : m ≡ length (close (coords s))) where
   abbrev ring : List Coord
-  ring = coords (take (2 * n) s)
+  ring = coords s
+
+  abbrev n : ℕ
+  n = length s / 2
 
   pub closed_own : m ≡ n → close ring ≡ closed_by s (m - 1) (coord_at s (n - 1))
   closed_own e = go (closed ring) refl
     where
       l : length ring ≡ n
-      l = length_front s n fits
+      l = count-coords s
 
       go : (t : Bool) → closed ring ≡ t → close ring ≡ closed_by s (m - 1) (coord_at s (n - 1))
       go false h = absurd (omega (arith, count, count_open ring h, l))
       go true h =
-          let k : suc (m - 1) ≡ n = omega arith in
+          let k : suc (m - 1) ≡ n = omega (arith, some, l) in
           let i : m - 1 ≡ n - 1 = omega arith in
           let x : take (suc (m - 1)) ring ≡ ring = take_all (suc (m - 1)) ring (omega (arith, l)) in
           close-closed ring h ∙ sym x ∙ take-suc ring (m - 1) none (omega (arith, l))
-          ∙ rw (front-front s (m - 1) n (omega arith), i, front_at s n (n - 1) none fits (omega arith))
+          ∙ rw (coords-take (m - 1) s, i, coords-at (n - 1) s none (omega (arith, some, l)))
 
   pub closed_first : (m ≡ n → ⊥) → close ring ≡ closed_by s (m - 1) (coord_at s 0)
   closed_first e = go (closed ring) refl
     where
       l : length ring ≡ n
-      l = length_front s n fits
+      l = count-coords s
 
       go : (t : Bool) → closed ring ≡ t → close ring ≡ closed_by s (m - 1) (coord_at s 0)
       go true h = absurd (e (count ∙ count-closed ring h ∙ l))
       go false h =
           let k : m - 1 ≡ n = omega (arith, count, count_open ring h, l) in
-          close_open ring none h ∙ rw (k, front_at s n 0 none fits some)
+          close_open ring none h ∙ rw (k, coords-at 0 s none (omega (arith, some, l)), whole_ring s)
 
   -- one of the two closes it
   pub closes : (closing : Coord) × (close ring ≡ closed_by s (m - 1) closing)

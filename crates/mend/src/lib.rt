@@ -2,7 +2,7 @@
 // corners that send an exterior to the overlay. It is open to callers and refuses what it can't mend.
 #![tactic(auto)]
 
-ghost use Rattle.std.specs.Prelude.{◌≡◌, ◌+◌, ◌*◌, ◌-◌, ◌≤◌, ◌<◌, length, take};
+ghost use Rattle.std.specs.Prelude.{◌≡◌, ◌+◌, ◌*◌, ◌-◌, ◌≤◌, ◌<◌, length};
 ghost use Rattle.tile.specs.Ring.{coords, close};
 ghost use Rattle.tile.specs.Internal.{Written};
 ghost use Rattle.mend.specs.Mend.{mend};
@@ -62,11 +62,12 @@ fn few_kept(ring: &[f64], end: usize) -> bool
     next_kept(ring, second, end) == end
 }
 
-// The coordinate that closes the ring of n, which has m when closed: its own last one, or else its first.
-fn closing_coord(ring: &[f64], n: usize, m: usize) -> Coord
-    requires { (2 * n ≤ length ring.now) × (0 < n) × (m ≡ length (close (coords (take (2 * n) ring.now)))) }
-    ensures { close (coords (take (2 * n) ring.now)) ≡ closed_by ring.now (m - 1) result }
+// The coordinate that closes a ring, which has m when closed: its own last one, or else its first.
+fn closing_coord(ring: &[f64], m: usize) -> Coord
+    requires { (0 < length (coords ring.now)) × (m ≡ length (close (coords ring.now))) }
+    ensures { close (coords ring.now) ≡ closed_by ring.now (m - 1) result }
 {
+    let n = ring.len() / 2;
     if m == n {
         return coord_at(ring, n - 1);
     }
@@ -100,8 +101,7 @@ pub fn mend_ring(ring: &[f64], out: &mut [f64]) -> Result<usize, MendRefusal>
     if ring.len() % 2 == 1 {
         return Err(MendRefusal::Lengths);
     }
-    let n = ring.len() / 2;
-    let m = closed_count(&ring[..2 * n]);
+    let m = closed_count(ring);
     if MOST_COORDINATES < m {
         return Err(MendRefusal::Coordinates);
     }
@@ -114,6 +114,6 @@ pub fn mend_ring(ring: &[f64], out: &mut [f64]) -> Result<usize, MendRefusal>
     if few_kept(ring, m - 1) {
         return Err(MendRefusal::Short);
     }
-    let closing = closing_coord(ring, n, m);
+    let closing = closing_coord(ring, m);
     Ok(write_kept(ring, m - 1, closing, out))
 }

@@ -1,5 +1,6 @@
 -- `mend_ring` meets its contract: each answer by the tests that led there. Assumes nothing.
 use native.Mathlib.Omega.{arith}
+use Rattle.tile.proofs.Rings.{count-coords}
 use Rattle.mend.proofs.Answers.{Outcome, closed-most, refused-lengths, refused-coordinates, refused-output, refused-few, refused_short, is_mended}
 use Rattle.mend.proofs.mend_ring.Goals as goal
 use Rattle.mend.proofs.mend_ring.Goals.{After-write_kept}
@@ -58,7 +59,7 @@ pub closing_coord-closing-requires : goal.closing_coord-closing-requires
 closing_coord-closing-requires c =
     let count = c.closed_count-m.ensures in
     let most = closed-most c.args.ring.now c.args.out.now c.if-ring-eq1.false _ count in
-    (omega (arith, c.if-ring-eq1.false), omega (arith, c.if-m-lt4.false, most), count)
+    (omega (arith, c.if-m-lt4.false, most, count-coords c.args.ring.now), count)
 
 pub write_kept-requires : goal.write_kept-requires
 write_kept-requires c =
