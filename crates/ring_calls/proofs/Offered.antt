@@ -11,6 +11,7 @@ use Rattle.tile.specs.declared.TileBounds.{TileBounds}
 use Rattle.tile.specs.Ring.{coords}
 use Rattle.sutherland_hodgman.specs.Growth.{most_coordinates}
 use Rattle.sutherland_hodgman.specs.Internal.{CutterRoom, OriginRoom}
+use Rattle.sutherland_hodgman.proofs.Offered.{whole_ring}
 use Rattle.ring_calls.specs.declared.Refusal.{Refusal}
 use Rattle.ring_calls.specs.RingCall.{fails_if, RingSlices, ring_call_check, ring_call_answer}
 use Rattle.ring_calls.proofs.Calls as calls
@@ -32,6 +33,10 @@ lent-room ring lent e =
       record { vertices = omega (arith, p.even); scratch-room = p.scratch-room; output-room = p.output-room },
       record { positions = p.few; scratch-room = p.origin-scratch-room; output-room = p.origin-output-room },
     )
+
+pub lent-whole : (ring : List Float) (lent : RingSlices) → ring_call_check ring lent ≡ Ok tt
+    → coords (take (2 * (length ring / 2)) ring) ≡ coords ring
+lent-whole ring lent e = whole_ring ring
 
 -- a ring call answers fewer than 2^19 coordinates, so that the count fits an i64
 pub answer-few : (ring : List Float) (bounds : TileBounds) (lent : RingSlices) (n : ℕ) → ring_call_answer ring bounds lent ≡ Ok n
