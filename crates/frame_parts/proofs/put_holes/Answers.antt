@@ -29,14 +29,14 @@ pub slice_bounds-clip_hole-end : goal.slice_bounds-clip_hole-end
 slice_bounds-clip_hole-end c = let l = c.loop in
     let k = c.args.holes - l.counter in
     let h = hole_lent c.args.bounds c.args.frame.now l.at k _ _ _ (omega arith) l.invariant.0 l.ring refl in
-    omega (arith, h, c.count_at-n.ensures.0, c.decode_ring-next.auto.ring)
+    omega (arith, h, c.ring_at-from.ensures.2, c.decode_ring-next.auto.ring)
 
 pub slice_bounds-clip_hole-end-in-loop : goal.slice_bounds-clip_hole-end-in-loop
 slice_bounds-clip_hole-end-in-loop c = let l = c.loop in
     let k = c.args.holes - l.counter in
     let h = hole_lent c.args.bounds c.args.frame.now l.at k _ _ _ (omega arith) l.invariant.0 l.ring refl in
-    sym (length-take-le (2 * c.count_at-n.result) c.decode_ring-next.new.ring
-    (omega (arith, h, c.count_at-n.ensures.0, c.decode_ring-next.auto.ring)))
+    sym (length-take-le (2 * c.ring_at-from.result.n) c.decode_ring-next.new.ring
+    (omega (arith, h, c.ring_at-from.ensures.2, c.decode_ring-next.auto.ring)))
 
 pub clip_hole-m-requires-clause-ring_room : goal.clip_hole-m-requires-clause-ring_room
 clip_hole-m-requires-clause-ring_room c = let l = c.loop in

@@ -16,11 +16,11 @@ decode_ring-requires c = let n = c.ring_at-from.ensures.2 in
 
 pub slice_bounds-route_exterior-end : goal.slice_bounds-route_exterior-end
 slice_bounds-route_exterior-end c = let h = exterior-lent c.args.part _ _ _ c.requires.part_room c.args.ring.now refl in
-    omega (arith, h, c.count_at-n.ensures.0, c.decode_ring.auto.ring)
+    omega (arith, h, c.ring_at-from.ensures.2, c.decode_ring.auto.ring)
 
 pub slice_bounds-route_exterior-end-2 : goal.slice_bounds-route_exterior-end-2
 slice_bounds-route_exterior-end-2 c = let h = exterior-lent c.args.part _ _ _ c.requires.part_room c.args.ring.now refl in
-    sym (length-take-le (2 * c.count_at-n.result) c.decode_ring.new.ring (omega (arith, h, c.count_at-n.ensures.0, c.decode_ring.auto.ring)))
+    sym (length-take-le (2 * c.ring_at-from.result.n) c.decode_ring.new.ring (omega (arith, h, c.ring_at-from.ensures.2, c.decode_ring.auto.ring)))
 
 pub route_exterior-route-requires-clause-exterior_room : goal.route_exterior-route-requires-clause-exterior_room
 route_exterior-route-requires-clause-exterior_room c = let from = c.ring_at-from.ensures in rw (c.decode_ring.ensures.1, from.0, from.1, from.2) (exterior-room c.args.part _ _ _ c.requires.part_room c.args.ring.now refl _ c.requires.positions_room)
