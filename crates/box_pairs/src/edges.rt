@@ -2,7 +2,8 @@
 ghost use Rattle.std.specs.Prelude.{◌<◌, ◌^◌};
 ghost use Rattle.box_pairs.specs.Internal.{HasEdges};
 
-use super::cross::{crosses, is_apart};
+use super::cross::is_apart;
+use super::pairs::edges_cross;
 use binary64::compare::{maximum, minimum};
 use tile::ring::coord_at;
 
@@ -37,11 +38,7 @@ impl<'a> Edges<'a> {
         requires { (i < self.now.count) × (j < self.now.count) }
         ensures { result ≡ Internal.edges_at self.now.ring.now i j }
     {
-        let a1 = coord_at(self.ring, i);
-        let a2 = coord_at(self.ring, i + 1);
-        let b1 = coord_at(self.ring, j);
-        let b2 = coord_at(self.ring, j + 1);
-        crosses(a1, a2, b1, b2)
+        edges_cross(self.ring, i, j)
     }
 
     // The lowest x of edge i.

@@ -1,20 +1,34 @@
 // Which two edges of a ring cross first, by the lower and then by the higher edge number: all pairs for a short ring, and for a long one a
 // sweep over the edges by their lowest x, which is walked on for the least pair only where it comes upon a crossing.
-ghost use Rattle.std.specs.Prelude.{◌≡◌, ◌+◌, ◌/◌, ◌-◌, ◌<◌, ◌≤◌, ◌^◌, length, is_some, IfSome, unwrap_or};
+ghost use Rattle.std.specs.Prelude.{◌≡◌, ◌+◌, ◌*◌, ◌/◌, ◌-◌, ◌<◌, ◌≤◌, ◌^◌, length, is_some, IfSome, unwrap_or};
 ghost use Rattle.tile.specs.Ring.{coords};
 ghost use Rattle.box_pairs.specs.Internal as Internal;
 ghost use Rattle.box_pairs.specs.Internal.{SortRoom, Swept, Unused};
 ghost use Rattle.box_pairs.specs.Edges.{ring_of};
 ghost use Rattle.box_pairs.specs.Pairs.{edges_cross, first_pair};
 
+use super::cross::crosses;
 use super::edges::Edges;
 use super::merge::sort;
+use tile::ring::coord_at;
 
 // Two edges that cross, by their numbers.
 #[derive(Clone, Copy)]
 pub struct Pair {
     pub lower: u32,
     pub higher: u32,
+}
+
+// Whether the edges i and j of a ring in x, y numbers cross.
+pub fn edges_cross(ring: &[f64], i: usize, j: usize) -> bool
+    requires { (2 * i + 3 < length ring.now) × (2 * j + 3 < length ring.now) }
+    ensures { result ≡ Internal.edges_at ring.now i j }
+{
+    let a1 = coord_at(ring, i);
+    let a2 = coord_at(ring, i + 1);
+    let b1 = coord_at(ring, j);
+    let b2 = coord_at(ring, j + 1);
+    crosses(a1, a2, b1, b2)
 }
 
 // Up to this many edges, all pairs are scanned; more are swept.

@@ -8,9 +8,9 @@ const BASE: u64 = 1_073_741_824;
 // A product, not carried: high * 2^60 + middle * 2^30 + low, in places small enough that three products can be added.
 #[derive(Drop)]
 pub struct Uncarried {
-    high: u64,
-    middle: u64,
-    low: u64,
+    pub high: u64,
+    pub middle: u64,
+    pub low: u64,
 }
 
 impl Model for Uncarried {
@@ -27,9 +27,9 @@ impl Model for Uncarried {
 // fields is that of the numbers.
 #[derive(Clone, Copy, PartialEq, Eq, PartialOrd, Ord)]
 pub struct Wide {
-    high: u64,
-    middle: u64,
-    low: u64,
+    pub high: u64,
+    pub middle: u64,
+    pub low: u64,
 }
 
 impl Model for Wide {

@@ -33,7 +33,7 @@ const VALUES: [u8; 256] = *b"\
 // The table, to be lent to whoever reads many characters: a constant is written out anew wherever it is used.
 #[derive(Drop)]
 pub struct DigitValues {
-    values: [u8; 256],
+    pub values: [u8; 256],
     ghost known: { Internal.DigitValues values },
 }
 
@@ -66,6 +66,7 @@ fn put_hex(out: &mut [u8], at: usize, b: u8)
     out[at + 1] = hex_digit(b % 16);
 }
 
+// Stays with a count beside: the digits of the bytes at the front need the room behind them.
 // Puts the hexadecimal of the first bytes of a slice in their place, the last byte first: so none is written over before it was read.
 fn to_hex(out: &mut [u8], count: usize)
     requires { 2 * count ≤ length out.old }

@@ -69,18 +69,12 @@ pub fn read_code<R: Read>(input: &mut R) -> Option<u64> {
     Some(read_number::<8>(&bytes, 0))
 }
 
-fn decode<T: Lent>(bytes: &[u8], n: usize, to: &mut [T])
-    requires { (T.SIZE * n ≤ length bytes.now) × (n ≤ length to.old) }
+fn decode<T: Lent>(bytes: &[u8], to: &mut [T])
+    requires { T.SIZE * length to.old ≤ length bytes.now }
 {
-    for i in 0..n {
+    for i in 0..to.len() {
         to[i] = T::read_at(bytes, T::SIZE * i);
     }
-}
-
-fn fill_front<R: Read>(input: &mut R, bytes: &mut [u8], size: usize) -> Option<()>
-    requires { size ≤ length bytes.old }
-{
-    fill(input, &mut bytes[..size])
 }
 
 // So many numbers, to the front of a slice.
@@ -89,7 +83,7 @@ pub fn read_numbers<T: Lent, R: Read>(input: &mut R, n: usize, to: &mut [T]) -> 
         return None;
     }
     let mut bytes = [0u8; MOST_BYTES];
-    fill_front(input, &mut bytes, T::SIZE * n)?;
-    decode(&bytes, n, to);
+    fill(input, &mut bytes[..T::SIZE * n])?;
+    decode(&bytes, &mut to[..n]);
     Some(())
 }

@@ -57,7 +57,7 @@ fn feed_all<W: Write>(
     let mut from = 0usize;
     while from < block.len() {
         let fed = feed_lines(&block[from..], known, kept, out);
-        write_out(clock, to, out, fed.written)?;
+        write_out(clock, to, &out[..fed.written])?;
         known = fed.line;
         from += fed.taken;
     }
@@ -131,7 +131,7 @@ fn answer_input<R: Read, W: Write>(
     let mut out = [0u8; OUTPUT];
     let line = read_all(clock, input, to, &mut kept, &mut out)?;
     match finish(line, &kept, &mut out) {
-        Ok(waiting) => write_out(clock, to, &out, waiting),
+        Ok(waiting) => write_out(clock, to, &out[..waiting]),
         // Both slices are as long as `finish` asks, so it never answers that one is too short.
         Err(TooShort) => unreachable!(),
     }
@@ -139,7 +139,7 @@ fn answer_input<R: Read, W: Write>(
 
 fn say_version<W: Write>(clock: &impl Clock, to: &mut W) -> Result<(), Stopped> {
     let version = b"ringcut 1.0.0\n";
-    write_out(clock, to, version, version.len())
+    write_out(clock, to, version)
 }
 
 // Tells what stopped the work, or else closes standard output.

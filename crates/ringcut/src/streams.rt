@@ -1,5 +1,5 @@
 // Writing all of some bytes, standard error, and what to do where a read or a write fails.
-ghost use Rattle.std.specs.Prelude.{◌≤◌, length, take, OnOk, OnErr};
+ghost use Rattle.std.specs.Prelude.{OnOk, OnErr};
 ghost use Rattle.std.specs.Io.KnownBytes.{Appends};
 ghost use Rattle.ringcut.specs.Streams.{AppendsSome};
 
@@ -91,20 +91,12 @@ pub fn tell(rt: HostRuntime, failed: &str, error: io::Error) {
     say(rt, "\n");
 }
 
-// Writes the answers that wait at the front of the output.
-pub fn write_out<W: Write>(
-    clock: &impl Clock,
-    to: &mut W,
-    out: &[u8],
-    waiting: usize,
-) -> Result<(), Stopped>
-    requires { waiting ≤ length out.now }
-    ensures all { OnOk result (Appends (W.contents to.old) (W.contents to.new)
-        (take waiting out.now)) }
-    ensures part { OnErr result (AppendsSome (W.contents to.old) (W.contents to.new)
-        (take waiting out.now)) }
+// Writes all of the bytes, the answers that wait, say.
+pub fn write_out<W: Write>(clock: &impl Clock, to: &mut W, bytes: &[u8]) -> Result<(), Stopped>
+    ensures all { OnOk result (Appends (W.contents to.old) (W.contents to.new) bytes.now) }
+    ensures part { OnErr result (AppendsSome (W.contents to.old) (W.contents to.new) bytes.now) }
 {
-    write_to(clock, to, &out[..waiting]).map_err(Stopped::Writing)
+    write_to(clock, to, bytes).map_err(Stopped::Writing)
 }
 
 // Whether standard output is open, asked by a copy of it, which is closed again here. That there may be no room for a copy says nothing.
