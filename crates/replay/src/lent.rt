@@ -182,6 +182,7 @@ fn are_all<T: Lent>(s: &[T], x: T) -> bool
 }
 
 // Whether a slice holds these numbers at its front, and past them what it held before the call.
+// Stays a loop over places: the longer slice is looked at behind the last of them too.
 fn holds<T: Lent>(s: &[T], front: &[T]) -> bool
     ensures { result ≡ Lent.holds (T.bits T.mark) (map T.bits front.now) (map T.bits s.now) }
 {

@@ -72,8 +72,8 @@ pub fn read_code<R: Read>(input: &mut R) -> Option<u64> {
 fn decode<T: Lent>(bytes: &[u8], to: &mut [T])
     requires { T.SIZE * length to.old ≤ length bytes.now }
 {
-    for i in 0..to.len() {
-        to[i] = T::read_at(bytes, T::SIZE * i);
+    for (i, number) in to.iter_mut().enumerate() {
+        *number = T::read_at(bytes, T::SIZE * i);
     }
 }
 
