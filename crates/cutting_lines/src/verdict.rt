@@ -14,6 +14,7 @@ pub struct Verdict {
 }
 
 // Whether a vertex is in by one line: on the line counts as in, and NaN is out.
+// Stays four arms: by axis, a second match would have to find the bound and the side.
 fn is_inside(coord: Coord, edge: Edge, bounds: TileBounds) -> bool
     ensures { result ≡ CuttingLines.inside edge bounds coord }
 {

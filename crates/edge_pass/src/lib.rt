@@ -27,6 +27,7 @@ pub struct Pass {
 }
 
 // How many of the n vertices are left when the closing one is left off.
+// Stays with a count beside, here and below: the ring is at the front of a longer slice, where the pass before left it.
 fn left_off(ring: &[f64], n: usize) -> usize
     requires { 2 * n ≤ length ring.now }
     ensures { (result ≤ n) × (coords (take (2 * result) ring.now) ≡ leave_off (coords (take (2 * n) ring.now))) }

@@ -42,6 +42,7 @@ fn put_answer_coord(out: &mut [u8], at: usize, p: Coord, origin: u16)
 
 // Writes the n coordinates at the front of a slice, their count first and behind each its origin, and answers where the next thing is
 // written.
+// Stays with a count beside: a cut is left at the fronts of longer slices, and one count is that of both.
 pub fn put_ring(ring: &[f64], origins: &[u16], n: usize, out: &mut [u8], at: usize) -> usize
     requires { (2 * n ≤ length ring.now) × (n ≤ length origins.now) × (at + 2 + answer_coord_size * n ≤ length out.old) }
     ensures { (result ≡ at + 2 + answer_coord_size * n) × (out.new ≡ sets out.old at
@@ -57,6 +58,7 @@ pub fn put_ring(ring: &[f64], origins: &[u16], n: usize, out: &mut [u8], at: usi
 }
 
 // The header is written when the parts behind it are known.
+// Stays a number, here and below: a header is also that of a refused line, whose number is no answer's kind.
 pub fn put_header(out: &mut [u8], number: u8, guard: usize, parts: usize)
     requires { least_room ≤ length out.old }
     ensures { out.new ≡ sets out.old 0 (Encoding.header_bytes number guard parts) }

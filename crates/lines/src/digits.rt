@@ -79,6 +79,7 @@ fn to_hex(out: &mut [u8], count: usize)
 }
 
 // Makes the first bytes of a slice a line, and answers how long it is.
+// Stays with a count beside, as `to_hex`.
 pub fn to_line(out: &mut [u8], count: usize) -> usize
     requires { 2 * count < length out.old }
     ensures { (result ≡ length (Lines.hex_line (take count out.old)))

@@ -43,6 +43,7 @@ fn slices_fit(kept: &[u8], out: &[u8]) -> bool
 // Write out the bytes written before the next call, and lend it the line that was returned and `kept` as it was left; only bytes past the
 // line's own may change. Of the returned line the contract says what is printed for an input that goes on from it: among lines of which
 // that is the same, which is returned is free.
+// Stays 0 of taken where a slice is short: a call that can't fail stays one, and taken has this meaning for callers.
 pub fn feed(block: &[u8], line: Line, kept: &mut [u8], out: &mut [u8]) -> Fed
     ensures feeds { LineStep.Feeds block.now line kept.old out.old
         result.taken result.written result.line kept.new out.new }
@@ -73,6 +74,7 @@ pub fn feed(block: &[u8], line: Line, kept: &mut [u8], out: &mut [u8]) -> Fed
 }
 
 // One line more: from a place of the block on, behind what waits in the output.
+// Stays with what waits beside: that it stays as it was is said of the whole output.
 fn feed_from(
     block: &[u8],
     from: usize,

@@ -81,6 +81,8 @@ fn put_hole(
 }
 
 // Cuts lent rings as holes, each in the output behind the rings counted so far, and their origins in theirs.
+// Stays beside that of `frame_parts`, and so do the cut, the overlay and the route: they share the order of the steps; what is written is
+// numbers and lengths here, bytes of a frame there, and the rings of a frame are first copied.
 fn put_holes(
     rings: LentRings,
     bounds: TileBounds,

@@ -4,6 +4,7 @@ ghost use Rattle.ring_calls.specs.RingCall.{ring_call_code};
 ghost use Rattle.slices.specs.SliceCall.{slice_call_code};
 ghost use Rattle.replay.specs.Code.{bits_of, is_refusal, ring_numbers, rings_written};
 
+use clip::polygon::AnswerKind;
 use ring_calls::Refusal;
 use slices::call::{Answered, FIRST_PLACE, answer_code};
 
@@ -23,18 +24,14 @@ pub fn is_refusal(code: u64) -> bool
     code > LARGEST
 }
 
-// Stays a match: the bits of minus a number.
 fn of_refusal(refusal: Refusal) -> u64
     ensures { result ≡ bits_of (ring_call_code (Err refusal)) }
 {
-    match refusal {
-        Refusal::Lengths => u64::MAX - 18,
-        Refusal::Coordinates => u64::MAX - 19,
-        Refusal::Scratch => u64::MAX - 20,
-        Refusal::Output => u64::MAX - 21,
-    }
+    let number = u8::from(refusal) as u64;
+    u64::MAX - (number - 1)
 }
 
+// Stays a function, here and below: a From needs a type of this crate, and can't require that the number fits.
 pub fn of_ring(answer: Result<usize, Refusal>) -> u64
     ensures { result ≡ bits_of (ring_call_code answer) }
 {
@@ -71,7 +68,7 @@ pub fn rings_of(code: u64) -> usize
     if is_refusal(code) {
         return 0;
     }
-    if code % 256 != 4 {
+    if code % 256 != AnswerKind::Cut as u64 {
         return 0;
     }
     (code / FIRST_PLACE) as usize

@@ -19,6 +19,7 @@ use std::io::Read;
 use stream::{is_at_end, read_count};
 
 // A count for each answer that is no refusal (a ring call has two, a slice call five), for each of 19 to 22, and for the calls that differ.
+// Stays numbers, here and in `row`: each is a place in the table of counts, and an answer's number may be none of those that are printed.
 const ROWS: usize = 10;
 
 const REFUSALS: usize = 5;

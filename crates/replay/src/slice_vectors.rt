@@ -63,6 +63,7 @@ fn read_head(bytes: &[u8]) -> SliceVector
 }
 
 // Whether the code of an answer is the kept one, and the call has left the lent slices as it has to.
+// Stays beside that of `ring_vectors`, and so do `has_room` and `call`: more slices are lent, and each has a definition of its own.
 fn all_agree(
     given: u64,
     code: u64,
@@ -201,6 +202,7 @@ fn call(
     Some(Outcome::Differs)
 }
 
+// Stays a function: that the number is below 2^32 is what keeps a sum of them from overflow.
 fn wide(x: u32) -> usize
     ensures { (result ≡ x) × (result < 2 ^ 32) }
 {

@@ -15,6 +15,7 @@ fn both_near(a: f64, b: f64, bound: f64) -> bool
 }
 
 // Whether both ends of the edge from p to q are near one bound.
+// Stays four arms: by axis, a second match would have to find the bound.
 #[tactic(auto, unfolding(crate::specs::Bridge::runs_along))]
 fn runs_along(p: Coord, q: Coord, edge: Edge, bounds: TileBounds) -> bool
     ensures { result ≡ Bridges.runs_along edge bounds p q }

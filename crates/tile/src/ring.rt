@@ -75,6 +75,7 @@ pub fn closed_count<R: Coords + Copy>(ring: R) -> usize
 }
 
 // Closes the ring of n coordinates at the front of the slice, and answers how many it now has.
+// Stays with a count beside: it writes behind the ring.
 pub fn close(ring: &mut [f64], n: usize) -> usize
     requires { 2 * n + 2 ≤ length ring.old }
     ensures { Internal.Written (Ring.close (Ring.coords (take (2 * n) ring.old))) ring.old result
