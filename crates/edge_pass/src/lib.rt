@@ -212,7 +212,7 @@ fn enter(
 }
 
 // From a vertex, by the verdict on it, to the first that has the other verdict, or to the end.
-// Stays an `if`: one call of each step, with no closure between, lets both be compiled into the loop.
+// Stays an `if`: no closure is plainer, since the verdict itself says which step it is, and there is one call of each.
 fn turn(
     ring: &[f64],
     origins: &[u16],
@@ -241,6 +241,7 @@ fn turn(
 // Cuts the ring of n vertices at the front of a slice at one edge, writes the result to the front of another, and counts the verdicts that
 // it works out. The origins of the vertices stand in a slice beside them, before and after. It starts from the last vertex. One call of
 // leaving and one of entering lets both be compiled into the loop.
+// Stays a `while`: each turn says where the next begins.
 pub fn clip_ring_against_edge(
     ring: &[f64],
     origins: &[u16],

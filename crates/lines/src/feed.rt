@@ -93,6 +93,7 @@ fn feed_from(
 }
 
 // Answers every line that ends in the block, as long as the output has room for one more: a write for each would cost more than the answer.
+// Stays a `while`: each line says how much of the block it took.
 pub fn feed_lines(block: &[u8], line: Line, kept: &mut [u8], out: &mut [u8]) -> Fed
     requires { (longest ≤ length kept.old) × (LineStep.line_room ≤ length out.old) }
     ensures feeds { Internal.FeedsLines block.now line kept.old out.old

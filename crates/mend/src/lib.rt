@@ -75,6 +75,7 @@ fn closing_coord(ring: &[f64], m: usize) -> Coord
 }
 
 // Writes the coordinates that are kept, and answers how many they are.
+// Stays a `while`: the next place that is kept is looked for.
 fn write_kept(ring: &[f64], end: usize, closing: Coord, out: &mut [f64]) -> usize
     requires { (2 * end ≤ length ring.now) × (2 * end + 2 ≤ length out.old) }
     ensures { Written (mend (closed_by ring.now end closing)) out.old result out.new }

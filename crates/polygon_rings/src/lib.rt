@@ -16,7 +16,8 @@ use rings::lent_rings::LentRings;
 use rings::rectangle::Rect;
 use tile::TileBounds;
 
-// Stays an output beside its lengths and origins, and their room in the clauses: two fields behind one `&mut` can't be lent in one call.
+// Stays an output beside its lengths and origins, and their room in the clauses (`LentOriginsRoom` is one): two fields behind one `&mut`
+// can't be lent in one call.
 
 // How much of the outputs is the answer's so far: rings, and their coordinates.
 #[derive(Clone, Copy)]

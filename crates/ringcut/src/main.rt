@@ -40,6 +40,7 @@ enum Turn {
 }
 
 // Answers every line that ends in the block, and writes the answers out: the next read may wait for more. Returns the line to go on with.
+// Stays a `while`: each call says how much of the block it took.
 fn feed_all<W: Write>(
     clock: &impl Clock,
     to: &mut W,
