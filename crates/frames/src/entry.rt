@@ -64,7 +64,7 @@ fn answer_with<const RING: usize, const WORK: usize, const ORIGINS: usize>(
 
 // By the size of the frame, with m of 6, 32, 81 and 318, which no ring of the longest frame passes: clearing arrays for the longest ring
 // costs more than cutting a short one.
-// Stays a clause, here, above and below, what is known of the head: it relates the frame, its head and the output, which no one value holds.
+// Stays a clause, here, above and below, what is known of the head: it relates a frame, its head and the output, and no value holds these.
 fn answer_sized(
     frame: AcceptedFrame,
     head: Head,
