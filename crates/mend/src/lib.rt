@@ -37,6 +37,7 @@ impl From<MendRefusal> for u8 {
 }
 
 // The position of the next coordinate kept behind the k-th, which is kept: the first that is not near it, or the closing one's, `end`.
+// Stays with `end` beside, here and below: it is a position too, and the answer where none is kept before it.
 fn next_kept(ring: &[f64], k: usize, end: usize) -> usize
     requires { (2 * end ≤ length ring.now) × (k < end) }
     ensures { NextKept ring.now end k result }
