@@ -1,7 +1,7 @@
 -- `is_same` meets its contract. Assumes nothing.
-use mathlib.Core.Path.{◌∙◌}
+use mathlib.Core.Path.{sym}
 use Rattle.ringcut.proofs.SameBytes.{pointwise-same}
 use Rattle.ringcut.proofs.arguments.is_same.Goals as goal
 
 pub returns : goal.returns
-returns c = c.eq.ensures ∙ pointwise-same c.args.a.now c.args.b.now
+returns c = rw (sym (pointwise-same c.args.a.now c.args.b.now)) search
