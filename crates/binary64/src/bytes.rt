@@ -5,7 +5,7 @@ ghost use Rattle.std.specs.Float.{binary64};
 ghost use Rattle.std.specs.Float.Ieee.{of_bits, to_bits};
 ghost use Rattle.binary64.specs.Bytes as Bytes;
 
-// The number of N bytes. Of 2, 4 or 8 it becomes one load; that is not proved.
+// The number of N bytes.
 pub fn read_number<const N: usize>(b: &[u8], at: usize) -> u64
     requires { (at + N ≤ length b.now) × (N ≤ 8) }
     ensures { (result ≡ Bytes.number_of Bytes.Little (take N (drop at b.now))) × (result < 2 ^ (8 * N)) }
@@ -38,11 +38,30 @@ pub fn to_bits(x: f64) -> u64
     }
 }
 
+// The number of eight bytes.
+// Stays beside `read_number`: this becomes one load, which its loop does not where two doubles are read beside each other. A frame that is
+// only measured took up to 1.5 times the instructions by that.
+fn read_word(b: &[u8], at: usize) -> u64
+    requires { at + 8 ≤ length b.now }
+    ensures { result ≡ Bytes.number_of Bytes.Little (take 8 (drop at b.now)) }
+{
+    u64::from_le_bytes([
+        b[at],
+        b[at + 1],
+        b[at + 2],
+        b[at + 3],
+        b[at + 4],
+        b[at + 5],
+        b[at + 6],
+        b[at + 7],
+    ])
+}
+
 pub fn read_f64(b: &[u8], at: usize) -> f64
     requires { at + 8 ≤ length b.now }
     ensures { result ≡ Bytes.double Bytes.Little (take 8 (drop at b.now)) }
 {
-    from_bits(read_number::<8>(b, at))
+    from_bits(read_word(b, at))
 }
 
 // Writes the lowest N bytes of n.
