@@ -27,8 +27,7 @@ const MEDIUM: usize = 559;
 const LARGE: usize = 1343;
 
 // In arrays for rings of up to m coordinates, closed: 2 m numbers for the ring, 2 B(m) each for the cutter's scratch slice and its output,
-// B(m) each for their origins, B(m) positions. Never inlined, so that the stack holds the arrays of no other size than the one called.
-#[inline(never)]
+// B(m) each for their origins, B(m) positions.
 fn answer_with<const RING: usize, const WORK: usize, const ORIGINS: usize>(
     frame: AcceptedFrame,
     head: Head,
