@@ -1,4 +1,4 @@
-// Small functions on doubles: comparisons, bytes, total order, and the crossing's free coordinate. The laws of IEEE 754 that the
+// Small functions on doubles: comparisons, bytes, total order, slices, and the crossing's free coordinate. The laws of IEEE 754 that the
 // crates above cite are in proofs/.
 #![tactic(auto)]
 
@@ -8,6 +8,7 @@ ghost use Rattle.binary64.specs.Interpolation as Interpolation;
 
 pub mod bytes;
 pub mod compare;
+pub mod slices;
 pub mod total_order;
 
 // The free coordinate of an edge's crossing with a cutting line; the line's bound is a parameter.

@@ -84,6 +84,9 @@ module _ (b : TileBounds) (r : List Coord) (few : length r ≤ most_coordinates)
 pub copied_front : (k : ℕ) (from front rest : List Float) → k ≤ length from → front ≡ take k from → take k (front ++ rest) ≡ take k from
 copied_front k from front rest h e = rw e (take_at (take k from) rest k (length-take-le k from h))
 
+pub copied : (k : ℕ) (from before after : List Float) → k ≤ length from → after ≡ take k from ++ drop k before → take k after ≡ take k from
+copied k from before after h e = rw e (copied_front k from (take k from) (drop k before) h refl)
+
 -- ---- a lent ring, closed and cut
 
 module _ (s : List Float) (a b : ℕ) (room : RingRoom (coords s) a b) where

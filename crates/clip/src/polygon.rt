@@ -9,6 +9,7 @@ ghost use Rattle.clip.specs.Origins as Origins;
 ghost use Rattle.clip.specs.Internal as Internal;
 ghost use Rattle.clip.specs.Polygon.{told};
 
+use binary64::slices::copy;
 use box_pairs::{Issue, find_issue, has_issue};
 use rings::bridge::first_bridge;
 use rings::rectangle::{Rect, intersects_bounds, is_fully_inside};
@@ -144,7 +145,7 @@ fn closed_issue(
     if is_closed(ring) {
         return find_issue(ring, assume_simple, scratch, order);
     }
-    out[..2 * n].copy_from_slice(&ring[..2 * n]);
+    copy(ring, out, 2 * n);
     let m = close(out, n);
     find_issue(&out[..2 * m], assume_simple, scratch, order)
 }

@@ -7,7 +7,7 @@ use lib.Seq.{length-take-le}
 use Rattle.tile.specs.Ring.{coords, close}
 use Rattle.tile.proofs.Rings.{close-closed, count_open, count-coords, written-front}
 use Rattle.sutherland_hodgman.proofs.Offered.{le-B, whole_ring}
-use Rattle.clip.proofs.Cuts.{lent-count, copied_front, output-lent}
+use Rattle.clip.proofs.Cuts.{lent-count, copied, output-lent}
 use Rattle.clip.proofs.polygon.closed_issue.Goals as goal
 
 pub find_issue-requires : goal.find_issue-requires
@@ -23,15 +23,8 @@ returns-then-is_closed c = let a = c.args in
     (sym c.is_closed.ensures
     ∙ c.if-is_closed.true) in c.find_issue.ensures.value ∙ rw t
 
-pub slice_bounds-copy_from_slice-end : goal.slice_bounds-copy_from_slice-end
-slice_bounds-copy_from_slice-end c = output-lent c.args.ring.now _ _ c.requires.room
-
-pub slice_bounds-copy_from_slice-end-2 : goal.slice_bounds-copy_from_slice-end-2
-slice_bounds-copy_from_slice-end-2 c = sym (length-take-le (2 * (length c.args.ring.now / 2)) c.args.out.now (output-lent c.args.ring.now _ _ c.requires.room))
-
-pub copy_from_slice-requires : goal.copy_from_slice-requires
-copy_from_slice-requires c = length-take-le (2 * (length c.args.ring.now / 2)) c.args.out.now (output-lent c.args.ring.now _ _ c.requires.room)
-    ∙ sym (length-take-le (2 * (length c.args.ring.now / 2)) c.args.ring.now (omega arith))
+pub copy-requires : goal.copy-requires
+copy-requires c = (omega arith, output-lent c.args.ring.now _ _ c.requires.room)
 
 pub close-m-requires : goal.close-m-requires
 close-m-requires c = let p = c.requires in
@@ -40,14 +33,14 @@ close-m-requires c = let p = c.requires in
     let m = count_open (coords s) (sym c.is_closed.ensures
     ∙ c.if-is_closed.false) in
     let g = le-B (length (close (coords s))) in
-    let k = length-take-le (2 * n) c.args.out.now (output-lent s _ _ p.room) in
-    simp (length-append, length-drop) (omega (arith, p.room.output-room, count-coords s, c.copy_from_slice.ensures.len))
+    let k = length-take-le (2 * n) s (omega arith) in
+    rw c.copy.ensures (simp (length-append, length-drop) (omega (arith, p.room.output-room, count-coords s, k)))
 
 pub find_issue-requires-2 : goal.find_issue-requires-2
 find_issue-requires-2 c = let p = c.requires in
     let s = c.args.ring.now in
     let n = length s / 2 in
-    let e = copied_front (2 * n) s c.copy_from_slice.new.self (drop (2 * n) c.args.out.now) (omega arith) c.copy_from_slice.ensures.after in
+    let e = copied (2 * n) s c.args.out.now _ (omega arith) c.copy.ensures in
     let w = c.close-m.ensures in
     let m : c.close-m.result ≡ length (close (coords s)) = w.count ∙ rw (e, whole_ring s) in
     let g = le-B (length (close (coords s))) in
@@ -58,7 +51,7 @@ pub overflow_mul-m : goal.overflow_mul-m
 overflow_mul-m c = let p = c.requires in
     let s = c.args.ring.now in
     let n = length s / 2 in
-    let e = copied_front (2 * n) s c.copy_from_slice.new.self (drop (2 * n) c.args.out.now) (omega arith) c.copy_from_slice.ensures.after in
+    let e = copied (2 * n) s c.args.out.now _ (omega arith) c.copy.ensures in
     let w = c.close-m.ensures in
     let m : c.close-m.result ≡ length (close (coords s)) = w.count ∙ rw (e, whole_ring s) in
     let g = le-B (length (close (coords s))) in omega (arith, p.room.few)
@@ -67,7 +60,7 @@ pub slice_bounds-find_issue-end : goal.slice_bounds-find_issue-end
 slice_bounds-find_issue-end c = let p = c.requires in
     let s = c.args.ring.now in
     let n = length s / 2 in
-    let e = copied_front (2 * n) s c.copy_from_slice.new.self (drop (2 * n) c.args.out.now) (omega arith) c.copy_from_slice.ensures.after in
+    let e = copied (2 * n) s c.args.out.now _ (omega arith) c.copy.ensures in
     let w = c.close-m.ensures in
     let m : c.close-m.result ≡ length (close (coords s)) = w.count ∙ rw (e, whole_ring s) in
     let g = le-B (length (close (coords s))) in omega (arith, p.room.output-room)
@@ -76,7 +69,7 @@ pub slice_bounds-find_issue-end-2 : goal.slice_bounds-find_issue-end-2
 slice_bounds-find_issue-end-2 c = let p = c.requires in
     let s = c.args.ring.now in
     let n = length s / 2 in
-    let e = copied_front (2 * n) s c.copy_from_slice.new.self (drop (2 * n) c.args.out.now) (omega arith) c.copy_from_slice.ensures.after in
+    let e = copied (2 * n) s c.args.out.now _ (omega arith) c.copy.ensures in
     let w = c.close-m.ensures in
     let m : c.close-m.result ≡ length (close (coords s)) = w.count ∙ rw (e, whole_ring s) in
     let g = le-B (length (close (coords s))) in
@@ -86,5 +79,5 @@ pub returns : goal.returns
 returns c = let p = c.requires in
     let s = c.args.ring.now in
     let n = length s / 2 in
-    let e = copied_front (2 * n) s c.copy_from_slice.new.self (drop (2 * n) c.args.out.now) (omega arith) c.copy_from_slice.ensures.after in
+    let e = copied (2 * n) s c.args.out.now _ (omega arith) c.copy.ensures in
     let f = written-front c.close-m.ensures in c.find_issue-2.ensures.value ∙ rw (f, e, whole_ring s)
