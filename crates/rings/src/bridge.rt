@@ -2,6 +2,7 @@
 ghost use Rattle.std.specs.Prelude.{◌≡◌, ◌&&◌};
 ghost use Rattle.binary64.specs.Compare.{near};
 ghost use Rattle.rings.specs.Bridge as Bridges;
+ghost use Rattle.rings.specs.Internal.{near_bound};
 
 use binary64::compare::is_near;
 use box_pairs::cross::is_degenerate;
@@ -28,10 +29,25 @@ fn runs_along(p: Coord, q: Coord, edge: Edge, bounds: TileBounds) -> bool
     }
 }
 
-// The bound that the edge from p to q runs along, if any: the first of the four.
+// Whether a coordinate is near one of the four bounds.
+#[tactic(auto, unfolding(crate::specs::Internal::near_bound))]
+fn is_near_bound(p: Coord, bounds: TileBounds) -> bool
+    ensures { result ≡ near_bound bounds p }
+{
+    is_near(p.x, bounds.lng_min)
+        || is_near(p.x, bounds.lng_max)
+        || is_near(p.y, bounds.lat_min)
+        || is_near(p.y, bounds.lat_max)
+}
+
+// The bound that the edge from p to q runs along, if any: the first of the four. Most coordinates are near none, which is asked first: the
+// compiler makes all comparisons of the loop over the bounds before its first branch.
 fn bridge_of(p: Coord, q: Coord, bounds: TileBounds) -> Option<Edge>
     ensures { result ≡ Bridges.bridge_of bounds p q }
 {
+    if !is_near_bound(p, bounds) {
+        return None;
+    }
     if is_degenerate(p, q) {
         return None;
     }

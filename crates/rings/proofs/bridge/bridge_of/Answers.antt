@@ -7,7 +7,11 @@ use Rattle.std.proofs.lemmas.List.Recursion.{found_at, found_nowhere}
 use Rattle.tile.specs.declared.Edge.{Edge}
 use Rattle.tile.specs.declared.Edge.TheVariants.{Left}
 use Rattle.rings.specs.Bridge.{runs_along, edges, bridge_of}
+use Rattle.rings.proofs.Walks.{bridge_far}
 use Rattle.rings.proofs.bridge.bridge_of.Goals as goal
+
+pub returns-then-not-is_near_bound : goal.returns-then-not-is_near_bound
+returns-then-not-is_near_bound c = sym (bridge_far c.args.bounds c.args.p c.args.q (sym c.is_near_bound.ensures ∙ c.if-not-is_near_bound.true))
 
 pub returns-then-is_degenerate : goal.returns-then-is_degenerate
 unfolding bridge_of
