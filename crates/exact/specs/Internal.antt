@@ -1,10 +1,15 @@
 -- What the functions of this crate say to each other. No contract of an entry point reaches it. Definitions only.
-use Rattle.std.specs.Prelude.{ℕ, cond, Float, Option, Some, None}
+use Rattle.std.specs.Prelude.{ℕ, ◌+◌, ◌*◌, ◌^◌, cond, Float, Option, Some, None}
 use Rattle.tile.specs.declared.Coord.{Coord}
 use Rattle.exact.specs.declared.segments.Side.{Side}
 use Rattle.exact.specs.declared.segments.Side.TheVariants as Sides
 use Rattle.exact.specs.Segments.{Point, is_left}
 use Rattle.exact.specs.Grid.{on_grid, grid_steps, from_lowest, point_of, coord_on_grid}
+
+-- ---- whole numbers of up to 116 binary digits, in three places to the base 2^30
+
+abbrev pub value : ℕ → ℕ → ℕ → ℕ
+value high middle low = high * 2 ^ 60 + middle * 2 ^ 30 + low
 
 -- ---- points
 

@@ -1,26 +1,18 @@
 // Sums of products of whole numbers up to 2^57, each in three u64 places to the base 2^30, and their order.
 ghost use Rattle.std.specs.Prelude.{◌≡◌, ◌+◌, ◌*◌, ◌^◌, ◌≤◌, nat_lt};
+ghost use Rattle.exact.specs.Internal.{value};
 
 use std::marker::Model;
 
 const BASE: u64 = 1_073_741_824;
 
-// A product, not carried: high * 2^60 + middle * 2^30 + low, in places small enough that three products can be added.
-#[derive(Drop)]
+// A product, not carried: in places small enough that three products can be added.
+#[derive(Clone, Copy)]
 pub struct Uncarried {
     pub high: u64,
     pub middle: u64,
     pub low: u64,
-}
-
-impl Model for Uncarried {
-    ghost use Rattle.std.specs.Prelude.{ℕ, ◌+◌, ◌*◌, ◌^◌, ◌≤◌};
-
-    ghost Value = { ℕ };
-
-    ghost view = { λ p. p.high * 2 ^ 60 + p.middle * 2 ^ 30 + p.low };
-
-    ghost invariant = { λ p. (p.high ≤ 2 ^ 54) × (p.middle ≤ 2 ^ 58) × (p.low ≤ 2 ^ 60) };
+    ghost addable: { (high ≤ 2 ^ 54) × (middle ≤ 2 ^ 58) × (low ≤ 2 ^ 60) },
 }
 
 // A sum of products: high * 2^60 + middle * 2^30 + low, where each place but the highest is one digit to the base 2^30. So the order of the
@@ -49,7 +41,7 @@ impl Model for Wide {
 
 pub fn product(a: u64, b: u64) -> Uncarried
     requires { (a ≤ 2 ^ 57) × (b ≤ 2 ^ 57) }
-    ensures { result ≡ a * b }
+    ensures { value result.high result.middle result.low ≡ a * b }
 {
     let a1 = a / BASE;
     let a0 = a % BASE;
@@ -68,7 +60,7 @@ pub fn product(a: u64, b: u64) -> Uncarried
 
 // The sum, carried.
 pub fn sum(p: Uncarried, q: Uncarried, r: Uncarried) -> Wide
-    ensures { result ≡ p + q + r }
+    ensures { result ≡ value p.high p.middle p.low + value q.high q.middle q.low + value r.high r.middle r.low }
 {
     let low = p.low + q.low + r.low;
     let middle = p.middle + q.middle + r.middle + low / BASE;

@@ -31,7 +31,7 @@ const VALUES: [u8; 256] = *b"\
     \x10\x10\x10\x10\x10\x10\x10\x10\x10\x10\x10\x10\x10\x10\x10\x10";
 
 // The table, to be lent to whoever reads many characters: a constant is written out anew wherever it is used.
-#[derive(Drop)]
+#[derive(Clone, Copy)]
 pub struct DigitValues {
     pub values: [u8; 256],
     ghost known: { Internal.DigitValues values },

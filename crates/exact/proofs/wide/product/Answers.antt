@@ -8,15 +8,17 @@ returns c = halves c.args.a c.args.b
 
 pub invariant_of-result : goal.invariant_of-result
 invariant_of-result c = let a = c.args.a in
-    let b = c.args.b in (
-      omega (
-        arith,
-        bounded (a / 2 ^ 30) (b / 2 ^ 30) (2 ^ 27) (2 ^ 27) (omega (arith, c.requires.0)) (omega (arith, c.requires.1)),
-      ),
-      omega (
-        arith,
-        bounded (a / 2 ^ 30) (b % 2 ^ 30) (2 ^ 27) (2 ^ 30) (omega (arith, c.requires.0)) (omega arith),
-        bounded (a % 2 ^ 30) (b / 2 ^ 30) (2 ^ 30) (2 ^ 27) (omega arith) (omega (arith, c.requires.1)),
-      ),
-      omega (arith, bounded (a % 2 ^ 30) (b % 2 ^ 30) (2 ^ 30) (2 ^ 30) (omega arith) (omega arith)),
-    )
+    let b = c.args.b in record {
+      addable = (
+        omega (
+          arith,
+          bounded (a / 2 ^ 30) (b / 2 ^ 30) (2 ^ 27) (2 ^ 27) (omega (arith, c.requires.0)) (omega (arith, c.requires.1)),
+        ),
+        omega (
+          arith,
+          bounded (a / 2 ^ 30) (b % 2 ^ 30) (2 ^ 27) (2 ^ 30) (omega (arith, c.requires.0)) (omega arith),
+          bounded (a % 2 ^ 30) (b / 2 ^ 30) (2 ^ 30) (2 ^ 27) (omega arith) (omega (arith, c.requires.1)),
+        ),
+        omega (arith, bounded (a % 2 ^ 30) (b % 2 ^ 30) (2 ^ 30) (2 ^ 30) (omega arith) (omega arith)),
+      );
+    }
