@@ -1,7 +1,8 @@
 // Vectors as they stand in an input: little-endian numbers, taken from the front. What is not there, or has no room, is said to be
 // missing. No contract speaks of what is read, so the functions that read promise nothing; those on bytes that were read do.
 ghost use Rattle.std.specs.Prelude.{◌≡◌, ◌+◌, ◌*◌, ◌≤◌, length, take, drop};
-ghost use Rattle.binary64.specs.Bytes.{Little, number_of};
+ghost use Rattle.binary64.specs.Bytes.{Little, number_of, double};
+ghost use Rattle.tile.specs.Bounds.{new_of};
 
 use super::lent::Lent;
 use binary64::bytes::{read_f64, read_number};
@@ -48,6 +49,10 @@ pub fn origin_at(bytes: &[u8], at: usize) -> u16
 // West, south, east and north.
 pub fn bounds_at(bytes: &[u8], at: usize) -> TileBounds
     requires { at + 32 ≤ length bytes.now }
+    ensures { result ≡ new_of (double Little (take 8 (drop at bytes.now)))
+        (double Little (take 8 (drop (at + 8) bytes.now)))
+        (double Little (take 8 (drop (at + 16) bytes.now)))
+        (double Little (take 8 (drop (at + 24) bytes.now))) }
 {
     let west = read_f64(bytes, at);
     let south = read_f64(bytes, at + 8);
