@@ -1,5 +1,5 @@
 // The slice call: one polygon as lent slices. It is open to callers and refuses what it can't cut.
-ghost use Rattle.std.specs.Prelude.{◌≡◌, ◌*◌, ◌^◌, ◌<◌, ◌≤◌, length, is_ok, MatchResult};
+ghost use Rattle.std.specs.Prelude.{◌≡◌, ◌*◌, ◌^◌, ◌<◌, ◌≤◌, length, replicate, is_ok, MatchResult};
 ghost use Rattle.binary64.specs.Slices.{padded};
 ghost use Rattle.sutherland_hodgman.specs.Growth.{most_coordinates};
 ghost use Rattle.rings.specs.LentRings.{total};
@@ -159,6 +159,13 @@ fn clip_padded(
     clipped.answer
 }
 
+// Fills the whole slice with 0.
+fn clear_order(order: &mut [u32])
+    ensures { order.new ≡ replicate (length order.old) 0 }
+{
+    order.fill(0);
+}
+
 // What becomes of one polygon, whose rings it closes. A refusal changes nothing lent. Any other answer fills the scratch and order slices
 // with zeros, whole, and the output up to what 22 asks: past a cut's rings, and where there is no cut from its front. It leaves the output
 // beyond that, and the second length slice past a cut's lengths, unchanged. The output of the origins is filled as the output is. The logic
@@ -209,7 +216,7 @@ pub fn polygon(
     );
     scratch.fill(0.0);
     origin_scratch.fill(0);
-    order.fill(0);
+    clear_order(order);
     let guards = guard_count(answer);
     Ok(Answered { answer, guards })
 }

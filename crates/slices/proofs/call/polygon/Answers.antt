@@ -88,7 +88,7 @@ returns-clause-lent c = let a = c.args in
     (written _ to room p.passes rings (routed_origins to bounds rings) _ p.asked _ _ _ _ _ _
     (cleared plus_zero _ _ _ (c.fill.ensures.after (λ y h. h)) clipped.auto.scratch)
     (cleared 0 _ _ _ (c.fill-2.ensures.after (λ y h. h)) clipped.auto.origin_scratch)
-    (cleared 0 _ _ _ (c.fill-3.ensures.after (λ y h. h)) clipped.auto.order)
+    (cleared 0 _ _ _ c.clear_order.ensures clipped.auto.order)
     (padded-front plus_zero (numbers_of (written_rings to)) _ a.out.now (2 * room) p.within filled.output)
     filled.lengths
     (padded-front 0 (origins_of (routed_origins to bounds rings)) _ a.out_origins.now room p.origins-within origins))
